@@ -1,0 +1,68 @@
+-- The laws of sums: a proof about sums cites these and does not open `sumOver`. Assumes nothing.
+use Prim.Native.Nat.{ℕ, zero, suc, _+_, _*_, _≤_, _<_}
+use mathlib.Core.Path.{_≡_, refl, ap, _∙_}
+use mathlib.Core.Bool.{Bool, true, false, cond}
+use native.Mathlib.Nat.{add-zero}
+use native.Mathlib.Numerals.{add-one}
+use native.Mathlib.Omega.{arith}
+use lib.Dec.{T}
+use Rattle.model.specs.Sum.{sumOver}
+
+-- ---- one more summand: what a loop that goes up proves at each turn
+
+pub sum-zero : (p : ℕ → Bool) (x : ℕ → ℕ) → sumOver 0 p x ≡ 0
+unfolding sumOver
+sum-zero p x = refl
+
+pub sum-take : (n : ℕ) (p : ℕ → Bool) (x : ℕ → ℕ) → p n ≡ true → sumOver (n + 1) p x ≡ sumOver n p x + x n
+unfolding sumOver
+sum-take n p x e = rw add-one (ap (λ (b : Bool). sumOver n p x + cond b (x n) 0) e)
+
+pub sum-skip : (n : ℕ) (p : ℕ → Bool) (x : ℕ → ℕ) → p n ≡ false → sumOver (n + 1) p x ≡ sumOver n p x
+unfolding sumOver
+sum-skip n p x e = rw add-one (ap (λ (b : Bool). sumOver n p x + cond b (x n) 0) e ∙ add-zero (sumOver n p x))
+
+-- ---- order, sums and multiples
+
+cond-mono : (b : Bool) {u v : ℕ} → (T b → u ≤ v) → cond b u 0 ≤ cond b v 0
+cond-mono true h = h tt
+cond-mono false h = omega arith
+
+cond-bound : (b : Bool) {u v : ℕ} → u ≤ v → cond b u 0 ≤ v
+cond-bound true h = h
+cond-bound false h = omega arith
+
+-- monotone: it is enough to compare the summands that the test picks
+pub sum-mono : (n : ℕ) (p : ℕ → Bool) {x y : ℕ → ℕ} → ((t : ℕ) → t < n → T (p t) → x t ≤ y t) → sumOver n p x ≤ sumOver n p y
+unfolding sumOver
+sum-mono zero p h = omega arith
+sum-mono (suc n) p {x} {y} h =
+    omega (arith, sum-mono n p {x = x} {y = y} (λ t k. h t (omega arith)), cond-mono (p n) (h n (omega arith)))
+
+pub sum-cong : (n : ℕ) (p : ℕ → Bool) {x y : ℕ → ℕ} → ((t : ℕ) → t < n → T (p t) → x t ≡ y t) → sumOver n p x ≡ sumOver n p y
+sum-cong n p {x} {y} h =
+    omega (arith, sum-mono n p {x = x} {y = y} (λ t k q. omega (arith, h t k q)), sum-mono n p {x = y} {y = x} (λ t k q. omega (arith, h t k q)))
+
+cond-add : (b : Bool) (u v : ℕ) → cond b (u + v) 0 ≡ cond b u 0 + cond b v 0
+cond-add true u v = refl
+cond-add false u v = refl
+
+pub sum-add : (n : ℕ) (p : ℕ → Bool) (x y : ℕ → ℕ) → sumOver n p (λ t. x t + y t) ≡ sumOver n p x + sumOver n p y
+unfolding sumOver
+sum-add zero p x y = refl
+sum-add (suc n) p x y = omega (arith, sum-add n p x y, cond-add (p n) (x n) (y n))
+
+cond-mul : (b : Bool) (k u : ℕ) → cond b (k * u) 0 ≡ k * cond b u 0
+cond-mul true k u = refl
+cond-mul false k u = omega arith
+
+pub sum-mul : (n : ℕ) (p : ℕ → Bool) (k : ℕ) (x : ℕ → ℕ) → sumOver n p (λ t. k * x t) ≡ k * sumOver n p x
+unfolding sumOver
+sum-mul zero p k x = omega arith
+sum-mul (suc n) p k x = omega (arith, sum-mul n p k x, cond-mul (p n) k (x n))
+
+-- at most the bound of a summand, as often as there are summands: what shows that a sum fits
+pub sum-bound : (n : ℕ) (p : ℕ → Bool) (x : ℕ → ℕ) (B : ℕ) → ((t : ℕ) → t < n → x t ≤ B) → sumOver n p x ≤ n * B
+unfolding sumOver
+sum-bound zero p x B h = omega arith
+sum-bound (suc n) p x B h = omega (arith, sum-bound n p x B (λ t k. h t (omega arith)), cond-bound (p n) (h n (omega arith)))

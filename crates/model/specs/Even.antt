@@ -1,0 +1,53 @@
+-- Even plans, the fewest even steps, and the step bound.
+use Prim.Native.Nat.{ℕ, zero, suc, _+_, _-_, _*_, _/_, max}
+use mathlib.Core.Bool.{Bool, cond, not, _&&_}
+use mathlib.Core.Option.{Option}
+use lib.Dec.{leb, eqb}
+use Rattle.model.specs.Limits.{mostSteps}
+use Rattle.model.specs.Search.{onlyIf, isNone, first}
+use Rattle.model.specs.Net.{Net, Plan}
+use Rattle.model.specs.Scan.{Bound, protected, total, Overload}
+use Rattle.model.specs.Rule.{onLink, load, firstOverload, accepted}
+
+-- "q × old + a × (new - old)": for a up to q nothing is cut off
+unfoldable pub evenRow : Net → ℕ → ℕ → ℕ → ℕ
+evenRow N q a t = q * N .old t + a * N .new t - a * N .old t
+
+-- "The even plan of q steps has parts = q"
+unfoldable pub even : Net → ℕ → Plan
+even N q = record { parts = q; steps = q; at = evenRow N q }
+
+-- the fewest even steps: the least q from 1 to 50 whose even plan is accepted
+unfoldable pub tryEven : Net → ℕ → Option ℕ
+tryEven N q = onlyIf (accepted N (even N q)) q
+
+unfoldable pub fewest : Net → Option ℕ
+fewest N = first mostSteps (λ i. tryEven N (suc i))
+
+-- what refusal 9 names: "where the 50-step plan first overloads"
+unfoldable pub stuckAt : Net → Option Overload
+stuckAt N = firstOverload N (even N mostSteps)
+
+-- ---- the step bound
+
+unfoldable pub ceilDiv : ℕ → ℕ → ℕ
+ceilDiv a b = (a + (b - 1)) / b
+
+-- "ceil(1000/scratch) - 1, or the larger of that and ceil(1000/overrun) if overrun is not 0"
+unfoldable pub stepBound : ℕ → ℕ → ℕ
+stepBound scratch zero = ceilDiv 1000 scratch - 1
+stepBound scratch (suc o) = max (ceilDiv 1000 scratch - 1) (ceilDiv 1000 (suc o))
+
+-- "1000 × protected load is at most (1000 - scratch) × cap, and the load of all classes meets the same bound if overrun is 0, else is at most cap"
+unfoldable pub leavesScratch : Net → (ℕ → ℕ) → Bound → ℕ → Bool
+leavesScratch N x protected l = leb (1000 * load N protected (onLink N l x)) ((1000 - N .scratch) * N .cap l)
+leavesScratch N x total l =
+    cond (eqb (N .overrun) 0) (leb (1000 * load N total (onLink N l x)) ((1000 - N .scratch) * N .cap l)) (leb (load N total (onLink N l x)) (N .cap l))
+
+-- "A network keeps its scratch when on each link, for old and for new": no link does otherwise
+unfoldable pub takesScratch : Net → ℕ → Bool
+takesScratch N l =
+    not ((leavesScratch N (N .old) protected l && leavesScratch N (N .old) total l) && (leavesScratch N (N .new) protected l && leavesScratch N (N .new) total l))
+
+unfoldable pub keepsScratch : Net → Bool
+keepsScratch N = isNone (first (N .links) (λ l. onlyIf (takesScratch N l) l))

@@ -1,0 +1,9 @@
+pub mod Limits
+pub mod Sum
+pub mod Search
+pub mod Outcome
+pub mod Net
+pub mod Scan
+pub mod Rule
+pub mod Even
+pub mod Claim

@@ -1,0 +1,24 @@
+-- "Limits: 64 links, 32 flows, 96 tunnels and 50 steps; amounts up to 10,000,000 (Mbit/s). Fractions are whole thousandths."
+use Prim.Native.Nat.{ℕ}
+
+abbrev pub mostLinks : ℕ
+mostLinks = 64
+
+abbrev pub mostFlows : ℕ
+mostFlows = 32
+
+abbrev pub mostTunnels : ℕ
+mostTunnels = 96
+
+abbrev pub mostSteps : ℕ
+mostSteps = 50
+
+abbrev pub mostAmount : ℕ
+mostAmount = 10000000
+
+-- "`scratch` 20..500; `overrun` 0 or 20..500"
+abbrev pub leastShare : ℕ
+leastShare = 20
+
+abbrev pub mostShare : ℕ
+mostShare = 500

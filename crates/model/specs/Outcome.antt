@@ -1,0 +1,23 @@
+-- What an operation comes to: what it gives, or a refusal. "Every answer is one of: done, a plan, or a refusal that carries its number, place and second."
+use Prim.Native.Nat.{ℕ}
+
+-- the causes of "Turned down, and why", in the order of their numbers
+pub data Cause : Type 0 where
+  malformed outOfRange missing missedRate otherTunnels missedRow overProtected overTotal noEvenPlan noRoom : Cause
+
+abbrev pub number : Cause → ℕ
+number malformed = 1
+number outOfRange = 2
+number missing = 3
+number missedRate = 4
+number otherTunnels = 5
+number missedRow = 6
+number overProtected = 7
+number overTotal = 8
+number noEvenPlan = 9
+number noRoom = 10
+
+-- a refusal has its cause, place and second
+pub data Outcome (A : Type 0) : Type 0 where
+  good : A → Outcome A
+  refused : Cause → ℕ → ℕ → Outcome A

@@ -1,0 +1,102 @@
+-- The rule for a step. The step from row i to row i + 1, which the paper numbers i + 1, is named here by i.
+use Prim.Native.Nat.{ℕ, suc, _+_, _*_, _/_, _%_, _^_, max}
+use mathlib.Core.Bool.{Bool, true, cond, not, _&&_}
+use mathlib.Core.Option.{Option}
+use lib.Dec.{leb, ltb, eqb}
+use Rattle.model.specs.Sum.{sumOver}
+use Rattle.model.specs.Search.{onlyIf, isNone, orElse, first}
+use Rattle.model.specs.Net.{Net, Plan, row}
+use Rattle.model.specs.Scan.{Bound, protected, total, Overload, scan}
+
+-- "bit l, of value 2^l, is set when the tunnel crosses link l"
+unfoldable pub crosses : Net → ℕ → ℕ → Bool
+crosses N l t = eqb (N .via t / 2 ^ l % 2) 1
+
+-- what tunnel t puts on link l, where the tunnels have the amounts x
+unfoldable pub onLink : Net → ℕ → (ℕ → ℕ) → ℕ → ℕ
+onLink N l x t = cond (crosses N l t) (x t) 0
+
+-- the tunnels that a bound counts: "classes 0 and 1 (protected)", or "all classes"
+unfoldable pub counts : Net → Bound → ℕ → Bool
+counts N protected t = leb (N .class (N .flow t)) 1
+counts N total t = true
+
+-- the load of a link on which each tunnel puts what y says
+unfoldable pub load : Net → Bound → (ℕ → ℕ) → ℕ
+load N b y = sumOver (N .tunnels) (counts N b) y
+
+-- protected amounts "add up to at most parts × cap"; "1000 times the worst amounts of all classes is at most (1000 + overrun) × parts × cap"
+unfoldable pub exceeds : Net → Bound → ℕ → ℕ → ℕ → Bool
+exceeds N protected parts l w = ltb (parts * N .cap l) w
+exceeds N total parts l w = ltb ((1000 + N .overrun) * (parts * N .cap l)) (1000 * w)
+
+-- ---- sums of a flow
+
+unfoldable pub flowSum : Net → (ℕ → ℕ) → ℕ → ℕ
+flowSum N x f = sumOver (N .tunnels) (λ t. eqb (N .flow t) f) x
+
+-- a refusal's place and second
+pub record Place : Type 0 where
+  pub place : ℕ
+  pub second : ℕ
+
+-- "A flow's `old` amounts add up to its rate, and so do its `new` amounts": the first that do not ("lowest flow, old before new")
+unfoldable pub missedRate : Net → Option Place
+missedRate N = first (N .flows) (λ f. orElse
+    (onlyIf (not (eqb (flowSum N (N .old) f) (N .rate f))) (record { place = f; second = 0 }))
+    (onlyIf (not (eqb (flowSum N (N .new) f) (N .rate f))) (record { place = f; second = 1 })))
+
+-- "In every row a flow's amounts add up to parts × rate": the first that do not ("lowest row, then flow")
+unfoldable pub missedRow : Net → Plan → Option Place
+missedRow N P = first (suc (P .steps)) (λ a. first (N .flows) (λ f.
+    onlyIf (not (eqb (flowSum N (row N P a) f) (P .parts * N .rate f))) (record { place = a; second = f })))
+
+-- ---- what the tunnels show in a step
+
+-- the steps that are looked at: all that the plan has
+unfoldable pub stepCount : Net → Plan → ℕ
+stepCount N P = P .steps
+
+-- "A tunnel's worst amount in the step is the larger of its two", here as far as it is on link l
+unfoldable pub worst : Net → Plan → ℕ → ℕ → ℕ → ℕ
+worst N P i l t = max (onLink N l (row N P i) t) (onLink N l (row N P (suc i)) t)
+
+-- "A choice in step a has each tunnel show its amount in row a-1 or its amount in row a, each tunnel for itself."
+pub data Shows : Type 0 where
+  earlier later : Shows
+
+abbrev pub Choice : Net → Plan → ℕ → Type 0
+Choice N P i = ℕ → Shows
+
+unfoldable pub rowShown : ℕ → Shows → ℕ
+rowShown i earlier = i
+rowShown i later = suc i
+
+-- the amounts that a choice shows on link l
+unfoldable pub shown : (N : Net) (P : Plan) (i l : ℕ) → Choice N P i → ℕ → ℕ
+shown N P i l c t = onLink N l (row N P (rowShown i (c t))) t
+
+-- "It overloads a link when the amounts shown, taken in place of the worst amounts, break one of the two bounds."
+unfoldable pub overloads : (N : Net) (P : Plan) (i l : ℕ) → Choice N P i → Bound → Bool
+overloads N P i l c b = exceeds N b (P .parts) l (load N b (shown N P i l c))
+
+-- ---- the worst-load rule, its first breach, and the marks
+
+-- the worst amounts break the bound
+unfoldable pub worstOver : Net → Plan → ℕ → ℕ → Bound → Bool
+worstOver N P i l b = exceeds N b (P .parts) l (load N b (worst N P i l))
+
+unfoldable pub firstOverload : Net → Plan → Option Overload
+firstOverload N P = scan (stepCount N P) (N .links) (worstOver N P)
+
+-- "A plan is accepted exactly when its rows add up and every step meets the worst-load rule on every link."
+unfoldable pub accepted : Net → Plan → Bool
+accepted N P = isNone (missedRow N P) && isNone (firstOverload N P)
+
+-- "a tunnel is 1 exactly if it crosses the named link and its amount rises in the named step"
+unfoldable pub mark : Net → Plan → Overload → ℕ → Bool
+mark N P o t = crosses N (o .link) t && ltb (row N P (o .from) t) (row N P (suc (o .from)) t)
+
+-- "the choice in the named step in which the marked tunnels show the later row and all others the earlier"
+unfoldable pub marked : (N : Net) (P : Plan) (o : Overload) → Choice N P (o .from)
+marked N P o t = cond (mark N P o t) later earlier

@@ -1,0 +1,1 @@
+// The rule for a step, as mathematics: definitions in specs/, the proofs of their laws and of the claim in proofs/. There is no code here.
