@@ -1,1 +1,9 @@
 pub mod Sums
+pub mod Searches
+pub mod Scans
+pub mod Choices
+pub mod Rows
+pub mod Evens
+pub mod Bounded
+pub mod Main
+pub mod Cases

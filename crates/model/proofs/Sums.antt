@@ -1,4 +1,4 @@
--- The laws of sums: a proof about sums cites these and does not open `sumOver`. Assumes nothing.
+-- The laws of sums: a proof about sums cites these and does not open `sumOver`.
 use Prim.Native.Nat.{ℕ, zero, suc, _+_, _*_, _≤_, _<_}
 use mathlib.Core.Path.{_≡_, refl, ap, _∙_}
 use mathlib.Core.Bool.{Bool, true, false, cond}

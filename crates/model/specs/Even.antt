@@ -6,7 +6,7 @@ use lib.Dec.{leb, eqb}
 use Rattle.model.specs.Limits.{mostSteps}
 use Rattle.model.specs.Search.{onlyIf, isNone, first}
 use Rattle.model.specs.Net.{Net, Plan}
-use Rattle.model.specs.Scan.{Bound, protected, total, Overload}
+use Rattle.model.specs.Scan.{protected, total, Overload}
 use Rattle.model.specs.Rule.{onLink, load, firstOverload, accepted}
 
 -- "q × old + a × (new - old)": for a up to q nothing is cut off
@@ -39,15 +39,11 @@ stepBound scratch zero = ceilDiv 1000 scratch - 1
 stepBound scratch (suc o) = max (ceilDiv 1000 scratch - 1) (ceilDiv 1000 (suc o))
 
 -- "1000 × protected load is at most (1000 - scratch) × cap, and the load of all classes meets the same bound if overrun is 0, else is at most cap"
-unfoldable pub leavesScratch : Net → (ℕ → ℕ) → Bound → ℕ → Bool
-leavesScratch N x protected l = leb (1000 * load N protected (onLink N l x)) ((1000 - N .scratch) * N .cap l)
-leavesScratch N x total l =
-    cond (eqb (N .overrun) 0) (leb (1000 * load N total (onLink N l x)) ((1000 - N .scratch) * N .cap l)) (leb (load N total (onLink N l x)) (N .cap l))
+unfoldable pub leavesScratch : Net → (ℕ → ℕ) → ℕ → Bool
+leavesScratch N x l =
+    leb (1000 * load N protected (onLink N l x)) ((1000 - N .scratch) * N .cap l)
+    && cond (eqb (N .overrun) 0) (leb (1000 * load N total (onLink N l x)) ((1000 - N .scratch) * N .cap l)) (leb (load N total (onLink N l x)) (N .cap l))
 
--- "A network keeps its scratch when on each link, for old and for new": no link does otherwise
-unfoldable pub takesScratch : Net → ℕ → Bool
-takesScratch N l =
-    not ((leavesScratch N (N .old) protected l && leavesScratch N (N .old) total l) && (leavesScratch N (N .new) protected l && leavesScratch N (N .new) total l))
-
+-- "A network keeps its scratch when on each link, for old and for new": there is no link that does not leave it
 unfoldable pub keepsScratch : Net → Bool
-keepsScratch N = isNone (first (N .links) (λ l. onlyIf (takesScratch N l) l))
+keepsScratch N = isNone (first (N .links) (λ l. onlyIf (not (leavesScratch N (N .old) l && leavesScratch N (N .new) l)) l))

@@ -6,4 +6,5 @@ pub mod Net
 pub mod Scan
 pub mod Rule
 pub mod Even
+pub mod ThreeSums
 pub mod Claim

@@ -41,15 +41,20 @@ pub record Place : Type 0 where
   pub second : ℕ
 
 -- "A flow's `old` amounts add up to its rate, and so do its `new` amounts": the first that do not ("lowest flow, old before new")
+unfoldable pub missedBy : Net → ℕ → Option Place
+missedBy N f =
+    orElse (onlyIf (not (eqb (flowSum N (N .old) f) (N .rate f))) (record { place = f; second = 0 }))
+    (onlyIf (not (eqb (flowSum N (N .new) f) (N .rate f))) (record { place = f; second = 1 }))
+
 unfoldable pub missedRate : Net → Option Place
-missedRate N = first (N .flows) (λ f. orElse
-    (onlyIf (not (eqb (flowSum N (N .old) f) (N .rate f))) (record { place = f; second = 0 }))
-    (onlyIf (not (eqb (flowSum N (N .new) f) (N .rate f))) (record { place = f; second = 1 })))
+missedRate N = first (N .flows) (missedBy N)
 
 -- "In every row a flow's amounts add up to parts × rate": the first that do not ("lowest row, then flow")
+unfoldable pub missedIn : Net → Plan → ℕ → ℕ → Option Place
+missedIn N P a f = onlyIf (not (eqb (flowSum N (row N P a) f) (P .parts * N .rate f))) (record { place = a; second = f })
+
 unfoldable pub missedRow : Net → Plan → Option Place
-missedRow N P = first (suc (P .steps)) (λ a. first (N .flows) (λ f.
-    onlyIf (not (eqb (flowSum N (row N P a) f) (P .parts * N .rate f))) (record { place = a; second = f })))
+missedRow N P = first (suc (P .steps)) (λ a. first (N .flows) (missedIn N P a))
 
 -- ---- what the tunnels show in a step
 

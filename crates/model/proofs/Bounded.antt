@@ -1,0 +1,168 @@
+-- A network that keeps its scratch has an even plan within the step bound.
+use Prim.Native.Nat.{ℕ, zero, suc, _+_, _-_, _*_, _≤_, _<_, max}
+use mathlib.Core.Path.{_≡_, refl, sym, ap}
+use mathlib.Core.Logic.{_≢_, _⊎_, inl, inr, ⊎-elim}
+use mathlib.Core.Bool.{Bool, true, false, cond, _&&_, true≢false}
+use mathlib.Core.Option.{some}
+use native.Mathlib.Omega.{arith}
+use native.Mathlib.Nat.{le-trans, max-le, max-eq-left, max-eq-right, mul-le-mul-left, mul-le-mul-right, lt-div-mul-add, div-mul-le-self}
+use lib.Dec.{leb, eqb}
+use borrow.Author.Tests.{leb-true, eq-eqb, ne-eqb}
+use Rattle.model.specs.Limits.{mostSteps}
+use Rattle.model.specs.Net.{Net}
+use Rattle.model.specs.Scan.{Bound}
+use Rattle.model.specs.Rule.{onLink, load, accepted}
+use Rattle.model.specs.Even.{even, tryEven, fewest, ceilDiv, stepBound, leavesScratch, keepsScratch}
+use Rattle.model.specs.ThreeSums.{oldLoad, newLoad, peakLoad, endLoad}
+use Rattle.model.specs.Claim.{Valid}
+use Rattle.model.proofs.Searches.{only-true, only-some, only-none, first-none, first-least, none-true, not-false, and-true}
+use Rattle.model.proofs.Choices.{load-mono, load-add, factor, room}
+use Rattle.model.proofs.Evens.{either, even-accepted}
+
+-- ---- what is rounded up
+
+ceil-ge : (a b : ℕ) → 0 < b → a ≤ ceilDiv a b * b
+unfolding ceilDiv
+ceil-ge a b h = omega (arith, lt-div-mul-add {a = a + (b - 1)} h)
+
+ceil-lt : (a b : ℕ) → 0 < b → ceilDiv a b * b < a + b
+unfolding ceilDiv
+ceil-lt a b h = omega (arith, div-mul-le-self (a + (b - 1)) b)
+
+-- 1000 in pieces of 20 or more are at most 50 pieces
+ceil-most : (b : ℕ) → 20 ≤ b → ceilDiv 1000 b ≤ mostSteps
+ceil-most b h =
+    let pos : 0 < b = omega arith in
+    let n : ¬ (51 ≤ ceilDiv 1000 b) = λ g. omega (arith, mul-le-mul-right b g, ceil-lt 1000 b pos) in omega arith
+
+-- and in pieces of 500 or less at least 2
+ceil-least : (b : ℕ) → 0 < b → b ≤ 500 → 2 ≤ ceilDiv 1000 b
+ceil-least b pos h = let n : ¬ (ceilDiv 1000 b ≤ 1) = λ g. omega (arith, mul-le-mul-right b g, ceil-ge 1000 b pos) in omega arith
+
+-- ---- what makes q steps enough
+
+record Enough (s o q : ℕ) : Type 0 where
+  pos : 0 < q
+  most : q ≤ mostSteps
+  scratch : 1000 ≤ suc q * s
+  overrun : (o ≡ 0) ⊎ (1000 ≤ q * o)
+
+enough : (s o : ℕ) → (20 ≤ s) × (s ≤ 500) → (o ≡ 0) ⊎ ((20 ≤ o) × (o ≤ 500)) → Enough s o (stepBound s o)
+unfolding stepBound
+enough s zero hs ho =
+    let pos : 0 < s = omega arith in
+    let k : ℕ = ceilDiv 1000 s in
+    let e : suc (k - 1) ≡ k = omega (arith, ceil-least s pos (hs .1)) in
+    record {
+      pos = omega (arith, ceil-least s pos (hs .1));
+      most = omega (arith, ceil-most s (hs .0));
+      scratch = omega (arith, ceil-ge 1000 s pos, ap (λ (n : ℕ). n * s) e);
+      overrun = inl refl;
+    }
+enough s (suc o) hs (inl e) = absurd (omega arith)
+enough s (suc o) hs (inr ho) =
+    let pos : 0 < s = omega arith in
+    let k : ℕ = ceilDiv 1000 s in
+    let j : ℕ = ceilDiv 1000 (suc o) in
+    let e : k ≤ suc (max (k - 1) j) = omega (arith, ceil-least s pos (hs .1)) in
+    let f : j ≤ max (k - 1) j = omega arith in
+    record {
+      pos = omega (arith, ceil-least s pos (hs .1));
+      most = omega (arith, ceil-most s (hs .0), ceil-most (suc o) (ho .0));
+      scratch = omega (arith, ceil-ge 1000 s pos, mul-le-mul-right s e);
+      overrun = inr (omega (arith, ceil-ge 1000 (suc o) (omega arith), mul-le-mul-right (suc o) f));
+    }
+
+-- ---- what keeping scratch says of the larger of the old and the new load
+
+larger-within : (k o n B : ℕ) → k * o ≤ B → k * n ≤ B → k * max o n ≤ B
+larger-within k o n B ho hn = ⊎-elim (λ (g : n ≤ o). rw (max-eq-left g) ho) (λ (g : o ≤ n). rw (max-eq-right g) hn) (either n o)
+
+three-parts : (p b c d : Bool) → (p && cond b c d) ≡ true → (p ≡ true) × (b ≡ true → c ≡ true) × (b ≡ false → d ≡ true)
+three-parts true true c d e = (refl, λ _. e, λ f. absurd (true≢false f))
+three-parts true false c d e = (refl, λ f. absurd (true≢false (sym f)), λ _. e)
+three-parts false b c d e = absurd (true≢false (sym e))
+
+-- the three bounds of a link, for amounts that leave its scratch free
+left : (N : Net) (x : ℕ → ℕ) (l : ℕ) → leavesScratch N x l ≡ true
+    → (1000 * load N Bound.protected (onLink N l x) ≤ (1000 - N .scratch) * N .cap l)
+    × (N .overrun ≡ 0 → 1000 * load N Bound.total (onLink N l x) ≤ (1000 - N .scratch) * N .cap l)
+    × (N .overrun ≢ 0 → load N Bound.total (onLink N l x) ≤ N .cap l)
+unfolding leavesScratch
+left N x l e =
+    let p : ℕ = load N Bound.protected (onLink N l x) in
+    let a : ℕ = load N Bound.total (onLink N l x) in
+    let B : ℕ = (1000 - N .scratch) * N .cap l in
+    let s = three-parts (leb (1000 * p) B) (eqb (N .overrun) 0) (leb (1000 * a) B) (leb a (N .cap l)) e in
+    (leb-true (1000 * p) B (s .0), λ z. leb-true (1000 * a) B (s .1 (eq-eqb _ _ z)), λ z. leb-true a (N .cap l) (s .2 (ne-eqb _ _ z)))
+
+module _ (N : Net) (k : keepsScratch N ≡ true) (l : ℕ) (hl : l < N .links) where
+  leaves : (leavesScratch N (N .old) l ≡ true) × (leavesScratch N (N .new) l ≡ true)
+  unfolding keepsScratch
+  leaves = and-true _ _ (not-false _ (only-none _ _ (first-none _ (N .links) (none-true _ k) l hl)))
+
+  leaves-protected : 1000 * max (oldLoad N Bound.protected l) (newLoad N Bound.protected l) ≤ (1000 - N .scratch) * N .cap l
+  unfolding oldLoad newLoad
+  leaves-protected = larger-within 1000 _ _ _ (left N (N .old) l (leaves .0) .0) (left N (N .new) l (leaves .1) .0)
+
+  leaves-total : N .overrun ≡ 0 → 1000 * max (oldLoad N Bound.total l) (newLoad N Bound.total l) ≤ (1000 - N .scratch) * N .cap l
+  unfolding oldLoad newLoad
+  leaves-total z = larger-within 1000 _ _ _ (left N (N .old) l (leaves .0) .1 z) (left N (N .new) l (leaves .1) .1 z)
+
+  leaves-fits : N .overrun ≢ 0 → max (oldLoad N Bound.total l) (newLoad N Bound.total l) ≤ N .cap l
+  unfolding oldLoad newLoad
+  leaves-fits z = max-le (left N (N .old) l (leaves .0) .2 z) (left N (N .new) l (leaves .1) .2 z)
+
+-- ---- the load at the ends is at most q + 1 times the larger of the old and the new load
+
+end-least : (N : Net) (b : Bound) (q l : ℕ) → 0 < q → endLoad N b q l ≤ suc q * max (oldLoad N b l) (newLoad N b l)
+unfolding endLoad oldLoad newLoad peakLoad
+end-least N b q l h =
+    let o : ℕ → ℕ = onLink N l (N .old) in
+    let n : ℕ → ℕ = onLink N l (N .new) in
+    let p : load N b (λ t. max (o t) (n t)) ≤ load N b (λ t. o t + n t) = load-mono N b (λ t. omega arith) in
+    let two : load N b o + load N b n ≤ 2 * max (load N b o) (load N b n) = omega arith in
+    let e : (q - 1) + 2 ≡ suc q = omega arith in
+    omega (arith, p, load-add N b o n, two, ap (λ (k : ℕ). k * max (load N b o) (load N b n)) e)
+
+within : (k B q X w : ℕ) → w ≤ suc q * X → k * X ≤ B → k * w ≤ suc q * B
+within k B q X w hw hx = omega (arith, mul-le-mul-left k hw, mul-le-mul-left (suc q) hx)
+
+room-scratch : (s q C : ℕ) → s ≤ 1000 → 1000 ≤ suc q * s → suc q * ((1000 - s) * C) ≤ 1000 * (q * C)
+room-scratch s q C hs h =
+    let e : (1000 - s) + s ≡ 1000 = omega arith in
+    let f : suc q * (1000 - s) ≤ 1000 * q = omega (arith, ap (λ (k : ℕ). suc q * k) e) in
+    omega (arith, mul-le-mul-right C f)
+
+room-overrun : (o q C : ℕ) → 1000 ≤ q * o → 1000 * (suc q * C) ≤ (1000 + o) * (q * C)
+room-overrun o q C h = omega (arith, mul-le-mul-right C h)
+
+module _ (N : Net) (q : ℕ) (k : keepsScratch N ≡ true) (hs : N .scratch ≤ 1000) (en : Enough (N .scratch) (N .overrun) q) (l : ℕ) (hl : l < N .links) where
+  scratch-room : (b : Bound) → 1000 * max (oldLoad N b l) (newLoad N b l) ≤ (1000 - N .scratch) * N .cap l → 1000 * endLoad N b q l ≤ 1000 * (q * N .cap l)
+  scratch-room b h =
+      le-trans (within 1000 _ q _ _ (end-least N b q l (en .pos)) h) (room-scratch (N .scratch) q (N .cap l) hs (en .scratch))
+
+  total-room : (N .overrun ≡ 0) ⊎ (1000 ≤ q * N .overrun) → 1000 * endLoad N Bound.total q l ≤ (1000 + N .overrun) * (q * N .cap l)
+  total-room (inl z) = omega (arith, scratch-room Bound.total (leaves-total N k l hl z), ap (λ (o : ℕ). (1000 + o) * (q * N .cap l)) z)
+  total-room (inr h) =
+      let nz : N .overrun ≢ 0 = λ z. omega (arith, ap (λ (o : ℕ). q * o) z) in
+      omega (arith, within 1 (N .cap l) q _ _ (end-least N Bound.total q l (en .pos)) (omega (arith, leaves-fits N k l hl nz)), room-overrun (N .overrun) q (N .cap l) h)
+
+  ends-kept : (b : Bound) → factor b * endLoad N b q l ≤ q * room N b l
+  unfolding factor room
+  ends-kept Bound.protected = omega (arith, scratch-room Bound.protected (leaves-protected N k l hl))
+  ends-kept Bound.total = omega (arith, total-room (en .overrun))
+
+-- an even plan that is accepted bounds the fewest steps
+fewest-least : (N : Net) (q : ℕ) → 0 < q → q ≤ mostSteps → accepted N (even N q) ≡ true → (p : ℕ) × (fewest N ≡ some p) × (p ≤ q)
+unfolding fewest tryEven
+fewest-least N zero h m e = absurd (omega arith)
+fewest-least N (suc q) h m e =
+    let s = first-least (λ i. tryEven N (suc i)) mostSteps q (suc q) m (only-true (accepted N (even N (suc q))) (suc q) e) in
+    (s .2, s .4, omega (arith, s .1, only-some (accepted N (even N (suc (s .0)))) (suc (s .0)) (s .2) (s .3) .1))
+
+pub bounded : (N : Net) → Valid N → keepsScratch N ≡ true → (q : ℕ) × (fewest N ≡ some q) × (q ≤ stepBound (N .scratch) (N .overrun))
+bounded N v k =
+    let en = enough (N .scratch) (N .overrun) (v .scratch) (v .overrun) in
+    let small : N .scratch ≤ 1000 = omega (arith, v .scratch) in
+    fewest-least N _ (en .pos) (en .most) (even-accepted N (v .sums) _ (en .pos) .1 (ends-kept N _ k small en))

@@ -1,0 +1,131 @@
+-- The rows of a plan: what a plan is judged by, and the rows of even plans.
+use Prim.Native.Nat.{ℕ, suc, _+_, _-_, _*_, _≤_, _<_, max}
+use mathlib.Core.Path.{_≡_, refl, sym, ap, ap₂, _∙_, fun-ext}
+use mathlib.Core.Logic.{_↔_, ⊎-elim}
+use mathlib.Core.Bool.{Bool, true, false, cond, not, _&&_}
+use mathlib.Core.Option.{Option, none, some}
+use native.Mathlib.Omega.{arith}
+use native.Mathlib.Nat.{eq-or-lt-of-le, le-of-suc-le-suc}
+use lib.Dec.{eqb}
+use borrow.Author.Tests.{eqb-true, eq-eqb, ne-eqb}
+use Rattle.model.specs.Sum.{sumOver}
+use Rattle.model.specs.Search.{onlyIf, isNone, orElse, first}
+use Rattle.model.specs.Net.{Net, Plan, row}
+use Rattle.model.specs.Scan.{Bound, Overload, scan}
+use Rattle.model.specs.Rule.{crosses, onLink, counts, load, exceeds, flowSum, Place, missedBy, missedRate, missedIn, missedRow, stepCount, worst, worstOver, firstOverload, accepted}
+use Rattle.model.specs.Even.{evenRow, even}
+use Rattle.model.proofs.Sums.{sum-cong, sum-add, sum-mul}
+use Rattle.model.proofs.Searches.{bool-cases, only-none, only-false, or-none, first-none, none-first, first-cong, none-true, true-none, not-false, and-true}
+use Rattle.model.proofs.Scans.{scan-cong}
+
+-- ---- the three kinds of row
+
+module _ (N : Net) (P : Plan) (a t : ℕ) where
+  pub row-first : a ≡ 0 → row N P a t ≡ P .parts * N .old t
+  unfolding row
+  row-first e = simp (eq-eqb a 0 e)
+
+  pub row-last : a ≡ P .steps → 0 < a → row N P a t ≡ P .parts * N .new t
+  unfolding row
+  row-last e h = simp (ne-eqb a 0 (λ z. omega arith), eq-eqb a (P .steps) e)
+
+  pub row-between : 0 < a → a < P .steps → row N P a t ≡ P .at a t
+  unfolding row
+  row-between h k = simp (ne-eqb a 0 (λ z. omega arith), ne-eqb a (P .steps) (λ z. omega arith))
+
+  -- what holds of each kind holds of every row
+  pub row-cases : {C : Type 0} → a ≤ P .steps → (a ≡ 0 → C) → (a ≡ P .steps → 0 < a → C) → (0 < a → a < P .steps → C) → C
+  row-cases h at-first at-last inside =
+      let low : 0 ≤ a = omega arith in
+      ⊎-elim (λ z. at-first (sym z)) (λ p. ⊎-elim (λ e. at-last e p) (inside p) (eq-or-lt-of-le h)) (eq-or-lt-of-le low)
+
+-- ---- a plan is judged by its parts, its steps, and the rows 1 to steps - 1 at the tunnels that there are
+
+pub record Same (N : Net) (P Q : Plan) : Type 0 where
+  pub parts : P .parts ≡ Q .parts
+  pub steps : P .steps ≡ Q .steps
+  pub at : (a t : ℕ) → 0 < a → a < P .steps → t < N .tunnels → P .at a t ≡ Q .at a t
+
+module _ (N : Net) (P Q : Plan) (s : Same N P Q) where
+  pub row-same : (a t : ℕ) → a ≤ P .steps → t < N .tunnels → row N P a t ≡ row N Q a t
+  row-same a t h k =
+      row-cases N P a t h
+      (λ e. row-first N P a t e ∙ ap (λ (p : ℕ). p * N .old t) (s .parts) ∙ sym (row-first N Q a t e))
+      (λ e p. row-last N P a t e p ∙ ap (λ (p : ℕ). p * N .new t) (s .parts) ∙ sym (row-last N Q a t (e ∙ s .steps) p))
+      (λ p m. row-between N P a t p m ∙ s .at a t p m k ∙ sym (row-between N Q a t p (omega (arith, s .steps))))
+
+  pub row-missed-same : missedRow N P ≡ missedRow N Q
+  unfolding missedRow missedIn flowSum
+  row-missed-same =
+      first-cong _ _ (suc (P .steps)) (λ a ha. first-cong _ _ (N .flows) (λ f hf.
+      ap₂ (λ (x y : ℕ). onlyIf (not (eqb x y)) (record { place = a; second = f }))
+      (sum-cong (N .tunnels) _ (λ t k _. row-same a t (le-of-suc-le-suc ha) k)) (ap (λ (p : ℕ). p * N .rate f) (s .parts))))
+      ∙ ap (λ (n : ℕ). first (suc n) (λ a. first (N .flows) (missedIn N Q a))) (s .steps)
+
+  pub overload-same : firstOverload N P ≡ firstOverload N Q
+  unfolding firstOverload stepCount worstOver load worst onLink
+  overload-same =
+      scan-cong (P .steps) (N .links) (worstOver N P) (worstOver N Q) (λ i l hi hl b.
+      ap₂ (λ (parts w : ℕ). exceeds N b parts l w) (s .parts)
+      (sum-cong (N .tunnels) (counts N b) (λ t k _.
+      ap₂ (λ (u v : ℕ). max (cond (crosses N l t) u 0) (cond (crosses N l t) v 0)) (row-same i t (omega arith) k) (row-same (suc i) t hi k))))
+      ∙ ap (λ (n : ℕ). scan n (N .links) (worstOver N Q)) (s .steps)
+
+-- ---- accepted: rows that add up, and no overload
+
+pub accepted-both : (N : Net) (P : Plan) → (accepted N P ≡ true) ↔ ((missedRow N P ≡ none) × (firstOverload N P ≡ none))
+unfolding accepted
+accepted-both N P = (
+  λ e. let s = and-true (isNone (missedRow N P)) (isNone (firstOverload N P)) e in (none-true _ (s .0), none-true _ (s .1)),
+  λ h. ap₂ _&&_ (true-none _ (h .0)) (true-none _ (h .1)),
+)
+
+-- ---- the rows of an even plan
+
+pub even-row : (N : Net) (q a t : ℕ) → a ≤ q → row N (even N q) a t ≡ evenRow N q a t
+unfolding even evenRow
+even-row N q a t h =
+    row-cases N (even N q) a t h
+    (λ e. row-first N (even N q) a t e ∙ rw e (omega arith))
+    (λ e p. row-last N (even N q) a t e p ∙ rw e (omega arith))
+    (λ p m. row-between N (even N q) a t p m)
+
+-- nothing is cut off: row a is (q - a) × old + a × new
+pub even-at : (q a o n : ℕ) → a ≤ q → q * o + a * n - a * o ≡ (q - a) * o + a * n
+even-at q a o n h = let e : (q - a) + a ≡ q = omega arith in omega (arith, ap (λ (k : ℕ). k * o) e)
+
+-- any sum over a row
+pub even-sum : (N : Net) (n : ℕ) (p : ℕ → Bool) (q a : ℕ) → a ≤ q
+    → sumOver n p (evenRow N q a) ≡ (q - a) * sumOver n p (N .old) + a * sumOver n p (N .new)
+unfolding evenRow
+even-sum N n p q a h =
+    let w : evenRow N q a ≡ (λ t. (q - a) * N .old t + a * N .new t) = fun-ext (λ t. even-at q a (N .old t) (N .new t) h) in
+    ap (sumOver n p) w
+    ∙ sum-add n p (λ t. (q - a) * N .old t) (λ t. a * N .new t)
+    ∙ ap₂ _+_ (sum-mul n p (q - a) (N .old)) (sum-mul n p a (N .new))
+
+-- where old and new amounts add up to the rates, they do so flow by flow
+pub rate-met : (N : Net) → missedRate N ≡ none → (f : ℕ) → f < N .flows
+    → (flowSum N (N .old) f ≡ N .rate f) × (flowSum N (N .new) f ≡ N .rate f)
+unfolding missedRate missedBy
+rate-met N e f h =
+    let s = or-none _ _ (first-none _ (N .flows) e f h) in
+    (eqb-true _ _ (not-false _ (only-none _ _ (s .0))), eqb-true _ _ (not-false _ (only-none _ _ (s .1))))
+
+-- and so does every row of an even plan
+pub even-flow : (N : Net) (q a f : ℕ) → missedRate N ≡ none → a ≤ q → f < N .flows
+    → flowSum N (row N (even N q) a) f ≡ q * N .rate f
+unfolding flowSum
+even-flow N q a f e ha hf =
+    let s = rate-met N e f hf in
+    let k : (q - a) + a ≡ q = omega arith in
+    sum-cong (N .tunnels) _ (λ t _ _. even-row N q a t ha)
+    ∙ even-sum N _ _ q a ha
+    ∙ ap₂ (λ (o n : ℕ). (q - a) * o + a * n) (s .0) (s .1)
+    ∙ omega (arith, ap (λ (m : ℕ). m * N .rate f) k)
+
+pub even-adds-up : (N : Net) (q : ℕ) → missedRate N ≡ none → missedRow N (even N q) ≡ none
+unfolding missedRow missedIn even
+even-adds-up N q e =
+    none-first _ _ (λ a ha. none-first _ (N .flows) (λ f hf.
+    only-false _ _ (ap not (eq-eqb _ _ (even-flow N q a f e (le-of-suc-le-suc ha) hf)))))
