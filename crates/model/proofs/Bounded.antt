@@ -21,7 +21,7 @@ use Rattle.model.proofs.Evens.{either, even-accepted}
 
 -- ---- what is rounded up
 
-ceil-ge : (a b : ℕ) → 0 < b → a ≤ ceilDiv a b * b
+pub ceil-ge : (a b : ℕ) → 0 < b → a ≤ ceilDiv a b * b
 unfolding ceilDiv
 ceil-ge a b h = omega (arith, lt-div-mul-add {a = a + (b - 1)} h)
 
@@ -36,7 +36,7 @@ ceil-most b h =
     let n : ¬ (51 ≤ ceilDiv 1000 b) = λ g. omega (arith, mul-le-mul-right b g, ceil-lt 1000 b pos) in omega arith
 
 -- and in pieces of 500 or less at least 2
-ceil-least : (b : ℕ) → 0 < b → b ≤ 500 → 2 ≤ ceilDiv 1000 b
+pub ceil-least : (b : ℕ) → 0 < b → b ≤ 500 → 2 ≤ ceilDiv 1000 b
 ceil-least b pos h = let n : ¬ (ceilDiv 1000 b ≤ 1) = λ g. omega (arith, mul-le-mul-right b g, ceil-ge 1000 b pos) in omega arith
 
 -- ---- what makes q steps enough
