@@ -1,0 +1,3 @@
+// The check of a plan: its rows, then every step on every link.
+mod columns;
+mod rows;
