@@ -1,13 +1,14 @@
 -- The columns of a good network and of a good plan.
 use Prim.Native.Nat.{ℕ, _+_, _-_, _*_, _^_, _≤_, _<_}
 use mathlib.Core.Path.{_≡_, sym, ap, ap₂, _∙_, subst}
+use mathlib.Core.Logic.{⊎-elim}
 use mathlib.Core.List.{List}
 use native.Mathlib.Omega.{arith}
-use native.Mathlib.Nat.{mul-le-mul, mul-le-mul-right}
+use native.Mathlib.Nat.{le-trans, mul-le-mul, mul-le-mul-right}
 use lib.ListN.{length, getD}
 use Rattle.model.specs.Net.{row}
 use Rattle.lists.specs.Lists.{at, tunnelAt, networkOf, planOf, GoodNetwork}
-use Rattle.model.proofs.Rows.{row-first, row-last, row-between}
+use Rattle.model.proofs.Rows.{row-first, row-last, row-between, row-cases}
 use Rattle.checker.specs.Columns.{Column, Holds, classOf}
 use Rattle.checker.specs.Check.{Checkable}
 
@@ -52,7 +53,7 @@ module _ (l p : List ℕ) (k : Checkable l p) where
     new-row e h t = sym (row-last (networkOf l) (planOf p) a t e h)
 
     -- where row a of the list begins, and where it ends
-    row-ends : 0 < a → a < at p 2 → (n : ℕ) → n ≡ at l 5 → 4 + (a - 1) * n + n ≤ length p
+    pub row-ends : 0 < a → a < at p 2 → (n : ℕ) → n ≡ at l 5 → 4 + (a - 1) * n + n ≤ length p
     row-ends h m n en =
         let up : (a - 1) + 1 ≤ at p 2 - 1 = omega arith in
         omega (arith, mul-le-mul-right n up, k .plan .size, ap (λ (i : ℕ). (at p 2 - 1) * i) (en ∙ sym (k .tunnels)))
@@ -98,3 +99,32 @@ class-at l g i first t e f h =
       held = omega (arith, g .flow t h, g .size);
       class = ap₂ (λ (a b : ℕ). getD l (a + 2 * b) 0) f v;
     }
+
+-- no amount is over 10,000,000 in 50 parts
+pub row-small : (l p : List ℕ) → Checkable l p → (a t : ℕ) → a ≤ at p 2 → t < at l 5 → row (networkOf l) (planOf p) a t ≤ 500000000
+unfolding networkOf planOf
+row-small l p k a t h ht =
+    row-cases (networkOf l) (planOf p) a t h
+    (λ e. rw (row-first (networkOf l) (planOf p) a t e) (in-parts _ _ (k .plan .parts .1) (k .network .old t ht)))
+    (λ e z. rw (row-last (networkOf l) (planOf p) a t e z) (in-parts _ _ (k .plan .parts .1) (k .network .new t ht)))
+    (λ z m.
+    let i : 4 ≤ 4 + (a - 1) * at p 3 + t = omega arith in
+    let j : 4 + (a - 1) * at p 3 + t < length p = omega (arith, row-ends l p k a z m (at p 3) (k .tunnels), k .tunnels) in
+    rw (row-between (networkOf l) (planOf p) a t z m) (le-trans (k .plan .amounts _ i j) (omega (arith, k .plan .parts))))
+  where
+    in-parts : (a b : ℕ) → a ≤ 50 → b ≤ 10000000 → a * b ≤ 500000000
+    in-parts a b h k = let q : a * b ≤ 50 * 10000000 = mul-le-mul h k in omega arith
+
+-- what a link has room for, in parts, and with the overrun, fits
+pub room-small : (l : List ℕ) → GoodNetwork l → (k parts : ℕ) → k < at l 3 → parts ≤ 50 → parts * at l (6 + k) ≤ 500000000
+room-small l g k parts h hp = let q : parts * at l (6 + k) ≤ 50 * 10000000 = mul-le-mul hp (g .cap k h) in omega arith
+
+pub overrun-small : (l : List ℕ) → GoodNetwork l → at l 2 ≤ 500
+unfolding networkOf
+overrun-small l g = ⊎-elim (λ e. omega (arith, e)) (λ h. h .1) (g .valid .overrun)
+
+pub most-small : (l : List ℕ) → GoodNetwork l → (k parts : ℕ) → k < at l 3 → parts ≤ 50 → (1000 + at l 2) * (parts * at l (6 + k)) ≤ 750000000000
+most-small l g k parts h hp =
+    let o : 1000 + at l 2 ≤ 1500 = omega (arith, overrun-small l g) in
+    let q : (1000 + at l 2) * (parts * at l (6 + k)) ≤ 1500 * 500000000 = mul-le-mul o (room-small l g k parts h hp) in
+    omega arith

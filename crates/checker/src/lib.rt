@@ -1,3 +1,4 @@
 // The check of a plan: its rows, then every step on every link.
 mod columns;
 mod rows;
+mod steps;
