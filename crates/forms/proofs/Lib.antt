@@ -6,4 +6,5 @@ pub mod Keys
 pub mod Walks
 pub mod Good
 pub mod Gathering
+pub mod Lines
 pub mod Round

@@ -283,3 +283,13 @@ digits-hex d v e = go (eqb (length d) 16) refl e
         let q : v / 16 ^ 16 ≡ 0 = rw n at (f .left) in
         (rw n at (f .digits), omega arith)
     go false t e = let z : _≡_ {A = ℕ} 0 1 = cc in absurd (omega arith)
+
+-- a value has a digit
+pub some-digits : (b : Bool) (d : List ℕ) (v : ℕ) → cond b (hexOf d) (decimalOf d) ≡ some v → 1 ≤ length d
+unfolding hexOf decimalOf
+some-digits b [] v e = absurd (go b e)
+  where
+    go : (b : Bool) → cond b (hexOf []) (decimalOf []) ≡ some v → ⊥
+    go true e = let z : _≡_ {A = ℕ} 0 1 = cc in omega arith
+    go false e = let z : _≡_ {A = ℕ} 0 1 = cc in omega arith
+some-digits b (x ∷ d) v e = omega arith

@@ -23,21 +23,11 @@ use Rattle.forms.specs.declared.form.Field.{Field}
 use Rattle.forms.specs.declared.form.Field.the-variants.{Line, End}
 use Rattle.forms.proofs.Forms.{sound-none, sound-more, small, small-set}
 use Rattle.forms.proofs.Keys.{no-feeds, key-no-feed}
-use Rattle.forms.proofs.Numbers.{decimal-digits, hex-digits, digits-decimal, digits-hex}
+use Rattle.forms.proofs.Lines.{own-part, part-line}
+use Rattle.forms.proofs.Numbers.{some-digits, decimal-digits, hex-digits, digits-decimal, digits-hex}
 use Rattle.forms.proofs.Walks.{then-good, judged-good}
 
 -- ---- a line that is written, read
-
-own-feed : (d : List ℕ) → beforeFeed (d ++ (10 ∷ [])) ≡ d
-unfolding beforeFeed
-own-feed d =
-    let n : length (d ++ (10 ∷ [])) - 1 ≡ length d = omega (arith, length-append d (10 ∷ [])) in
-    rw (n, getD-append-seam d 10 [] 0, take-append-seam d (10 ∷ []))
-
-own-part : (p d : List ℕ) → valuePart p (p ++ (d ++ (10 ∷ []))) ≡ d
-unfolding valuePart
-own-part [] d = own-feed d
-own-part (k ∷ p) d = rw (eq-eqb k k refl) (own-part p d)
 
 value-of-line : (k : ℕ) (r : Range) (v : ℕ) → (isHex r ≡ false → v < 10000000000) → (isHex r ≡ true → v < 2 ^ 64) → lineValue k r (lineOf (Line k r) v) ≡ some v
 value-of-line k r v s h = go (isHex r) refl
@@ -47,42 +37,6 @@ value-of-line k r v s h = go (isHex r) refl
     go false e = rw (own-part (prefixOf k) (valueDigits r v), e) (decimal-digits v (s e))
 
 -- ---- a line that is read, written
-
-empty : (d : List ℕ) → 1 ≤ length d → [] ≡ d → ⊥
-empty d h e = let n : 0 ≡ length d = ap length e in omega arith
-
-last-feed : (l d : List ℕ) → 1 ≤ length d → beforeFeed l ≡ d → l ≡ d ++ (10 ∷ [])
-unfolding beforeFeed
-last-feed l d h e = go (eqb (getD l (length l - 1) 0) 10) refl e
-  where
-    go : (b : Bool) → eqb (getD l (length l - 1) 0) 10 ≡ b → cond b (take (length l - 1) l) [] ≡ d → l ≡ d ++ (10 ∷ [])
-    go true t e =
-        let n : length (take (length l - 1) l) ≡ length d = ap length e in
-        let k : length l - 1 < length l = omega (arith, length-take (length l - 1) l) in
-        let m : length l ≡ suc (length l - 1) = omega arith in
-        let c : getD l (length l - 1) 0 ≡ 10 = eqb-true (getD l (length l - 1) 0) 10 t in
-        let w : l ≡ take (suc (length l - 1)) l = sym (take-length l) ∙ ap (λ (j : ℕ). take j l) m in
-        w ∙ take-suc l (length l - 1) 0 k ∙ rw (e, c)
-    go false t e = absurd (empty d h e)
-
-part-line : (p l d : List ℕ) → 1 ≤ length d → valuePart p l ≡ d → l ≡ p ++ (d ++ (10 ∷ []))
-unfolding valuePart
-part-line [] l d h e = last-feed l d h e
-part-line (k ∷ p) [] d h e = absurd (empty d h e)
-part-line (k ∷ p) (b ∷ l) d h e = go (eqb b k) refl (part-line p l d h) e
-  where
-    go : (t : Bool) → eqb b k ≡ t → (valuePart p l ≡ d → l ≡ p ++ (d ++ (10 ∷ []))) → cond t (valuePart p l) [] ≡ d → b ∷ l ≡ k ∷ (p ++ (d ++ (10 ∷ [])))
-    go true t f e = rw (eqb-true b k t) (ap (λ (x : List ℕ). k ∷ x) (f e))
-    go false t f e = absurd (empty d h e)
-
-some-digits : (b : Bool) (d : List ℕ) (v : ℕ) → cond b (hexOf d) (decimalOf d) ≡ some v → 1 ≤ length d
-unfolding hexOf decimalOf
-some-digits b [] v e = absurd (go b e)
-  where
-    go : (b : Bool) → cond b (hexOf []) (decimalOf []) ≡ some v → ⊥
-    go true e = let z : _≡_ {A = ℕ} 0 1 = cc in omega arith
-    go false e = let z : _≡_ {A = ℕ} 0 1 = cc in omega arith
-some-digits b (x ∷ d) v e = omega arith
 
 line-of-value : (k : ℕ) (r : Range) (l : List ℕ) (v : ℕ) → lineValue k r l ≡ some v → l ≡ lineOf (Line k r) v
 line-of-value k r l v e =
