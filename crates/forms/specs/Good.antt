@@ -1,13 +1,11 @@
--- What is known of a list that is judged good, over the network or the plan that it is seen as. That this is so is proved in proofs/Good.antt.
-use Prim.Native.Nat.{ℕ, _+_, _*_, _-_, _^_, _≤_, _<_}
+-- What the lines of a network say before its sums are looked at. That a list whose numbers are judged good has these ranges is proved in proofs/Good.antt.
+use Prim.Native.Nat.{ℕ, _+_, _*_, _^_, _≤_, _<_}
 use mathlib.Core.Path.{_≡_}
 use mathlib.Core.Logic.{_⊎_}
 use mathlib.Core.List.{List}
-use mathlib.Core.Option.{none}
 use lib.ListN.{length}
-use Rattle.model.specs.Limits.{mostLinks, mostFlows, mostTunnels, mostSteps, mostAmount, leastShare, mostShare}
-use Rattle.model.specs.Rule.{missedRate}
-use Rattle.lists.specs.Lists.{at, networkOf, planOf}
+use Rattle.model.specs.Limits.{mostLinks, mostFlows, mostTunnels, mostAmount, leastShare, mostShare}
+use Rattle.lists.specs.Lists.{at, networkOf}
 
 -- the ranges of a network's lines, and how many there are
 pub record NetworkRanges (l : List ℕ) : Type 0 where
@@ -25,17 +23,3 @@ pub record NetworkRanges (l : List ℕ) : Type 0 where
   pub via : (t : ℕ) → t < networkOf l .tunnels → (1 ≤ networkOf l .via t) × (networkOf l .via t < 2 ^ networkOf l .links)
   pub old : (t : ℕ) → t < networkOf l .tunnels → networkOf l .old t ≤ mostAmount
   pub new : (t : ℕ) → t < networkOf l .tunnels → networkOf l .new t ≤ mostAmount
-
--- and the sums
-pub record GoodNetwork (l : List ℕ) : Type 0 where
-  pub ranges : NetworkRanges l
-  pub sums : missedRate (networkOf l) ≡ none
-
--- the rows are those from 1 to steps - 1
-pub record GoodPlan (l : List ℕ) : Type 0 where
-  pub edition : at l 0 ≡ 1
-  pub parts : (1 ≤ planOf l .parts) × (planOf l .parts ≤ mostSteps)
-  pub steps : (1 ≤ planOf l .steps) × (planOf l .steps ≤ mostSteps)
-  pub tunnels : at l 3 ≤ mostTunnels
-  pub size : length l ≡ 4 + (planOf l .steps - 1) * at l 3
-  pub amount : (a t : ℕ) → 1 ≤ a → a < planOf l .steps → t < at l 3 → planOf l .at a t ≤ mostAmount * planOf l .parts

@@ -134,9 +134,10 @@ over-requires : tie.Need-over-requires Inv-loop μ-loop Inv-steps μ-steps
 over-requires c κs =
     let k = c .before .before .before .before in
     let line = around k .before .before .before .before .before in
-    let d = start k in
-    ((d .pre .network, omega arith, d .pre .plan .parts .1, omega (arith, line .line .kept), omega (arith, stepped k .step .kept), omega (arith, stepped k .step .kept)),
-    (counted-small _ _ (d .pre) _ _ _ (inside k) (stepped k .step .ensures .0), counted-small _ _ (d .pre) _ _ _ (inside k) (stepped k .step .ensures .1)))
+    let d = start k in (
+      (d .pre .network, omega arith, d .pre .plan .parts .1, omega (arith, line .line .kept), omega (arith, stepped k .step .kept), omega (arith, stepped k .step .kept)),
+      (counted-small _ _ (d .pre) _ _ _ (inside k) (stepped k .step .ensures .0), counted-small _ _ (d .pre) _ _ _ (inside k) (stepped k .step .ensures .1)),
+    )
 
 add-l : tie.Need-add-l Inv-loop μ-loop Inv-steps μ-steps
 add-l c = search needs
@@ -158,9 +159,13 @@ steps-less c = search needs
 steps-again : tie.Need-steps-again Inv-loop μ-loop Inv-steps μ-steps
 steps-again c =
     let k = c .before in
-    let e : k .loop .l ≡ at (start k .args .network .now) 3 = omega arith in
-    (omega arith, k .loop .inv .1, omega (arith, stepped k .step .kept), omega (arith, stepped k .step .kept),
-    step-on (around k .steps .i) _ _ _ (around k .steps .inv .4) (subst (λ (n : ℕ). first n (testLink (worstOver (N k) (P k)) (around k .steps .i)) ≡ none) e (k .loop .inv .2)))
+    let e : k .loop .l ≡ at (start k .args .network .now) 3 = omega arith in (
+      omega arith,
+      k .loop .inv .1,
+      omega (arith, stepped k .step .kept),
+      omega (arith, stepped k .step .kept),
+      step-on (around k .steps .i) _ _ _ (around k .steps .inv .4) (subst (λ (n : ℕ). first n (testLink (worstOver (N k) (P k)) (around k .steps .i)) ≡ none) e (k .loop .inv .2)),
+    )
 
 returns : tie.Need-returns Inv-loop μ-loop Inv-steps μ-steps
 unfolding firstOverload stepCount networkOf planOf
