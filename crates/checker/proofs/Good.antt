@@ -9,7 +9,7 @@ use lib.ListN.{length, getD}
 use Rattle.model.specs.Net.{row}
 use Rattle.lists.specs.Lists.{at, tunnelAt, networkOf, planOf, GoodNetwork}
 use Rattle.model.proofs.Rows.{row-first, row-last, row-between, row-cases}
-use Rattle.checker.specs.Columns.{Column, Holds, classOf}
+use Rattle.checker.specs.Columns.{Column, Holds, Small, classOf}
 use Rattle.checker.specs.Check.{Checkable}
 
 -- the place of line j of tunnel t, from where the tunnels begin
@@ -128,3 +128,6 @@ most-small l g k parts h hp =
     let o : 1000 + at l 2 ≤ 1500 = omega (arith, overrun-small l g) in
     let q : (1000 + at l 2) * (parts * at l (6 + k)) ≤ 1500 * 500000000 = mul-le-mul o (room-small l g k parts h hp) in
     omega arith
+
+pub row-column-small : (l p : List ℕ) → Checkable l p → (a : ℕ) (xs : List ℕ) → a ≤ at p 2 → Holds xs (at l 5) (row (networkOf l) (planOf p) a) → Small xs (at l 5)
+row-column-small l p k a xs h hx = record { each = λ t ht. rw (hx .each t ht) (row-small l p k a t h ht) }

@@ -1,14 +1,18 @@
 -- What the checker comes to.
-use Prim.Native.Nat.{ℕ}
+use Prim.Native.Nat.{ℕ, _*_, _≤_, _<_}
 use mathlib.Core.Path.{_≡_}
+use mathlib.Core.Logic.{_≢_}
+use lib.ListN.{getD}
 use mathlib.Core.Bool.{Bool, cond}
 use mathlib.Core.List.{List}
 use mathlib.Core.Option.{Option, none, some}
 use Rattle.model.specs.Outcome.{number}
 use Rattle.model.specs.Net.{Net}
 use Rattle.model.specs.Scan.{Bound, Overload, cause}
-use Rattle.model.specs.Rule.{exceeds}
+use Rattle.model.specs.Rule.{Place, exceeds}
 use Rattle.lists.specs.Lists.{at, GoodNetwork, GoodPlan}
+use Rattle.checker.specs.declared.sums.Missed.{Missed}
+use Rattle.checker.specs.declared.sums.Missed.the-variants as missed
 use Rattle.checker.specs.declared.steps.Found.{Found}
 use Rattle.checker.specs.declared.steps.Found.the-variants.{Nothing, At}
 
@@ -28,3 +32,13 @@ overBy N parts l protected all = overNumber (exceeds N Bound.protected parts l p
 abbrev pub foundOf : Option Overload → Found
 foundOf none = Nothing
 foundOf (some o) = At (number (cause (o .bound))) (o .from) (o .link)
+
+-- the first flow whose sum is not parts × rate, of the network's flows
+pub record FirstMissed (N : Net) (parts : ℕ) (sums : List ℕ) (r : ℕ) : Type 0 where
+  pub most : r ≤ N .flows
+  pub before : (f : ℕ) → f < r → getD sums f 0 ≡ parts * N .rate f
+  pub here : r < N .flows → getD sums r 0 ≢ parts * N .rate r
+
+abbrev pub missedOf : Option Place → Missed
+missedOf none = missed.Nothing
+missedOf (some p) = missed.At (p .place) (p .second)

@@ -2,3 +2,4 @@
 mod columns;
 mod rows;
 mod steps;
+mod sums;
