@@ -2,3 +2,4 @@ pub mod Laws
 pub mod Good
 pub mod Overloads
 pub mod Totals
+pub mod Marking

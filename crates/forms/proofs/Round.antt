@@ -14,7 +14,8 @@ use Rattle.lists.specs.Answers.{withRoom}
 use Rattle.forms.specs.Keys.{prefixOf}
 use Rattle.forms.specs.Line.{lines, onFirst, valuePart, beforeFeed, decimalOf, hexOf, numberFrom, lineValue}
 use Rattle.forms.specs.Form.{isHex, fieldOf, admitsOf, allows, secondOf, Sound}
-use Rattle.forms.specs.Read.{walk, itself, readLines, judgeNumbers, readText, judgeList, addUp, andThen, onField, onValue}
+use Rattle.model.specs.Outcome.{andThen}
+use Rattle.forms.specs.Read.{walk, itself, readLines, judgeNumbers, readText, judgeList, addUp, onField, onValue}
 use Rattle.forms.specs.Write.{digitChar, digitsIn, widthOf, baseOf, digitCount, valueDigits, lineOf, renderFrom, render, writeText}
 use Rattle.forms.specs.Laws.{Follows, FileForm, RoundTrip}
 use Rattle.forms.specs.declared.form.Form.{Form}

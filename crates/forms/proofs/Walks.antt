@@ -15,7 +15,8 @@ use Rattle.lists.specs.Lists.{networkOf}
 use Rattle.lists.specs.Answers.{done}
 use Rattle.lists.specs.declared.Answer.the-variants.{Done, Plan as Planned, Refused}
 use Rattle.forms.specs.Form.{fieldOf, admitsOf, allows, secondOf, Sound, Whole}
-use Rattle.forms.specs.Read.{walk, itself, onField, onValue, andThen, judgeNumbers, judgeList, addUp, unlessMissed}
+use Rattle.model.specs.Outcome.{andThen}
+use Rattle.forms.specs.Read.{walk, itself, onField, onValue, judgeNumbers, judgeList, addUp, unlessMissed}
 use Rattle.forms.specs.declared.form.Form.{Form}
 use Rattle.forms.specs.declared.form.Form.the-variants.{Network, Plan}
 use Rattle.forms.specs.declared.form.Range.{Range}

@@ -16,7 +16,8 @@ use Rattle.lists.specs.declared.Answer.{Answer}
 use Rattle.lists.specs.declared.Answer.the-variants.{Done, Refused}
 use Rattle.forms.specs.Line.{lines, lineValue}
 use Rattle.forms.specs.Form.{fieldOf, admitsOf, allows, secondOf}
-use Rattle.forms.specs.Read.{walk, onField, onValue, andThen}
+use Rattle.model.specs.Outcome.{andThen}
+use Rattle.forms.specs.Read.{walk, onField, onValue}
 use Rattle.forms.specs.declared.form.Form.{Form}
 use Rattle.forms.specs.declared.form.Range.{Range}
 use Rattle.forms.specs.declared.form.Field.{Field}

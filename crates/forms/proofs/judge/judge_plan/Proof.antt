@@ -2,7 +2,8 @@ use mathlib.Core.Path.{_≡_, refl, sym, ap, _∙_}
 use mathlib.Core.List.{List}
 use Rattle.model.specs.Outcome.{Outcome}
 use Rattle.lists.specs.Answers.{done}
-use Rattle.forms.specs.Read.{addUp, judgeNumbers, andThen}
+use Rattle.model.specs.Outcome.{andThen}
+use Rattle.forms.specs.Read.{addUp, judgeNumbers}
 use Rattle.forms.specs.declared.form.Form.the-variants.{Network, Plan}
 use Rattle.forms.proofs.Walks.{no-sums}
 use borrow.Author.Needs.{needs}

@@ -1,0 +1,25 @@
+use borrow.Author.Needs.{needs}
+use Rattle.checker.proofs.check.check_room.Statement.{statement}
+use Rattle.checker.proofs.check.check_room.Tie as tie
+use Rattle.checker.proofs.check.check_room.Reads as reads
+use Rattle.checker.proofs.check.check_room.Lts as lts
+use Rattle.checker.proofs.check.check_steps.Reads as check-steps-reads
+
+shared-slice-read-n : tie.Need-shared-slice-read-n
+shared-slice-read-n c = search needs
+
+returns : tie.Need-returns
+returns c = ?
+
+check-steps-requires : tie.Need-check-steps-requires
+check-steps-requires c κs = search needs
+
+same-length : tie.Need-same-length
+same-length c = search needs
+
+returns-2 : tie.Need-returns-2
+returns-2 c = ?
+
+pub check-room-spec : {M : Type 1} → statement M
+check-room-spec =
+    tie.close (tie.spec shared-slice-read-n returns check-steps-requires same-length returns-2)
