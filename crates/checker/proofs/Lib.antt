@@ -3,3 +3,4 @@ pub mod Good
 pub mod Overloads
 pub mod Totals
 pub mod Marking
+pub mod Checking
