@@ -4,3 +4,4 @@ pub mod Overloads
 pub mod Totals
 pub mod Marking
 pub mod Checking
+pub mod Main
