@@ -21,6 +21,7 @@ use Rattle.forms.specs.declared.form.Form.{Form}
 use Rattle.forms.specs.declared.form.Range.{Range}
 use Rattle.forms.specs.declared.form.Field.{Field}
 use Rattle.forms.specs.declared.form.Field.the-variants.{Line, End}
+use Rattle.forms.proofs.Answers.{room-good, good-room}
 use Rattle.forms.proofs.Forms.{sound-none, sound-more, small, small-set}
 use Rattle.forms.proofs.Keys.{no-feeds, key-no-feed}
 use Rattle.forms.proofs.Lines.{own-part, part-line}
@@ -260,17 +261,6 @@ file-form form =
     }
 
 -- ---- the round trips, with room
-
-room-good : (room : ℕ) (o : Outcome (List ℕ)) (l : List ℕ) → withRoom room o ≡ good l → o ≡ good l
-room-good room (good g) l e = go (leb (length g) room) e
-  where
-    go : (b : Bool) → cond b (good g) (refused noRoom (length g) 0) ≡ good l → good g ≡ good l
-    go true e = e
-    go false e = let z : _≡_ {A = ℕ} 0 1 = cc in absurd (omega arith)
-room-good room (refused c a b) l e = e
-
-good-room : (room : ℕ) (l : List ℕ) → length l ≤ room → withRoom room (good l) ≡ good l
-good-room room l h = rw (le-leb (length l) room h)
 
 text-again : (form : Form) (text l : List ℕ) (room space : ℕ) → withRoom room (readText form text) ≡ good l → length text ≤ space
     → withRoom space (writeText form l) ≡ good text

@@ -5,7 +5,8 @@ use Rattle.model.specs.Outcome.{Outcome, good}
 use Rattle.lists.specs.Answers.{done}
 use Rattle.forms.specs.Read.{judgeNumbers, judgeNetwork}
 use Rattle.forms.specs.declared.form.Form.the-variants.{Network}
-use Rattle.forms.proofs.Walks.{done-good, done-plan, done-refused, judged-whole}
+use Rattle.forms.proofs.Answers.{done-good, done-plan, done-refused}
+use Rattle.forms.proofs.Walks.{judged-whole}
 use Rattle.forms.proofs.Good.{network-ranges}
 use borrow.Author.Needs.{needs}
 use Rattle.forms.proofs.judge.judge_network.Statement.{statement}

@@ -1,5 +1,5 @@
 use mathlib.Core.Path.{_≡_, sym, _∙_}
-use Rattle.readers.proofs.Reading.{give-none, give-all}
+use Rattle.forms.proofs.Answers.{give-none, give-all}
 use borrow.Author.Needs.{needs}
 use Rattle.readers.proofs.read.give.Statement.{statement}
 use Rattle.readers.proofs.read.give.Tie as tie

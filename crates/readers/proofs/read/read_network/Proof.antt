@@ -6,10 +6,11 @@ use lib.Seq.{length-take-le}
 use Rattle.model.specs.Outcome.{Outcome, good}
 use Rattle.forms.specs.Read.{addUp, readLines}
 use Rattle.forms.specs.declared.form.Form.the-variants.{Network}
-use Rattle.forms.proofs.Walks.{done-good, done-plan, add-up-same, judged-whole}
+use Rattle.forms.proofs.Answers.{done-good, done-plan, refused-all, stopped}
+use Rattle.forms.proofs.Walks.{add-up-same, judged-whole}
 use Rattle.forms.proofs.Good.{network-ranges}
 use Rattle.forms.proofs.Round.{file-form}
-use Rattle.readers.proofs.Reading.{lines-read, refused-all, stopped}
+use Rattle.readers.proofs.Reading.{lines-read}
 use borrow.Author.Needs.{needs}
 use Rattle.readers.proofs.read.read_network.Statement.{statement}
 use Rattle.readers.proofs.read.read_network.Tie as tie

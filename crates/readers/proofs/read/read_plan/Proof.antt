@@ -5,8 +5,8 @@ use lib.Seq.{length-take-le}
 use Rattle.model.specs.Outcome.{Outcome, good}
 use Rattle.forms.specs.Read.{addUp, readLines}
 use Rattle.forms.specs.declared.form.Form.the-variants.{Plan}
-use Rattle.forms.proofs.Walks.{done-plan}
-use Rattle.readers.proofs.Reading.{lines-read, stopped}
+use Rattle.forms.proofs.Answers.{done-plan, stopped}
+use Rattle.readers.proofs.Reading.{lines-read}
 use borrow.Author.Needs.{needs}
 use Rattle.readers.proofs.read.read_plan.Statement.{statement}
 use Rattle.readers.proofs.read.read_plan.Tie as tie
