@@ -138,9 +138,10 @@ fn write_lines(form: Form, keys: &[u8], list: &[u64], out: &mut [u8])
     requires { ⌜ length (render form (now list)) ≤ length (now out) ⌝ }
     ensures { λ _. ⌜ now (out .exit) ≡ render form (now (list .entry)) ++ drop (length (render form (now (list .entry)))) (now (out .entry)) ⌝ }
 {
+    let count = list.len();
     let mut at: usize = 0;
     let mut i: usize = 0;
-    while i < list.len() {
+    while i < count {
         let field = form::field_after(form, &list[..i]);
         let Field::Line(key, range) = field else {
             return;

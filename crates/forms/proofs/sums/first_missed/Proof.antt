@@ -9,7 +9,7 @@ use Rattle.model.specs.Limits.{mostFlows}
 use Rattle.model.specs.Rule.{flowSum, missedBy}
 use Rattle.model.proofs.Searches.{first-zero, first-on}
 use Rattle.lists.specs.Lists.{at, networkOf, flowAt}
-use Rattle.forms.proofs.Good.{Sizes, sizes}
+use Rattle.forms.specs.Good.{NetworkRanges}
 use Rattle.forms.proofs.Gathering.{gathered-all, miss-old, miss-new, miss-none, missed-at, missed-none}
 use borrow.Author.Needs.{needs}
 use Rattle.forms.proofs.sums.first_missed.Statement.{statement}
@@ -23,8 +23,8 @@ Inv-loop list old new links flows f₀ f = (f ≤ at list 4) × (first f (missed
 abbrev μ-loop : tie.MeasureT-loop
 μ-loop list old new links flows f₀ f = at list 4 - f
 
-head : (c : tie.Start Inv-loop μ-loop) → Sizes (c .args .list .now)
-head c = sizes _ (c .pre .0)
+head : (c : tie.Start Inv-loop μ-loop) → NetworkRanges (c .args .list .now)
+head c = c .pre .0
 
 -- in a turn: the sums and the rate of the flow
 module _ (c : tie.In-loop Inv-loop μ-loop) where

@@ -9,7 +9,6 @@ use Rattle.model.specs.Net.{Net}
 use Rattle.lists.specs.Lists.{at, networkOf, tunnelAt}
 use Rattle.forms.specs.Good.{NetworkRanges}
 use Rattle.forms.specs.Sums.{Gathered}
-use Rattle.forms.proofs.Good.{Sizes, sizes}
 use Rattle.forms.proofs.Gathering.{gathered-none, gathered-more, gathered-fits}
 use borrow.Author.Needs.{needs}
 use Rattle.forms.proofs.sums.gather.Statement.{statement}
@@ -29,8 +28,8 @@ Inv-loop list old₀ new₀ links flows tunnels t₀ old new t =
 abbrev μ-loop : tie.MeasureT-loop
 μ-loop list old₀ new₀ links flows tunnels t₀ old new t = at list 5 - t
 
-head : (c : tie.Start Inv-loop μ-loop) → Sizes (c .args .list .now)
-head c = sizes _ (c .pre .0)
+head : (c : tie.Start Inv-loop μ-loop) → NetworkRanges (c .args .list .now)
+head c = c .pre .0
 
 -- in a turn: the sizes, the tunnel's flow, and that the sums fit
 module _ (c : tie.In-loop Inv-loop μ-loop) where
@@ -44,7 +43,6 @@ module _ (c : tie.In-loop Inv-loop μ-loop) where
   t = c .before .loop .t
 
   flow-low : at list (tunnelAt list t) < mostFlows
-  unfolding networkOf
   flow-low = lt-of-lt-of-le (begin .pre .0 .flow t (c .loop-test .taken)) (begin .pre .0 .flows)
 
   old-fits : getD (c .before .loop .old) (at list (tunnelAt list t)) 0 + at list (tunnelAt list t + 2) < 2 ^ 64

@@ -20,7 +20,7 @@ use Rattle.forms.proofs.form.field_after.Reads as field-after-reads
 use Rattle.writers.proofs.write.put_line.Reads as put-line-reads
 
 abbrev Inv-loop : tie.InvT-loop
-Inv-loop form keys list out₀ at₀ i₀ out at i =
+Inv-loop form keys list out₀ count at₀ i₀ out at i =
     record {
       within : i ≤ length list;
       at-within : at ≤ length (render form list);
@@ -29,7 +29,7 @@ Inv-loop form keys list out₀ at₀ i₀ out at i =
     }
 
 abbrev μ-loop : tie.MeasureT-loop
-μ-loop form keys list out₀ at₀ i₀ out at i = length list - i
+μ-loop form keys list out₀ count at₀ i₀ out at i = length list - i
 
 -- at the loop's head the length is as it was
 module _ (c : tie.At-loop Inv-loop μ-loop) where
