@@ -13,18 +13,18 @@ use lib.ListN.{length, getD, take}
 use lib.Seq.{getD-take, length-take-le}
 use borrow.Author.Tests.{le-leb, lt-ltb, le-ltb}
 use Rattle.model.specs.Limits.{mostLinks, mostFlows, mostTunnels, mostSteps, mostAmount, leastShare, mostShare}
-use Rattle.model.specs.Outcome.{Outcome, good, refused}
+use Rattle.model.specs.Outcome.{good}
 use Rattle.model.specs.Rule as rule
 use Rattle.lists.specs.Lists.{at, flowAt, tunnelAt, networkOf, GoodNetwork, GoodPlan}
 use Rattle.forms.specs.Keys.{At}
-use Rattle.forms.specs.Form.{admitsOf, Sound, Whole, allows, fieldOf, networkLines, networkHead, flowLines, flowGroup, tunnelLines, tunnelGroup, planLines, planHead, networkField, networkBody, planField}
+use Rattle.forms.specs.Form.{Sound, Whole, allows, fieldOf, networkLines, networkHead, flowLines, flowGroup, tunnelLines, tunnelGroup, planLines, planHead, networkField, networkBody, planField}
 use Rattle.forms.specs.Read.{addUp, unlessMissed, judgeNetwork, judgePlan}
 use Rattle.forms.specs.Good.{NetworkRanges}
 use Rattle.forms.specs.declared.form.Form.the-variants.{Network, Plan}
 use Rattle.forms.specs.declared.form.Range.the-variants.{Between}
 use Rattle.forms.specs.declared.form.Field.{Field}
 use Rattle.forms.specs.declared.form.Field.the-variants.{Line, End}
-use Rattle.forms.proofs.Forms.{both, between, head-of-network, head-of-plan, network-head-at, network-body-at, plan-head-at, plan-body-at, planBody, rowLines, body-cap, body-flow, body-tunnel, body-end}
+use Rattle.forms.proofs.Forms.{both, between, network-head-at, network-body-at, plan-head-at, plan-body-at, planBody, rowLines, body-cap, body-flow, body-tunnel, body-end}
 use Rattle.forms.proofs.Walks.{judged-good, good-judged}
 
 -- ---- no field of a group is the end

@@ -3,18 +3,18 @@ use mathlib.Core.Path.{_≡_, refl, sym, ap, _∙_}
 use mathlib.Core.Bool.{Bool, true, false, cond, not, _&&_}
 use mathlib.Core.List.{List, [], _∷_, _++_, append-assoc, append-nil}
 use mathlib.Core.Option.{Option, none, some}
-use Prim.Native.Nat.{ℕ, zero, suc, _+_, _*_, _-_, _/_, _%_, _^_, _≤_, _<_}
+use Prim.Native.Nat.{ℕ, zero, suc, _+_, _/_, _%_, _^_, _≤_, _<_}
 use native.Mathlib.Omega.{arith}
-use lib.Dec.{T, ltb, leb, eqb}
-use lib.ListN.{length, getD, take, length-append, length-take}
-use lib.Seq.{take-append-seam, getD-append-seam, take-suc, take-length, append-snoc}
-use borrow.Author.Tests.{eq-eqb, ne-eqb, eqb-true, le-leb}
-use Rattle.model.specs.Outcome.{Outcome, good, refused, Cause, malformed, outOfRange, missing, noRoom}
+use lib.Dec.{T, ltb, eqb}
+use lib.ListN.{length}
+use lib.Seq.{append-snoc}
+use borrow.Author.Tests.{ne-eqb}
+use Rattle.model.specs.Outcome.{Outcome, good, refused, Cause, malformed, outOfRange, missing}
 use Rattle.lists.specs.Answers.{withRoom}
 use Rattle.forms.specs.Keys.{prefixOf}
-use Rattle.forms.specs.Line.{lines, onFirst, valuePart, beforeFeed, decimalOf, hexOf, numberFrom, lineValue}
+use Rattle.forms.specs.Line.{lines, onFirst, valuePart, decimalOf, hexOf, lineValue}
 use Rattle.forms.specs.Form.{isHex, fieldOf, admitsOf, allows, secondOf, Sound}
-use Rattle.forms.specs.Read.{walk, itself, readLines, judgeNumbers, readText, judgeList, addUp, andThen, onField, onValue}
+use Rattle.forms.specs.Read.{walk, itself, readLines, judgeNumbers, readText, judgeList, addUp, onField, onValue}
 use Rattle.forms.specs.Write.{digitChar, digitsIn, widthOf, baseOf, digitCount, valueDigits, lineOf, renderFrom, render, writeText}
 use Rattle.forms.specs.Laws.{Follows, FileForm, RoundTrip}
 use Rattle.forms.specs.declared.form.Form.{Form}

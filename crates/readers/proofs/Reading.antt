@@ -6,24 +6,20 @@ use mathlib.Core.Option.{Option, none, some}
 use Prim.Native.Nat.{ℕ, _+_, _-_, _≤_, _<_}
 use native.Mathlib.Decide.{ℕ-discrete}
 use native.Mathlib.Omega.{arith}
-use lib.Dec.{T, eqb}
 use lib.ListN.{length, take, drop, length-drop, length-take}
 use lib.Seq.{drop-drop, drop-length}
-use borrow.Author.Tests.{eq-eqb, ne-eqb, le-leb, lt-leb}
+use borrow.Author.Tests.{eq-eqb, ne-eqb}
 use Rattle.model.specs.Outcome.{Outcome, good, refused, missing, malformed, outOfRange}
-use Rattle.lists.specs.Answers.{done, withRoom, lent}
-use Rattle.lists.specs.declared.Answer.{Answer}
+use Rattle.lists.specs.Answers.{done}
 use Rattle.lists.specs.declared.Answer.the-variants.{Done, Refused}
 use Rattle.forms.specs.Line.{lines, lineValue}
-use Rattle.forms.specs.Form.{fieldOf, admitsOf, allows, secondOf}
-use Rattle.forms.specs.Read.{walk, onField, onValue, andThen}
+use Rattle.forms.specs.Form.{fieldOf, admitsOf, secondOf}
+use Rattle.forms.specs.Read.{walk, onValue}
 use Rattle.forms.specs.declared.form.Form.{Form}
 use Rattle.forms.specs.declared.form.Range.{Range}
-use Rattle.forms.specs.declared.form.Field.{Field}
 use Rattle.forms.specs.declared.form.Field.the-variants.{Line, End}
 use Rattle.readers.specs.Line.{lineLen, firstLine, valueOf}
 use Rattle.readers.specs.Read.{takenOf, Holds}
-use Rattle.readers.specs.declared.line.Value.{Value}
 use Rattle.readers.specs.declared.line.Value.the-variants.{Is, Malformed}
 use Rattle.readers.specs.declared.read.Taken.{Taken}
 use Rattle.readers.specs.declared.read.Taken.the-variants.{Number, Stop}

@@ -130,7 +130,7 @@ pub fn read_network(text: &[u8], out: &mut [u64]) -> Answer
     ensures { λ r. ⌜ now (out .exit) ≡ lent (withRoom (length (now (out .entry))) (readNetwork (now (text .entry)))) (now (out .entry)) ⌝ }
 {
     let keys = form::KEYS;
-    let mut vals = [0u64; 4708];
+    let mut vals = [0u64; form::NUMBERS];
     let lines = read(Form::Network, &keys, text, &mut vals);
     match lines {
         Answer::Done(n) => {
@@ -160,7 +160,7 @@ pub fn read_plan(text: &[u8], out: &mut [u64]) -> Answer
     ensures { λ r. ⌜ now (out .exit) ≡ lent (withRoom (length (now (out .entry))) (readPlan (now (text .entry)))) (now (out .entry)) ⌝ }
 {
     let keys = form::KEYS;
-    let mut vals = [0u64; 4708];
+    let mut vals = [0u64; form::NUMBERS];
     let lines = read(Form::Plan, &keys, text, &mut vals);
     match lines {
         Answer::Done(n) => give(&vals[..n], out),

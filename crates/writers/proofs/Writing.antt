@@ -2,22 +2,22 @@
 use mathlib.Core.Path.{_≡_, refl, sym, ap, _∙_}
 use mathlib.Core.Bool.{false}
 use mathlib.Core.List.{List, [], _∷_, _++_, append-assoc, append-nil}
-use Prim.Native.Nat.{ℕ, zero, suc, _+_, _*_, _-_, _/_, _%_, _^_, _≤_, _<_}
+use Prim.Native.Nat.{ℕ, zero, suc, _+_, _-_, _/_, _%_, _^_, _≤_, _<_}
 use native.Mathlib.Nat.{add-zero, zero-add, add-assoc, le-of-lt, pow-zero, pow-suc, pow-le-pow-right, div-one, div-div-eq-div-mul, sub-self}
 use native.Mathlib.Numerals.{add-one}
 use native.Mathlib.Decide.{decLt}
 use native.Mathlib.Omega.{arith}
-use lib.Dec.{T, lit≤}
+use lib.Dec.{lit≤}
 use lib.ListN.{take-append-drop, drop-of-length-le, length, getD, take, drop, set, length-append, length-take, length-drop}
 use lib.Seq.{take-add, take-append-le, take-append-seam, drop-append-seam, take-suc, length-take-le, take-take, take-at, drop-at, drop-drop, set-split, take-length, paste, paste-suc}
 use borrow.Author.Tests.{lt-ltb, le-ltb}
 use Rattle.forms.specs.Keys.{prefixOf}
-use Rattle.forms.specs.Form.{isHex, fieldOf, allows, Sound, mostNumbers}
-use Rattle.forms.specs.Write.{digitChar, digitsIn, widthFrom, baseOf, digitCount, valueDigits, lineOf, renderFrom, render}
+use Rattle.forms.specs.Form.{isHex, fieldOf, Sound, mostNumbers}
+use Rattle.forms.specs.Write.{digitChar, digitsIn, widthFrom, baseOf, digitCount, valueDigits, lineOf, renderFrom}
 use Rattle.forms.specs.declared.form.Form.{Form}
 use Rattle.forms.specs.declared.form.Range.{Range}
 use Rattle.forms.specs.declared.form.Field.the-variants.{Line, End}
-use Rattle.model.specs.Outcome.{Outcome, good}
+use Rattle.model.specs.Outcome.{good}
 use Rattle.lists.specs.Answers.{done}
 use Rattle.lists.specs.declared.Answer.the-variants.{Done}
 use Rattle.forms.specs.Read.{judgeList}

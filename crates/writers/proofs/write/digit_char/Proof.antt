@@ -1,31 +1,24 @@
+-- `writers::write::digit_char` meets its contract. Assumes nothing.
 use borrow.Author.Tests.{lt-ltb, le-ltb}
 use borrow.Author.Needs.{needs}
 use Rattle.writers.proofs.write.digit_char.Statement.{statement}
 use Rattle.writers.proofs.write.digit_char.Tie as tie
-use Rattle.writers.proofs.write.digit_char.Reads as reads
-use Rattle.writers.proofs.write.digit_char.Lts as lts
 
--- src/write.rt:31:14
 cast-result : tie.Need-cast-result
 cast-result c = search needs
 
--- src/write.rt:31:9
 add-result : tie.Need-add-result
 add-result c = search needs
 
--- src/write.rt:33:14
 cast-result-2 : tie.Need-cast-result-2
 cast-result-2 c = search needs
 
--- src/write.rt:33:9
 add-result-2 : tie.Need-add-result-2
 add-result-2 c = search needs
 
--- src/write.rt:26:1
 returns : tie.Need-returns
 returns c = simp (lt-ltb _ _ (c .if1 .taken))
 
--- src/write.rt:26:1
 returns-2 : tie.Need-returns-2
 returns-2 c = simp (le-ltb _ _ (c .if1 .left))
 

@@ -1,22 +1,19 @@
+-- `writers::write::measure` meets its contract. Assumes nothing.
 use Prim.Native.Nat.{ℕ, _≤_, _<_, _+_, _*_, _-_}
-use mathlib.Core.Path.{_≡_, refl, sym, ap, _∙_}
+use mathlib.Core.Path.{_≡_, sym, _∙_}
 use mathlib.Core.List.{List}
 use native.Mathlib.Nat.{zero-add, add-zero, le-of-lt}
 use native.Mathlib.Omega.{arith}
-use lib.ListN.{length, take, drop, getD}
+use lib.ListN.{length, take, drop}
 use lib.Seq.{length-take-le}
-use Rattle.forms.specs.Form.{fieldOf, Sound, mostNumbers}
+use Rattle.forms.specs.Form.{fieldOf, mostNumbers}
 use Rattle.forms.specs.Write.{render, renderFrom}
-use Rattle.forms.specs.declared.form.Field.the-variants.{Line, End}
+use Rattle.forms.specs.declared.form.Field.the-variants.{Line}
 use Rattle.forms.proofs.Forms.{sound-take}
 use Rattle.writers.proofs.Writing.{not-end, at-most, short-value, next-length, render-end}
 use borrow.Author.Needs.{needs}
 use Rattle.writers.proofs.write.measure.Statement.{statement}
 use Rattle.writers.proofs.write.measure.Tie as tie
-use Rattle.writers.proofs.write.measure.Reads as reads
-use Rattle.writers.proofs.write.measure.Lts as lts
-use Rattle.forms.proofs.form.field_after.Reads as field-after-reads
-use Rattle.writers.proofs.write.line_len.Reads as line-len-reads
 
 abbrev Inv-loop : tie.InvT-loop
 Inv-loop form keys list n₀ i₀ n i =
@@ -49,60 +46,47 @@ module _ (f : tie.After-field Inv-loop μ-loop) where
   few : at < mostNumbers
   few = at-most (begin .args .form) whole at (turn .loop-test .taken) (begin .pre .1)
 
--- src/write.rt:60:5
 loop-holds : tie.Need-loop-holds Inv-loop μ-loop
 unfolding render
 loop-holds c = record { within = search needs; few = search needs; rest = sym (zero-add _) }
 
--- src/write.rt:61:45
 slice-aggregate-field-after : tie.Need-slice-aggregate-field-after Inv-loop μ-loop
 slice-aggregate-field-after c = sym (length-take-le _ _ (le-of-lt (c .before .loop-test .taken)))
 
--- src/write.rt:61:13
 field-after-requires : tie.Need-field-after-requires Inv-loop μ-loop
 field-after-requires c κs = sound-take _ _ _ (le-of-lt (c .before .loop-test .taken)) (c .before .before .before .before .before .pre .1)
 
--- src/write.rt:62:25
 enum-known-field : tie.Need-enum-known-field Inv-loop μ-loop
 enum-known-field c = search needs
 
--- src/write.rt:63:13
 enum-told : tie.Need-enum-told Inv-loop μ-loop
 enum-told c = search needs
 
--- src/write.rt:63:13
 returns : tie.Need-returns Inv-loop μ-loop
 returns c =
     let t = c .before .before .before .before in
     absurd (not-end _ _ _ (t .loop-test .taken) (t .before .before .before .before .pre .1) (sym (c .before .before .field-after .ensures) ∙ c .enum-told .given .1))
 
--- src/write.rt:65:41
 mul-line-len : tie.Need-mul-line-len Inv-loop μ-loop
 mul-line-len c = omega (arith, few (c .before))
 
--- src/write.rt:65:41
 shared-slice-read-line-len : tie.Need-shared-slice-read-line-len Inv-loop μ-loop
 shared-slice-read-line-len c = search needs
 
--- src/write.rt:65:14
 line-len-requires : tie.Need-line-len-requires Inv-loop μ-loop
 line-len-requires c κs =
     let f = c .before .before in
     (begin f .pre .0, short-value _ _ _ (turn f .loop-test .taken) (begin f .pre .1) _ _ (is-line f))
 
--- src/write.rt:65:9
 add-n : tie.Need-add-n Inv-loop μ-loop
 add-n c = omega (arith, few (c .before .before .before), turn (c .before .before .before) .before .loop .inv .few, c .line-len .ensures .1)
 
--- src/write.rt:66:9
 add-i : tie.Need-add-i Inv-loop μ-loop
 add-i c = search needs
 
--- src/write.rt:60:5
 loop-less : tie.Need-loop-less Inv-loop μ-loop
 loop-less c = omega (arith, turn (c .before .before .before) .loop-test .taken)
 
--- src/write.rt:60:5
 loop-again : tie.Need-loop-again Inv-loop μ-loop
 loop-again c =
     let f = c .before .before .before in
@@ -113,7 +97,6 @@ loop-again c =
       rest = omega (arith, t .before .loop .inv .rest, c .line-len .ensures .0, next-length (begin f .args .form) (whole f) (at f) (t .loop-test .taken) (begin f .pre .1) _ _ (is-line f));
     }
 
--- src/write.rt:53:1
 returns-2 : tie.Need-returns-2 Inv-loop μ-loop
 returns-2 c =
     sym (c .before .loop .inv .rest ∙ rw (render-end _ _ _ _ (c .loop-test .left)) (add-zero _))

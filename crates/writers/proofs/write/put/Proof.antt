@@ -1,15 +1,13 @@
-use Prim.Native.Nat.{ℕ, _≤_, _<_, _+_, _-_}
-use mathlib.Core.Path.{_≡_, refl, sym, ap, _∙_}
+-- `writers::write::put` meets its contract. Assumes nothing.
+use Prim.Native.Nat.{_≤_, _<_, _+_, _-_}
+use mathlib.Core.Path.{_≡_, refl, _∙_}
 use native.Mathlib.Omega.{arith}
 use lib.ListN.{length, length-set}
 use lib.Seq.{paste, paste-zero}
-use Rattle.writers.specs.Write.{placed}
 use Rattle.writers.proofs.Writing.{put-step, put-end}
 use borrow.Author.Needs.{needs}
 use Rattle.writers.proofs.write.put.Statement.{statement}
 use Rattle.writers.proofs.write.put.Tie as tie
-use Rattle.writers.proofs.write.put.Reads as reads
-use Rattle.writers.proofs.write.put.Lts as lts
 
 abbrev Inv-loop : tie.InvT-loop
 Inv-loop out₀ at s i₀ out i = (i ≤ length s) × ((length out ≡ length out₀) × (out ≡ paste out₀ at s i))
@@ -20,31 +18,24 @@ abbrev μ-loop : tie.MeasureT-loop
 end : (c : tie.After-loop Inv-loop μ-loop) → c .before .loop .i ≡ length (c .before .before .args .s .now)
 end c = omega arith
 
--- src/write.rt:19:5
 loop-holds : tie.Need-loop-holds Inv-loop μ-loop
 loop-holds c = (search needs, (refl, paste-zero (c .args .out .now) (c .args .at) (c .args .s .now)))
 
--- src/write.rt:20:23
 shared-slice-read-out : tie.Need-shared-slice-read-out Inv-loop μ-loop
 shared-slice-read-out c = search needs
 
--- src/write.rt:20:13
 add-out : tie.Need-add-out Inv-loop μ-loop
 add-out c = search needs
 
--- src/write.rt:20:9
 slice-write-out : tie.Need-slice-write-out Inv-loop μ-loop
 slice-write-out c = omega arith
 
--- src/write.rt:21:9
 add-i : tie.Need-add-i Inv-loop μ-loop
 add-i c = search needs
 
--- src/write.rt:19:5
 loop-less : tie.Need-loop-less Inv-loop μ-loop
 loop-less c = search needs
 
--- src/write.rt:19:5
 loop-again : tie.Need-loop-again Inv-loop μ-loop
 loop-again c =
     let t = c .before in
@@ -58,11 +49,9 @@ loop-again c =
       ),
     )
 
--- src/write.rt:13:1
 same-length : tie.Need-same-length Inv-loop μ-loop
 same-length c = c .before .loop .inv .1 .0
 
--- src/write.rt:13:1
 returns : tie.Need-returns Inv-loop μ-loop
 returns c = c .before .loop .inv .1 .1 ∙ rw (end c) (put-end (c .before .before .args .out .now) (c .before .before .args .at) _)
 

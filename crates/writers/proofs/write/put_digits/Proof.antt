@@ -1,17 +1,15 @@
-use Prim.Native.Nat.{ℕ, _≤_, _<_, _+_, _-_, _/_, _^_}
-use mathlib.Core.Path.{_≡_, refl, sym, ap, _∙_}
+-- `writers::write::put_digits` meets its contract. Assumes nothing.
+use Prim.Native.Nat.{_≤_, _+_, _-_, _/_, _^_}
+use mathlib.Core.Path.{_≡_, refl, _∙_}
 use native.Mathlib.Omega.{arith}
-use native.Mathlib.Nat.{mod-lt, add-zero, lt-of-lt-of-le}
+use native.Mathlib.Nat.{mod-lt, lt-of-lt-of-le}
 use lib.ListN.{length, length-set}
-use Rattle.forms.specs.Write.{digitsIn, digitChar}
+use Rattle.forms.specs.Write.{digitsIn}
 use Rattle.writers.specs.Write.{placed}
-use Rattle.writers.proofs.Writing.{digits-start, digits-turn, length-placed}
+use Rattle.writers.proofs.Writing.{digits-start, digits-turn}
 use borrow.Author.Needs.{needs}
 use Rattle.writers.proofs.write.put_digits.Statement.{statement}
 use Rattle.writers.proofs.write.put_digits.Tie as tie
-use Rattle.writers.proofs.write.put_digits.Reads as reads
-use Rattle.writers.proofs.write.put_digits.Lts as lts
-use Rattle.writers.proofs.write.digit_char.Reads as digit-char-reads
 
 abbrev Inv-loop : tie.InvT-loop
 Inv-loop out₀ at base n v x₀ i₀ out x i =
@@ -25,44 +23,35 @@ Inv-loop out₀ at base n v x₀ i₀ out x i =
 abbrev μ-loop : tie.MeasureT-loop
 μ-loop out₀ at base n v x₀ i₀ out x i = i
 
--- src/write.rt:98:5
 loop-holds : tie.Need-loop-holds Inv-loop μ-loop
 loop-holds c =
     let a = c .before .args in
     let p = digits-start (a .out .now) (a .at) (a .base) (a .n) (a .v) in
     record { within = search needs; length-kept = refl; left = p .0; written = p .1 }
 
--- src/write.rt:99:9
 sub-i : tie.Need-sub-i Inv-loop μ-loop
 sub-i c = search needs
 
--- src/write.rt:100:34
 rem-digit-char : tie.Need-rem-digit-char Inv-loop μ-loop
 rem-digit-char c = search needs
 
--- src/write.rt:100:23
 digit-char-requires : tie.Need-digit-char-requires Inv-loop μ-loop
 digit-char-requires c κs = let s = c .before .before .before in lt-of-lt-of-le (mod-lt (c .before .loop .x) (s .pre .0 .0)) (s .pre .0 .1)
 
--- src/write.rt:100:13
 add-out : tie.Need-add-out Inv-loop μ-loop
 add-out c = search needs
 
--- src/write.rt:100:9
 slice-write-out : tie.Need-slice-write-out Inv-loop μ-loop
 slice-write-out c =
     let l = c .before .before in
     omega (arith, c .before .loop-test .taken, l .before .before .pre .1, l .loop .inv .length-kept, l .loop .inv .within)
 
--- src/write.rt:101:13
 div-x : tie.Need-div-x Inv-loop μ-loop
 div-x c = search needs
 
--- src/write.rt:98:5
 loop-less : tie.Need-loop-less Inv-loop μ-loop
 loop-less c = search needs
 
--- src/write.rt:98:5
 loop-again : tie.Need-loop-again Inv-loop μ-loop
 loop-again c =
     let l = c .before .before in
@@ -76,11 +65,9 @@ loop-again c =
       written = rw (l .loop .inv .written) (p .1);
     }
 
--- src/write.rt:91:1
 same-length : tie.Need-same-length Inv-loop μ-loop
 same-length c = c .before .loop .inv .length-kept
 
--- src/write.rt:91:1
 returns : tie.Need-returns Inv-loop μ-loop
 returns c =
     let a = c .before .before .before .args in

@@ -1,3 +1,4 @@
+-- `writers::write::put_line` meets its contract. Assumes nothing.
 use Prim.Native.Nat.{ℕ, _≤_, _<_, _+_, _-_}
 use mathlib.Core.Path.{_≡_, refl, sym, ap, _∙_}
 use mathlib.Core.List.{List, [], _∷_, _++_}
@@ -7,16 +8,10 @@ use Rattle.forms.specs.Keys.{prefixOf}
 use Rattle.forms.specs.Write.{digitsIn, baseOf, digitCount, valueDigits}
 use Rattle.forms.proofs.Numbers.{length-digits}
 use Rattle.writers.specs.Write.{placed}
-use Rattle.writers.proofs.Writing.{first-fits, second-fits, third-fits, three, stored, line-length, length-placed}
+use Rattle.writers.proofs.Writing.{three, stored, line-length, length-placed}
 use borrow.Author.Needs.{needs}
 use Rattle.writers.proofs.write.put_line.Statement.{statement}
 use Rattle.writers.proofs.write.put_line.Tie as tie
-use Rattle.writers.proofs.write.put_line.Reads as reads
-use Rattle.writers.proofs.write.put_line.Lts as lts
-use Rattle.forms.proofs.form.key_part.Reads as key-part-reads
-use Rattle.writers.proofs.write.digit_count.Reads as digit-count-reads
-use Rattle.writers.proofs.write.put.Reads as put-reads
-use Rattle.writers.proofs.write.put_value.Reads as put-value-reads
 
 -- the key and the number of digits are known
 module _ (c : tie.After-digit-count) where
@@ -75,43 +70,33 @@ module _ (c : tie.After-put-value) where
   fits : from (counted keyed) + counted keyed .digit-count .result < length (c .put-value .last .0)
   fits = omega (arith, total (counted keyed), size-kept-2)
 
--- src/write.rt:124:9
 key-part-requires : tie.Need-key-part-requires
 key-part-requires c κs = search needs
 
--- src/write.rt:125:16
 add-from : tie.Need-add-from
 add-from c = search needs
 
--- src/write.rt:126:9
 digit-count-requires : tie.Need-digit-count-requires
 digit-count-requires c κs = search needs
 
--- src/write.rt:127:15
 add-end : tie.Need-add-end
 add-end c = omega (arith, total c)
 
--- src/write.rt:128:5
 put-requires : tie.Need-put-requires
 put-requires c κs = omega (arith, total (c .before))
 
--- src/write.rt:129:5
 put-value-requires : tie.Need-put-value-requires
 put-value-requires c κs = let p = c .before .before .before in omega (arith, total (counted p), size-kept p)
 
--- src/write.rt:130:5
 slice-write-out : tie.Need-slice-write-out
 slice-write-out c = fits (c .before .before)
 
--- src/write.rt:131:5
 add-result : tie.Need-add-result
 add-result c = omega (arith, total (counted (keyed (c .before .before))))
 
--- src/write.rt:117:1
 same-length : tie.Need-same-length
 same-length c = simp length-set (size-kept-2 (c .before .before))
 
--- src/write.rt:117:1
 returns : tie.Need-returns
 returns c =
     let v = c .before .before in

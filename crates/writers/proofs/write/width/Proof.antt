@@ -1,5 +1,6 @@
-use Prim.Native.Nat.{ℕ, suc, _≤_, _<_, _+_, _*_, _-_, _/_, _^_}
-use mathlib.Core.Path.{_≡_, refl, sym, ap, _∙_}
+-- `writers::write::width` meets its contract. Assumes nothing.
+use Prim.Native.Nat.{_≤_, _<_, _-_, _^_}
+use mathlib.Core.Path.{_≡_, refl, sym, _∙_}
 use native.Mathlib.Omega.{arith}
 use native.Mathlib.Numerals.{add-one}
 use native.Mathlib.Nat.{pow-suc}
@@ -8,8 +9,6 @@ use Rattle.writers.proofs.Writing.{width-more, width-found, width-room}
 use borrow.Author.Needs.{needs}
 use Rattle.writers.proofs.write.width.Statement.{statement}
 use Rattle.writers.proofs.write.width.Tie as tie
-use Rattle.writers.proofs.write.width.Reads as reads
-use Rattle.writers.proofs.write.width.Lts as lts
 
 abbrev Inv-loop : tie.InvT-loop
 Inv-loop v n₀ p₀ n p = (n ≤ 10) × ((p ≡ 10 ^ n) × (widthOf v ≡ widthFrom (10 - n) n v))
@@ -20,28 +19,22 @@ abbrev μ-loop : tie.MeasureT-loop
 room : (c : tie.In-loop Inv-loop μ-loop) → c .before .loop .n < 10
 room c = width-room (c .before .before .args .v) _ (c .before .before .pre) (rw (c .before .loop .inv .1 .0) at (c .loop-test .taken))
 
--- src/write.rt:60:5
 loop-holds : tie.Need-loop-holds Inv-loop μ-loop
 unfolding widthOf
 loop-holds c = (search needs, (refl, refl))
 
--- src/write.rt:61:13
 mul-p : tie.Need-mul-p Inv-loop μ-loop
 mul-p c = omega arith
 
--- src/write.rt:62:9
 add-n : tie.Need-add-n Inv-loop μ-loop
 add-n c = omega (arith, room c)
 
--- src/write.rt:60:5
 loop-less : tie.Need-loop-less Inv-loop μ-loop
 loop-less c = omega (arith, room c)
 
--- src/write.rt:60:5
 loop-again : tie.Need-loop-again Inv-loop μ-loop
 loop-again c = (omega (arith, room c), (rw (c .before .loop .inv .1 .0, add-one, pow-suc), c .before .loop .inv .1 .1 ∙ width-more _ _ (room c) (rw (c .before .loop .inv .1 .0) at (c .loop-test .taken))))
 
--- src/write.rt:54:1
 returns : tie.Need-returns Inv-loop μ-loop
 returns c = (sym (c .before .loop .inv .1 .1 ∙ width-found _ _ _ (rw (c .before .loop .inv .1 .0) at (c .loop-test .left))), c .before .loop .inv .0)
 

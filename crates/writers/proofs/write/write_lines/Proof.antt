@@ -1,3 +1,4 @@
+-- `writers::write::write_lines` meets its contract. Assumes nothing.
 use Prim.Native.Nat.{ℕ, _≤_, _<_, _+_, _-_}
 use mathlib.Core.Path.{_≡_, refl, sym, ap, _∙_}
 use mathlib.Core.List.{List, _++_}
@@ -5,19 +6,15 @@ use native.Mathlib.Omega.{arith}
 use native.Mathlib.Nat.{le-of-lt}
 use lib.ListN.{length, take, drop, getD}
 use lib.Seq.{length-take-le}
-use Rattle.forms.specs.Form.{fieldOf, Sound, mostNumbers}
+use Rattle.forms.specs.Form.{fieldOf, mostNumbers}
 use Rattle.forms.specs.Write.{render, renderFrom, lineOf}
-use Rattle.forms.specs.declared.form.Field.the-variants.{Line, End}
+use Rattle.forms.specs.declared.form.Field.the-variants.{Line}
 use Rattle.forms.proofs.Forms.{sound-take}
 use Rattle.writers.specs.Write.{placed}
 use Rattle.writers.proofs.Writing.{not-end, at-most, short-value, next-line, render-end, line-fits, line-within, line-rest, line-placed, length-placed, placed-none, placed-front, take-whole}
 use borrow.Author.Needs.{needs}
 use Rattle.writers.proofs.write.write_lines.Statement.{statement}
 use Rattle.writers.proofs.write.write_lines.Tie as tie
-use Rattle.writers.proofs.write.write_lines.Reads as reads
-use Rattle.writers.proofs.write.write_lines.Lts as lts
-use Rattle.forms.proofs.form.field_after.Reads as field-after-reads
-use Rattle.writers.proofs.write.put_line.Reads as put-line-reads
 
 abbrev Inv-loop : tie.InvT-loop
 Inv-loop form keys list out₀ count at₀ i₀ out at i =
@@ -77,46 +74,36 @@ module _ (f : tie.After-field Inv-loop μ-loop) where
   ahead : drop (head .loop .at) (text head) ≡ line ++ after
   ahead = head .loop .inv .rest ∙ next-line (begin head .args .form) (whole head) i (turn .loop-test .taken) (begin head .pre .1 .0) _ _ is-line
 
--- src/write.rt:142:5
 loop-holds : tie.Need-loop-holds Inv-loop μ-loop
 unfolding render
 loop-holds c = record { within = search needs; at-within = search needs; written = placed-none _ 0; rest = refl }
 
--- src/write.rt:143:45
 slice-aggregate-field-after : tie.Need-slice-aggregate-field-after Inv-loop μ-loop
 slice-aggregate-field-after c = sym (length-take-le _ _ (le-of-lt (c .before .loop-test .taken)))
 
--- src/write.rt:143:13
 field-after-requires : tie.Need-field-after-requires Inv-loop μ-loop
 field-after-requires c κs = sound-take _ _ _ (le-of-lt (c .before .loop-test .taken)) (begin (c .before .before) .pre .1 .0)
 
--- src/write.rt:144:25
 enum-known-field : tie.Need-enum-known-field Inv-loop μ-loop
 enum-known-field c = search needs
 
--- src/write.rt:145:13
 enum-told : tie.Need-enum-told Inv-loop μ-loop
 enum-told c = search needs
 
--- src/write.rt:145:13
 same-length : tie.Need-same-length Inv-loop μ-loop
 same-length c = kept (c .before .before .before .before .before)
 
--- src/write.rt:145:13
 returns : tie.Need-returns Inv-loop μ-loop
 returns c =
     let t = c .before .before .before .before in
     absurd (not-end _ _ _ (t .loop-test .taken) (begin (t .before) .pre .1 .0) (sym (c .before .before .field-after .ensures) ∙ c .enum-told .given .1))
 
--- src/write.rt:147:50
 mul-put-line : tie.Need-mul-put-line Inv-loop μ-loop
 mul-put-line c = omega (arith, few (c .before .before))
 
--- src/write.rt:147:50
 shared-slice-read-put-line : tie.Need-shared-slice-read-put-line Inv-loop μ-loop
 shared-slice-read-put-line c = search needs
 
--- src/write.rt:147:9
 put-line-requires : tie.Need-put-line-requires Inv-loop μ-loop
 put-line-requires c κs =
     let f = c .before .before .before in
@@ -128,15 +115,12 @@ put-line-requires c κs =
       ),
     )
 
--- src/write.rt:148:9
 add-i : tie.Need-add-i Inv-loop μ-loop
 add-i c = search needs
 
--- src/write.rt:142:5
 loop-less : tie.Need-loop-less Inv-loop μ-loop
 loop-less c = omega (arith, turn (c .before .before .before .before .before .before) .loop-test .taken)
 
--- src/write.rt:142:5
 loop-again : tie.Need-loop-again Inv-loop μ-loop
 loop-again c =
     let f = c .before .before .before .before .before .before in
@@ -149,11 +133,9 @@ loop-again c =
       rest = rw (p .put-line .ensures .0) (line-rest (lent h) (text h) (line f) (after f) (h .loop .at) (room h) (h .loop .inv .at-within) (ahead f));
     }
 
--- src/write.rt:134:1
 same-length-2 : tie.Need-same-length-2 Inv-loop μ-loop
 same-length-2 c = kept (c .before)
 
--- src/write.rt:134:1
 returns-2 : tie.Need-returns-2 Inv-loop μ-loop
 returns-2 c =
     let h = c .before in

@@ -1,6 +1,6 @@
-use mathlib.Core.Path.{_≡_, sym, ap, _∙_}
-use mathlib.Core.List.{List}
-use Rattle.model.specs.Outcome.{Outcome, good}
+-- `writers::write::write_plan` meets its contract. Assumes nothing.
+use mathlib.Core.Path.{_≡_, sym, _∙_}
+use Rattle.model.specs.Outcome.{good}
 use Rattle.forms.specs.Form.{Sound}
 use Rattle.forms.specs.Read.{judgeList}
 use Rattle.forms.specs.Write.{render}
@@ -10,52 +10,39 @@ use Rattle.writers.proofs.Writing.{judged-done}
 use borrow.Author.Needs.{needs}
 use Rattle.writers.proofs.write.write_plan.Statement.{statement}
 use Rattle.writers.proofs.write.write_plan.Tie as tie
-use Rattle.writers.proofs.write.write_plan.Reads as reads
-use Rattle.writers.proofs.write.write_plan.Lts as lts
-use Rattle.forms.proofs.judge.judge_plan.Reads as judge-plan-reads
-use Rattle.writers.proofs.write.write_good.Reads as write-good-reads
 
 accepted : (c : tie.After-enum-told) → (judgeList Plan (c .before .before .before .before .before .args .list .now) ≡ good (c .before .before .before .before .before .args .list .now)) × Sound Plan (c .before .before .before .before .before .args .list .now)
 accepted c = judged-done Plan _ _ (sym (c .before .before .judge-plan .ensures) ∙ c .enum-told .given .1)
 
--- src/write.rt:193:9
 judge-plan-requires : tie.Need-judge-plan-requires
 judge-plan-requires c κs = search needs
 
--- src/write.rt:195:39
 enum-told : tie.Need-enum-told
 enum-told c = search needs
 
--- src/write.rt:195:28
 write-good-requires : tie.Need-write-good-requires
 write-good-requires c κs = accepted (c .before) .1
 
--- src/write.rt:196:28
 enum-told-2 : tie.Need-enum-told-2
 enum-told-2 c = search needs
 
--- src/write.rt:201:14
 enum-told-3 : tie.Need-enum-told-3
 enum-told-3 c = search needs
 
--- src/write.rt:189:1
 same-length : tie.Need-same-length
 same-length c = search needs
 
--- src/write.rt:189:1
 returns : tie.Need-returns
 returns c =
     let w = c .before .before in
     let a = accepted (w .before .before) .0 in
     (rw a (w .write-good .ensures .0), rw a (w .write-good .ensures .1))
 
--- src/write.rt:189:1
 returns-2 : tie.Need-returns-2
 returns-2 c =
     let j = c .before .before in
     absurd (done-plan (judgeList Plan (j .before .before .before .args .list .now)) _ (sym (j .judge-plan .ensures) ∙ c .enum-told2 .given .1))
 
--- src/write.rt:189:1
 returns-3 : tie.Need-returns-3
 returns-3 c =
     let j = c .before .before in
