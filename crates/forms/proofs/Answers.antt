@@ -9,7 +9,11 @@ use lib.ListN.{length, drop}
 use borrow.Author.Tests.{le-leb, lt-leb}
 use Rattle.model.specs.Outcome.{Outcome, good, refused, noRoom}
 use Rattle.lists.specs.Answers.{done, withRoom, lent}
-use Rattle.lists.specs.declared.Answer.the-variants.{Done, Plan as Planned, Refused}
+use Rattle.lists.specs.declared.Answer.{Answer}
+use Rattle.lists.specs.declared.Answer.the-variants.{Done, Refused}
+use Rattle.lists.proofs.Answer.{the-type}
+use denote.Enum.Declared.{tagOf}
+use mathlib.Core.Logic.{_⊎_, ⊎-elim}
 use Rattle.forms.specs.Read.{andThen}
 
 -- ---- what an answer tells of an outcome
@@ -18,14 +22,23 @@ pub done-good : (o : Outcome (List ℕ)) (n : ℕ) → done o ≡ Done n → (l 
 done-good (good l) n e = (l, refl, cc)
 done-good (refused c a b) n e = let z : _≡_ {A = ℕ} 0 1 = cc in absurd (omega arith)
 
-pub done-plan : (o : Outcome (List ℕ)) (n : ℕ) → done o ≡ Planned n → ⊥
-done-plan (good l) n e = let z : _≡_ {A = ℕ} 0 1 = cc in omega arith
-done-plan (refused c a b) n e = let z : _≡_ {A = ℕ} 0 1 = cc in omega arith
+-- an answer that is not done. It is what the `else` of `let Answer::Done(n) = a else { .. }` knows
+abbrev pub NotDone : Answer → Type 0
+NotDone a = (tagOf the-type a ≡ 1) ⊎ (tagOf the-type a ≡ 2)
+
+not-done : (n : ℕ) (a : Answer) → a ≡ Done n → NotDone a → ⊥
+not-done n a e t = ⊎-elim (λ k. omega arith) (λ k. omega arith) (rw e at t)
 
 -- a refusal stands, whatever would come after
-pub done-refused : (o : Outcome (List ℕ)) (next : List ℕ → Outcome (List ℕ)) (m place second : ℕ) → done o ≡ Refused m place second → done (andThen o next) ≡ done o
-done-refused (good l) next m place second e = let z : _≡_ {A = ℕ} 0 1 = cc in absurd (omega arith)
-done-refused (refused c a b) next m place second e = refl
+pub refused-then : (o : Outcome (List ℕ)) (next : List ℕ → Outcome (List ℕ)) (a : Answer) → a ≡ done o → NotDone a → a ≡ done (andThen o next)
+refused-then (good l) next a e t = absurd (not-done (length l) a e t)
+refused-then (refused c place second) next a e t = e
+
+-- and whatever the room, and leaves all
+pub refused-room : (o : Outcome (List ℕ)) (a : Answer) (out : List ℕ) → a ≡ done o → NotDone a
+    → (a ≡ done (withRoom (length out) o)) × (out ≡ lent (withRoom (length out) o) out)
+refused-room (good l) a out e t = absurd (not-done (length l) a e t)
+refused-room (refused c place second) a out e t = (e, refl)
 
 -- ---- what is good, where there is no room for it and where there is
 
@@ -36,17 +49,7 @@ module _ (l out : List ℕ) where
   pub give-all : length l ≤ length out → (done (withRoom (length out) (good l)) ≡ Done (length l)) × (lent (withRoom (length out) (good l)) out ≡ l ++ drop (length l) out)
   give-all h = (rw (le-leb (length l) (length out) h), rw (le-leb (length l) (length out) h))
 
--- a refusal stands, whatever the room, and leaves all
-pub refused-all : (o : Outcome (List ℕ)) (m place second : ℕ) (out : List ℕ) → done o ≡ Refused m place second
-    → (done (withRoom (length out) o) ≡ done o) × (lent (withRoom (length out) o) out ≡ out)
-refused-all (good l) m place second out e = let z : _≡_ {A = ℕ} 0 1 = cc in absurd (omega arith)
-refused-all (refused c a b) m place second out e = (refl, refl)
-
--- and nothing comes after it
-pub stopped : (o : Outcome (List ℕ)) (next : List ℕ → Outcome (List ℕ)) (m place second : ℕ) (out : List ℕ) → done o ≡ Refused m place second
-    → (done (withRoom (length out) (andThen o next)) ≡ done o) × (lent (withRoom (length out) (andThen o next)) out ≡ out)
-stopped (good l) next m place second out e = let z : _≡_ {A = ℕ} 0 1 = cc in absurd (omega arith)
-stopped (refused c a b) next m place second out e = (refl, refl)
+-- ---- an outcome with room
 
 pub room-good : (room : ℕ) (o : Outcome (List ℕ)) (l : List ℕ) → withRoom room o ≡ good l → o ≡ good l
 room-good room (good g) l e = go (leb (length g) room) e

@@ -176,15 +176,10 @@ pub fn write_network(list: &[u64], out: &mut [u8]) -> Answer
     ensures { λ r. ⌜ now (out .exit) ≡ lent (withRoom (length (now (out .entry))) (writeNetwork (now (list .entry)))) (now (out .entry)) ⌝ }
 {
     let answer = judge::judge_network(list);
-    match answer {
-        Answer::Done(_) => write_good(Form::Network, list, out),
-        Answer::Plan(_) => answer,
-        Answer::Refused {
-            number: _,
-            place: _,
-            second: _,
-        } => answer,
-    }
+    let Answer::Done(_) = answer else {
+        return answer;
+    };
+    write_good(Form::Network, list, out)
 }
 
 // Writes the list of a plan as a text.
@@ -193,13 +188,8 @@ pub fn write_plan(list: &[u64], out: &mut [u8]) -> Answer
     ensures { λ r. ⌜ now (out .exit) ≡ lent (withRoom (length (now (out .entry))) (writePlan (now (list .entry)))) (now (out .entry)) ⌝ }
 {
     let answer = judge::judge_plan(list);
-    match answer {
-        Answer::Done(_) => write_good(Form::Plan, list, out),
-        Answer::Plan(_) => answer,
-        Answer::Refused {
-            number: _,
-            place: _,
-            second: _,
-        } => answer,
-    }
+    let Answer::Done(_) = answer else {
+        return answer;
+    };
+    write_good(Form::Plan, list, out)
 }

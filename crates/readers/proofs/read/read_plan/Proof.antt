@@ -1,12 +1,13 @@
 -- `readers::read::read_plan` meets its contract. Assumes nothing.
-use Prim.Native.Nat.{_≤_}
+use Prim.Native.Nat.{ℕ, _≤_}
 use mathlib.Core.Path.{_≡_, sym, _∙_}
+use mathlib.Core.List.{List}
 use lib.ListN.{length, take}
 use lib.Seq.{length-take-le}
 use Rattle.model.specs.Outcome.{good}
-use Rattle.forms.specs.Read.{addUp, readLines}
+use Rattle.forms.specs.Read.{addUp, readLines, andThen}
 use Rattle.forms.specs.declared.form.Form.the-variants.{Plan}
-use Rattle.forms.proofs.Answers.{done-plan, stopped}
+use Rattle.forms.proofs.Answers.{refused-then, refused-room}
 use Rattle.readers.proofs.Reading.{lines-read}
 use borrow.Author.Needs.{needs}
 use Rattle.readers.proofs.read.read_plan.Statement.{statement}
@@ -17,7 +18,10 @@ module _ (c : tie.After-lines) where
   abbrev begin : tie.Start
   begin = c .before .before .before .before .before .before .before .before
 
-  all-read : (readLines Plan (begin .args .text .now) ≡ good (take (c .lines .given .0 .0) (c .before .before .before .read .last .1 .1 .1 .0))) × (c .lines .given .0 .0 ≤ length (c .before .before .before .read .last .1 .1 .1 .0))
+  abbrev list : List ℕ
+  list = take (c .lines .given .0 .0) (c .before .before .before .read .last .1 .1 .1 .0)
+
+  all-read : (readLines Plan (begin .args .text .now) ≡ good list) × (c .lines .given .0 .0 ≤ length (c .before .before .before .read .last .1 .1 .1 .0))
   all-read = lines-read _ _ _ (sym (c .before .before .before .read .ensures .0) ∙ c .lines .given .1) (c .before .before .before .read .ensures .1)
 
 slice-aggregate-read : tie.Need-slice-aggregate-read
@@ -32,6 +36,13 @@ read-requires c κs = search needs
 enum-known-lines : tie.Need-enum-known-lines
 enum-known-lines c = search needs
 
+returns : tie.Need-returns
+returns c =
+    let r = c .before .before in
+    let a = r .before .before .before .before .before .args in
+    let o = readLines Plan (a .text .now) in
+    refused-room (andThen o (addUp Plan)) _ (a .out .now) (refused-then o (addUp Plan) _ (r .read .ensures .0) (c .match .keys2)) (c .match .keys2)
+
 array-share-prefix-vals : tie.Need-array-share-prefix-vals
 array-share-prefix-vals c = all-read (c .before) .1
 
@@ -41,32 +52,14 @@ slice-aggregate-give c = sym (length-take-le _ _ (all-read (c .before .before) .
 give-requires : tie.Need-give-requires
 give-requires c κs = search needs
 
-enum-told : tie.Need-enum-told
-enum-told c = search needs
-
-enum-told-2 : tie.Need-enum-told-2
-enum-told-2 c = search needs
-
 same-length : tie.Need-same-length
 same-length c = search needs
 
-returns : tie.Need-returns
+returns-2 : tie.Need-returns-2
 unfolding addUp
-returns c =
+returns-2 c =
     let l = c .before .before .before .before .before .before in
     (rw (all-read l .0) (c .before .before .give .ensures .0), rw (all-read l .0) (c .before .before .give .ensures .1))
-
-returns-2 : tie.Need-returns-2
-returns-2 c =
-    let r = c .before .before .before in
-    absurd (done-plan (readLines Plan (r .before .before .before .before .before .args .text .now)) _ (sym (r .read .ensures .0) ∙ c .enum-told .given .1))
-
-returns-3 : tie.Need-returns-3
-returns-3 c =
-    let r = c .before .before .before in
-    let a = r .before .before .before .before .before .args in
-    let p = stopped (readLines Plan (a .text .now)) (addUp Plan) _ _ _ (a .out .now) (sym (r .read .ensures .0) ∙ c .enum-told2 .given .1) in
-    (r .read .ensures .0 ∙ sym (p .0), sym (p .1))
 
 pub read-plan-spec : {M : Type 1} → statement M
 read-plan-spec =
@@ -76,12 +69,9 @@ read-plan-spec =
     slice-aggregate-read-2
     read-requires
     enum-known-lines
+    returns
     array-share-prefix-vals
     slice-aggregate-give
     give-requires
-    enum-told
-    enum-told-2
     same-length
-    returns
-    returns-2
-    returns-3)
+    returns-2)

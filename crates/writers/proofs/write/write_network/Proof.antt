@@ -3,9 +3,9 @@ use mathlib.Core.Path.{_≡_, sym, _∙_}
 use Rattle.model.specs.Outcome.{good}
 use Rattle.forms.specs.Form.{Sound}
 use Rattle.forms.specs.Read.{judgeList}
-use Rattle.forms.specs.Write.{render}
+use Rattle.forms.specs.Write.{render, writeText}
 use Rattle.forms.specs.declared.form.Form.the-variants.{Network}
-use Rattle.forms.proofs.Answers.{done-plan, stopped}
+use Rattle.forms.proofs.Answers.{refused-then, refused-room}
 use Rattle.writers.proofs.Writing.{judged-done}
 use borrow.Author.Needs.{needs}
 use Rattle.writers.proofs.write.write_network.Statement.{statement}
@@ -20,46 +20,24 @@ judge-network-requires c κs = search needs
 enum-told : tie.Need-enum-told
 enum-told c = search needs
 
+returns : tie.Need-returns
+returns c =
+    let a = c .before .before .before .before .args in
+    refused-room (writeText Network (a .list .now)) _ (a .out .now) (refused-then (judgeList Network (a .list .now)) (λ g. good (render Network g)) _ (c .before .judge-network .ensures) (c .match .keys2)) (c .match .keys2)
+
 write-good-requires : tie.Need-write-good-requires
 write-good-requires c κs = accepted (c .before) .1
-
-enum-told-2 : tie.Need-enum-told-2
-enum-told-2 c = search needs
-
-enum-told-3 : tie.Need-enum-told-3
-enum-told-3 c = search needs
 
 same-length : tie.Need-same-length
 same-length c = search needs
 
-returns : tie.Need-returns
-returns c =
+returns-2 : tie.Need-returns-2
+returns-2 c =
     let w = c .before .before in
     let a = accepted (w .before .before) .0 in
     (rw a (w .write-good .ensures .0), rw a (w .write-good .ensures .1))
 
-returns-2 : tie.Need-returns-2
-returns-2 c =
-    let j = c .before .before in
-    absurd (done-plan (judgeList Network (j .before .before .before .args .list .now)) _ (sym (j .judge-network .ensures) ∙ c .enum-told2 .given .1))
-
-returns-3 : tie.Need-returns-3
-returns-3 c =
-    let j = c .before .before in
-    let a = j .before .before .before .args in
-    let p = stopped (judgeList Network (a .list .now)) (λ g. good (render Network g)) _ _ _ (a .out .now) (sym (j .judge-network .ensures) ∙ c .enum-told3 .given .1) in
-    (j .judge-network .ensures ∙ sym (p .0), sym (p .1))
-
 pub write-network-spec : {M : Type 1} → statement M
 write-network-spec =
     tie.close
-    (tie.spec
-    judge-network-requires
-    enum-told
-    write-good-requires
-    enum-told-2
-    enum-told-3
-    same-length
-    returns
-    returns-2
-    returns-3)
+    (tie.spec judge-network-requires enum-told returns write-good-requires same-length returns-2)
