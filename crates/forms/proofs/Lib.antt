@@ -8,4 +8,5 @@ pub mod Walks
 pub mod Good
 pub mod Gathering
 pub mod Lines
+pub mod Rendering
 pub mod Round

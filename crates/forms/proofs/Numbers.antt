@@ -183,6 +183,21 @@ width-of : (v : ℕ) → v < 10000000000 → Wide v (widthOf v) × (widthOf v �
 unfolding widthOf
 width-of v h = width-wide 9 1 v (lit≤ tt) h (inl refl)
 
+-- a number below 10^n has at most n digits
+pub width-most : (v n : ℕ) → 1 ≤ n → n ≤ 10 → v < 10 ^ n → widthOf v ≤ n
+width-most v n one most h = go (decLt n (widthOf v))
+  where
+    w : Wide v (widthOf v)
+    w = width-of v (omega (arith, h, ten n 10 most)) .0
+
+    off : n < widthOf v → (widthOf v ≡ 1) ⊎ (10 ^ (widthOf v - 1) ≤ v) → ⊥
+    off k (inl e) = omega arith
+    off k (inr e) = omega (arith, ten n (widthOf v - 1) (omega arith))
+
+    go : Dec (n < widthOf v) → widthOf v ≤ n
+    go (yes k) = absurd (off k (w .above))
+    go (no k) = omega arith
+
 -- the first of a number's digits is no zero, where it has more than one; and where that holds of the first of n digits, the number has n
 first-digit : (v m : ℕ) → v < 10 ^ suc m → 10 ^ m ≤ v → digitChar (v / 10 ^ m % 10) ≡ 48 → ⊥
 first-digit v m h k e =

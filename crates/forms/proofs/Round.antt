@@ -16,7 +16,7 @@ use Rattle.forms.specs.Line.{lines, onFirst, valuePart, decimalOf, hexOf
 use Rattle.forms.specs.Form.{isHex, fieldOf, admitsOf, allows, secondOf, Sound}
 use Rattle.forms.specs.Read.{walk, itself, readLines, judgeNumbers, readText, judgeList, addUp, onField, onValue}
 use Rattle.forms.specs.Write.{digitChar, digitsIn, widthOf, baseOf, digitCount, valueDigits, lineOf, renderFrom, render, writeText}
-use Rattle.forms.specs.Laws.{Follows, FileForm, RoundTrip}
+use Rattle.forms.specs.Laws.{Follows, FileForm, RoundTrip, mostBytes}
 use Rattle.forms.specs.declared.form.Form.{Form}
 use Rattle.forms.specs.declared.form.Range.{Range}
 use Rattle.forms.specs.declared.form.Field.{Field}
@@ -26,6 +26,7 @@ use Rattle.forms.proofs.Forms.{sound-none, sound-more, small, small-set
 use Rattle.forms.proofs.Keys.{no-feeds, key-no-feed}
 use Rattle.forms.proofs.Lines.{own-part, part-line}
 use Rattle.forms.proofs.Numbers.{some-digits, decimal-digits, hex-digits, digits-decimal, digits-hex}
+use Rattle.forms.proofs.Rendering.{render-short}
 use Rattle.forms.proofs.Walks.{then-good, judged-good}
 
 -- ---- a line that is written, read
@@ -227,6 +228,9 @@ module _ (form : Form) (text l : List ℕ) (e : readText form text ≡ good l) w
   rendered : render form l ≡ text
   rendered = rw same (written-read form text (taken .0) (taken .1) .0)
 
+  short : length text ≤ mostBytes
+  short = rw (← rendered) (render-short form l (judged-good form l l read-good .whole))
+
   read-follows : Follows form text
   read-follows = record { list = l; judged = read-good; written = rendered }
 
@@ -258,6 +262,7 @@ file-form form =
       refused-else = λ text f. else-refused form text (readText form text) refl f;
       follows = read-follows form;
       read = follows-read form;
+      short = short form;
     }
 
 -- ---- the round trips, with room

@@ -15,6 +15,10 @@ pub record Follows (form : Form) (text : List ℕ) : Type 0 where
   pub judged : judgeList form list ≡ good list
   pub written : render form list ≡ text
 
+-- "Both read at most 65,536 bytes of a text; no valid text is longer."
+abbrev pub mostBytes : ℕ
+mostBytes = 65536
+
 -- a text is read exactly when it follows the file form
 pub record FileForm (form : Form) : Type 0 where
   -- reading the rendering of a good list gives that list
@@ -29,6 +33,8 @@ pub record FileForm (form : Form) : Type 0 where
   -- together
   pub follows : (text l : List ℕ) → readText form text ≡ good l → Follows form text
   pub read : (text : List ℕ) (f : Follows form text) → readText form text ≡ good (f .list)
+  -- and no such text is longer than a program reads
+  pub short : (text l : List ℕ) → readText form text ≡ good l → length text ≤ mostBytes
 
 -- the two round trips, over what the operations come to with the room that is lent to each
 pub record RoundTrip (form : Form) : Type 0 where

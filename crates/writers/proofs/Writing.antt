@@ -1,30 +1,26 @@
 -- Laws of writing: bytes put at a place, digits, widths, and the lines of a list. Assumes nothing.
 use mathlib.Core.Path.{_≡_, refl, sym, ap, _∙_}
-use mathlib.Core.Bool.{false}
 use mathlib.Core.List.{List, [], _∷_, _++_, append-assoc, append-nil}
 use Prim.Native.Nat.{ℕ, zero, suc, _+_, _-_, _/_, _%_, _^_, _≤_, _<_}
-use native.Mathlib.Nat.{add-zero, zero-add, add-assoc, le-of-lt, pow-zero, pow-suc, pow-le-pow-right, div-one, div-div-eq-div-mul, sub-self}
+use native.Mathlib.Nat.{add-zero, zero-add, add-assoc, pow-zero, pow-suc, pow-le-pow-right, div-one, div-div-eq-div-mul, sub-self}
 use native.Mathlib.Numerals.{add-one}
 use native.Mathlib.Decide.{decLt}
 use native.Mathlib.Omega.{arith}
 use lib.Dec.{lit≤}
-use lib.ListN.{take-append-drop, drop-of-length-le, length, getD, take, drop, set, length-append, length-take, length-drop}
-use lib.Seq.{take-add, take-append-le, take-append-seam, drop-append-seam, take-suc, length-take-le, take-take, take-at, drop-at, drop-drop, set-split, take-length, paste, paste-suc}
+use lib.ListN.{take-append-drop, length, getD, take, drop, set, length-append, length-take, length-drop}
+use lib.Seq.{take-add, take-append-le, take-append-seam, drop-append-seam, length-take-le, take-take, take-at, drop-at, drop-drop, set-split, take-length, paste, paste-suc}
 use borrow.Author.Tests.{lt-ltb, le-ltb}
-use Rattle.forms.specs.Keys.{prefixOf}
-use Rattle.forms.specs.Form.{isHex, fieldOf, Sound, mostNumbers}
-use Rattle.forms.specs.Write.{digitChar, digitsIn, widthFrom, baseOf, digitCount, valueDigits, lineOf, renderFrom}
+use Rattle.forms.specs.Form.{Sound}
+use Rattle.forms.specs.Write.{digitChar, digitsIn, widthFrom}
 use Rattle.forms.specs.declared.form.Form.{Form}
-use Rattle.forms.specs.declared.form.Range.{Range}
-use Rattle.forms.specs.declared.form.Field.the-variants.{Line, End}
 use Rattle.model.specs.Outcome.{good}
 use Rattle.lists.specs.Answers.{done}
 use Rattle.lists.specs.declared.Answer.the-variants.{Done}
 use Rattle.forms.specs.Read.{judgeList}
 use Rattle.forms.proofs.Answers.{done-good}
-use Rattle.forms.proofs.Forms.{sound-take, sound-at, room, small}
+use Rattle.forms.proofs.Forms.{room}
 use Rattle.forms.proofs.Numbers.{length-digits}
-use Rattle.forms.proofs.Walks.{step, judged-good}
+use Rattle.forms.proofs.Walks.{judged-good}
 use Rattle.writers.specs.Write.{placed}
 
 -- ---- bytes put at a place
@@ -155,34 +151,6 @@ module _ (out p s : List ℕ) (at x : ℕ) (room : at + length (p ++ (s ++ (x �
 
 -- ---- the lines of a list
 
--- the lines of the numbers from i on
-pub render-step : (form : Form) (l : List ℕ) (i : ℕ) → i < length l
-    → renderFrom form (take i l) (drop i l) ≡ lineOf (fieldOf form (take i l)) (getD l i 0) ++ renderFrom form (take (i + 1) l) (drop (i + 1) l)
-unfolding renderFrom
-render-step form l i h = rw (step l i h, add-one, take-suc l i 0 h)
-
-pub render-end : (form : Form) (done l : List ℕ) (i : ℕ) → length l ≤ i → renderFrom form done (drop i l) ≡ []
-unfolding renderFrom
-render-end form done l i h = rw (drop-of-length-le l h)
-
--- what a turn over a sound list knows at i
-module _ (form : Form) (l : List ℕ) (i : ℕ) (h : i < length l) (s : Sound form l) where
-  pub not-end : fieldOf form (take i l) ≡ End → ⊥
-  not-end e = rw e at (sound-at form l i h s)
-
-  count : length (take i l) ≡ i
-  count = length-take-le i l (le-of-lt h)
-
-  pub at-most : i < mostNumbers
-  at-most = rw count at (room form (take i l) (getD l i 0) (sound-take form l i (le-of-lt h) s) (sound-at form l i h s))
-
-  pub short-value : (k : ℕ) (r : Range) → fieldOf form (take i l) ≡ Line k r → isHex r ≡ false → getD l i 0 < 10000000000
-  short-value k r e x = small form (take i l) k r (getD l i 0) (sound-take form l i (le-of-lt h) s) e (rw e at (sound-at form l i h s)) x
-
-  pub next-line : (k : ℕ) (r : Range) → fieldOf form (take i l) ≡ Line k r
-      → renderFrom form (take i l) (drop i l) ≡ lineOf (Line k r) (getD l i 0) ++ renderFrom form (take (i + 1) l) (drop (i + 1) l)
-  next-line k r e = rw e at (render-step form l i h)
-
 -- the bytes that are written, after a line more
 module _ (out r line rest : List ℕ) (at : ℕ) (fits : length r ≤ length out) (within : at ≤ length r) (e : drop at r ≡ line ++ rest) where
   whole : length r ≡ at + (length line + length rest)
@@ -203,13 +171,6 @@ module _ (out r line rest : List ℕ) (at : ℕ) (fits : length r ≤ length out
       let p : 0 + length (take at r) ≡ at = omega arith in
       rw (take-add at (length line) r, e, take-append-seam line rest)
       (rw p at (placed-more out 0 (take at r) line (omega (arith, whole))))
-
-pub next-length : (form : Form) (l : List ℕ) (i : ℕ) → i < length l → Sound form l → (k : ℕ) (r : Range) → fieldOf form (take i l) ≡ Line k r
-    → length (renderFrom form (take i l) (drop i l)) ≡ length (lineOf (Line k r) (getD l i 0)) + length (renderFrom form (take (i + 1) l) (drop (i + 1) l))
-next-length form l i h s k r e = rw (next-line form l i h s k r e) (length-append (lineOf (Line k r) (getD l i 0)) _)
-
-pub line-length : (k : ℕ) (r : Range) (v : ℕ) → length (lineOf (Line k r) v) ≡ length (prefixOf k) + digitCount r v + 1
-line-length k r v = rw (length-append (prefixOf k), length-append (valueDigits r v), length-digits (baseOf r) (digitCount r v) v) (omega arith)
 
 pub take-whole : (n : ℕ) (l : List ℕ) → drop n l ≡ [] → take n l ≡ l
 take-whole n l e = sym (append-nil (take n l)) ∙ rw (← e) (take-append-drop n l)

@@ -4,7 +4,7 @@ use native.Mathlib.Omega.{arith}
 use lib.ListN.{length}
 use Rattle.forms.specs.Keys.{prefixOf}
 use Rattle.forms.proofs.Keys.{key-length}
-use Rattle.writers.proofs.Writing.{line-length}
+use Rattle.forms.proofs.Rendering.{line-length}
 use borrow.Author.Needs.{needs}
 use Rattle.writers.proofs.write.line_len.Statement.{statement}
 use Rattle.writers.proofs.write.line_len.Tie as tie

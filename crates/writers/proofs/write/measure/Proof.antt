@@ -10,7 +10,7 @@ use Rattle.forms.specs.Form.{fieldOf, mostNumbers}
 use Rattle.forms.specs.Write.{render, renderFrom}
 use Rattle.forms.specs.declared.form.Field.the-variants.{Line}
 use Rattle.forms.proofs.Forms.{sound-take}
-use Rattle.writers.proofs.Writing.{not-end, at-most, short-value, next-length, render-end}
+use Rattle.forms.proofs.Rendering.{not-end, at-most, short-value, next-length, render-end}
 use borrow.Author.Needs.{needs}
 use Rattle.writers.proofs.write.measure.Statement.{statement}
 use Rattle.writers.proofs.write.measure.Tie as tie

@@ -8,7 +8,8 @@ use Rattle.forms.specs.Keys.{prefixOf}
 use Rattle.forms.specs.Write.{digitsIn, baseOf, digitCount, valueDigits}
 use Rattle.forms.proofs.Numbers.{length-digits}
 use Rattle.writers.specs.Write.{placed}
-use Rattle.writers.proofs.Writing.{three, stored, line-length, length-placed}
+use Rattle.forms.proofs.Rendering.{line-length}
+use Rattle.writers.proofs.Writing.{three, stored, length-placed}
 use borrow.Author.Needs.{needs}
 use Rattle.writers.proofs.write.put_line.Statement.{statement}
 use Rattle.writers.proofs.write.put_line.Tie as tie

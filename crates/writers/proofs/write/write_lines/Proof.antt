@@ -11,7 +11,8 @@ use Rattle.forms.specs.Write.{render, renderFrom, lineOf}
 use Rattle.forms.specs.declared.form.Field.the-variants.{Line}
 use Rattle.forms.proofs.Forms.{sound-take}
 use Rattle.writers.specs.Write.{placed}
-use Rattle.writers.proofs.Writing.{not-end, at-most, short-value, next-line, render-end, line-fits, line-within, line-rest, line-placed, length-placed, placed-none, placed-front, take-whole}
+use Rattle.forms.proofs.Rendering.{not-end, at-most, short-value, next-line, render-end}
+use Rattle.writers.proofs.Writing.{line-fits, line-within, line-rest, line-placed, length-placed, placed-none, placed-front, take-whole}
 use borrow.Author.Needs.{needs}
 use Rattle.writers.proofs.write.write_lines.Statement.{statement}
 use Rattle.writers.proofs.write.write_lines.Tie as tie
