@@ -21,7 +21,7 @@ use Rattle.lists.specs.Answers.{done}
 use Rattle.lists.specs.declared.Answer.{Answer}
 use Rattle.lists.specs.declared.Answer.the-variants.{Done, Plan as Planned, Refused}
 use Rattle.forms.specs.Read.{judgeNetwork, judgePlan}
-use Rattle.forms.proofs.Walks.{done-good}
+use Rattle.forms.proofs.Answers.{done-good}
 use Rattle.forms.proofs.Good.{good-network, good-plan}
 use Rattle.checker.specs.Check.{foundOf, missedOf, unlessMissed, weighSteps, weigh, weighPlan, verdict, checked, marksOf, marksAfter, marksAt}
 use Rattle.checker.specs.declared.steps.Found.the-variants.{Nothing, At}

@@ -1,4 +1,4 @@
--- What is known of a list that is judged good, and that a plan's list of which this is known is judged good.
+-- What is known of a list that is judged good, and that a plan's list of which this is known is judged good. Assumes nothing.
 use mathlib.Core.Path.{_≡_, refl, sym, ap, _∙_}
 use mathlib.Core.Bool.{Bool, true, false, cond, _&&_, _||_, not}
 use mathlib.Core.List.{List, [], _∷_}
@@ -13,18 +13,18 @@ use lib.ListN.{length, getD, take}
 use lib.Seq.{getD-take, length-take-le}
 use borrow.Author.Tests.{le-leb, lt-ltb, le-ltb}
 use Rattle.model.specs.Limits.{mostLinks, mostFlows, mostTunnels, mostSteps, mostAmount, leastShare, mostShare}
-use Rattle.model.specs.Outcome.{Outcome, good, refused}
+use Rattle.model.specs.Outcome.{good}
 use Rattle.model.specs.Rule as rule
 use Rattle.lists.specs.Lists.{at, flowAt, tunnelAt, networkOf, GoodNetwork, GoodPlan}
 use Rattle.forms.specs.Keys.{At}
-use Rattle.forms.specs.Form.{admitsOf, Sound, Whole, allows, fieldOf, networkLines, networkHead, flowLines, flowGroup, tunnelLines, tunnelGroup, planLines, planHead, networkField, networkBody, planField}
+use Rattle.forms.specs.Form.{Sound, Whole, allows, fieldOf, networkLines, networkHead, flowLines, flowGroup, tunnelLines, tunnelGroup, planLines, planHead, networkField, networkBody, planField}
 use Rattle.forms.specs.Read.{addUp, unlessMissed, judgeNetwork, judgePlan}
 use Rattle.forms.specs.Good.{NetworkRanges}
 use Rattle.forms.specs.declared.form.Form.the-variants.{Network, Plan}
 use Rattle.forms.specs.declared.form.Range.the-variants.{Between}
 use Rattle.forms.specs.declared.form.Field.{Field}
 use Rattle.forms.specs.declared.form.Field.the-variants.{Line, End}
-use Rattle.forms.proofs.Forms.{both, between, head-of-network, head-of-plan, network-head-at, network-body-at, plan-head-at, plan-body-at, planBody, rowLines, body-cap, body-flow, body-tunnel, body-end}
+use Rattle.forms.proofs.Forms.{both, between, network-head-at, network-body-at, plan-head-at, plan-body-at, planBody, rowLines, body-cap, body-flow, body-tunnel, body-end}
 use Rattle.forms.proofs.Walks.{judged-good, good-judged}
 
 -- ---- no field of a group is the end
@@ -125,7 +125,6 @@ module _ (l : List ℕ) (w : Whole Network l) where
   head-line i h = network-head-at l (w .sound) i (omega (arith, network-long)) h
 
   pub network-ranges : NetworkRanges l
-  unfolding networkOf
   network-ranges =
       record {
         edition = let p = between 1 1 (at l 0) (head-line 0 (omega arith)) in omega arith;
@@ -143,17 +142,6 @@ module _ (l : List ℕ) (w : Whole Network l) where
         old = λ t h. between 0 mostAmount _ (tunnel-line t 2 (tunnelAt l t + 2) h (omega arith) refl) .1;
         new = λ t h. between 0 mostAmount _ (tunnel-line t 3 (tunnelAt l t + 3) h (omega arith) refl) .1;
       }
-
--- the sizes, as the code reads them from the head
-pub record Sizes (l : List ℕ) : Type 0 where
-  pub links : at l 3 ≤ mostLinks
-  pub flows : at l 4 ≤ mostFlows
-  pub tunnels : at l 5 ≤ mostTunnels
-  pub size : length l ≡ 6 + at l 3 + 2 * at l 4 + 4 * at l 5
-
-pub sizes : (l : List ℕ) → NetworkRanges l → Sizes l
-unfolding networkOf
-sizes l r = record { links = r .links .1; flows = r .flows; tunnels = r .tunnels; size = r .size }
 
 sums-good : (l g : List ℕ) (o : Option rule.Place) → unlessMissed l o ≡ good g → o ≡ none
 sums-good l g none e = refl
@@ -219,11 +207,11 @@ module _ (l : List ℕ) (w : Whole Plan l) where
   pub plan-ranges : GoodPlan l
   plan-ranges =
       record {
+        size = plan-size;
         edition = let p = between 1 1 (at l 0) (plan-head-line 0 (omega arith)) in omega arith;
         parts = between 1 mostSteps (at l 1) (plan-head-line 1 (omega arith));
         steps = between 1 mostSteps (at l 2) (plan-head-line 2 (omega arith));
         tunnels = between 0 mostTunnels (at l 3) (plan-head-line 3 (omega arith)) .1;
-        size = plan-size;
         amounts = λ i four h.
             let e : 4 + (i - 4) ≡ i = omega arith in
             rw e at (body-in (i - 4) (omega (arith, plan-size)) (omega arith));
@@ -250,9 +238,8 @@ module _ (l : List ℕ) (g : GoodPlan l) where
   plan-sound i h (no k) =
       let four : 4 ≤ i = omega arith in
       let n : i - 4 < (at l 2 - 1) * at l 3 = omega (arith, g .size) in
-      let v : at l i ≤ mostAmount * at l 1 = g .amounts i four h in
       rw (length-take-le i l (le-of-lt h), le-ltb i 4 four, getD-take i l 1 0 (omega arith), getD-take i l 2 0 (omega arith), getD-take i l 3 0 (omega arith), lt-ltb (i - 4) ((at l 2 - 1) * at l 3) n)
-      (in-between 0 (mostAmount * at l 1) (at l i) (omega arith) v)
+      (in-between 0 (mostAmount * at l 1) (at l i) (omega arith) (g .amounts i four h))
 
   plan-ends : fieldOf Plan l ≡ End
   unfolding fieldOf planField

@@ -3,8 +3,10 @@ pub mod Slots
 pub mod Numbers
 pub mod Forms
 pub mod Keys
+pub mod Answers
 pub mod Walks
 pub mod Good
 pub mod Gathering
 pub mod Lines
+pub mod Rendering
 pub mod Round

@@ -4,11 +4,11 @@ use mathlib.Core.Bool.{Bool, true, false, cond}
 use mathlib.Core.List.{List, [], _∷_}
 use mathlib.Core.Option.{Option, none, some}
 use Prim.Native.Nat.{ℕ, zero, suc, _+_, _*_, _-_, _/_, _%_, _^_, _≤_, _<_}
-use native.Mathlib.Nat.{add-zero, one-mul, le-antisymm, div-eq-of-lt, div-lt-iff-lt-mul, le-div-iff-mul-le, lt-irrefl, pow-le-pow-right, add-mul, mul-assoc, add-assoc, mul-one, zero-mul, zero-add, mod-one, mod-lt, mod-eq-of-lt, pow-zero, pow-suc, pow-succ', div-one, div-div-eq-div-mul, lt-of-lt-of-le}
+use native.Mathlib.Nat.{add-zero, one-mul, le-antisymm, div-eq-of-lt, div-lt-iff-lt-mul, le-div-iff-mul-le, lt-irrefl, pow-le-pow-right, add-mul, mul-assoc, add-assoc, zero-mul, zero-add, mod-lt, mod-eq-of-lt, pow-zero, pow-suc, pow-succ', div-one, div-div-eq-div-mul, lt-of-lt-of-le}
 use native.Mathlib.Decide.{decLt, ℕ-discrete}
 use native.Mathlib.Omega.{arith}
 use lib.Arith.{mod-mul, digits-mod, digits-div}
-use lib.Dec.{ltb, leb, eqb, lit≤}
+use lib.Dec.{ltb, eqb, lit≤}
 use mathlib.Core.Logic.{_⊎_, inl, inr, ⊎-elim}
 use lib.ListN.{length, getD}
 use borrow.Author.Tests.{ltb-true, ltb-false, eqb-true, eqb-false, lt-ltb, le-ltb, le-leb, lt-leb, eq-eqb, ne-eqb}
@@ -182,6 +182,21 @@ width-wide (suc f) m v s h a =
 width-of : (v : ℕ) → v < 10000000000 → Wide v (widthOf v) × (widthOf v ≤ 10)
 unfolding widthOf
 width-of v h = width-wide 9 1 v (lit≤ tt) h (inl refl)
+
+-- a number below 10^n has at most n digits
+pub width-most : (v n : ℕ) → 1 ≤ n → n ≤ 10 → v < 10 ^ n → widthOf v ≤ n
+width-most v n one most h = go (decLt n (widthOf v))
+  where
+    w : Wide v (widthOf v)
+    w = width-of v (omega (arith, h, ten n 10 most)) .0
+
+    off : n < widthOf v → (widthOf v ≡ 1) ⊎ (10 ^ (widthOf v - 1) ≤ v) → ⊥
+    off k (inl e) = omega arith
+    off k (inr e) = omega (arith, ten n (widthOf v - 1) (omega arith))
+
+    go : Dec (n < widthOf v) → widthOf v ≤ n
+    go (yes k) = absurd (off k (w .above))
+    go (no k) = omega arith
 
 -- the first of a number's digits is no zero, where it has more than one; and where that holds of the first of n digits, the number has n
 first-digit : (v m : ℕ) → v < 10 ^ suc m → 10 ^ m ≤ v → digitChar (v / 10 ^ m % 10) ≡ 48 → ⊥

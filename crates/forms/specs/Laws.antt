@@ -3,7 +3,7 @@ use Prim.Native.Nat.{ℕ, _≤_}
 use mathlib.Core.Path.{_≡_}
 use mathlib.Core.List.{List}
 use lib.ListN.{length}
-use Rattle.model.specs.Outcome.{Outcome, good, refused, Cause}
+use Rattle.model.specs.Outcome.{good, refused, Cause}
 use Rattle.lists.specs.Answers.{withRoom}
 use Rattle.forms.specs.Read.{readLines, judgeNumbers, readText, judgeList}
 use Rattle.forms.specs.Write.{render, writeText}
@@ -14,6 +14,10 @@ pub record Follows (form : Form) (text : List ℕ) : Type 0 where
   pub list : List ℕ
   pub judged : judgeList form list ≡ good list
   pub written : render form list ≡ text
+
+-- "Both read at most 65,536 bytes of a text; no valid text is longer."
+abbrev pub mostBytes : ℕ
+mostBytes = 65536
 
 -- a text is read exactly when it follows the file form
 pub record FileForm (form : Form) : Type 0 where
@@ -29,6 +33,8 @@ pub record FileForm (form : Form) : Type 0 where
   -- together
   pub follows : (text l : List ℕ) → readText form text ≡ good l → Follows form text
   pub read : (text : List ℕ) (f : Follows form text) → readText form text ≡ good (f .list)
+  -- and no such text is longer than a program reads
+  pub short : (text l : List ℕ) → readText form text ≡ good l → length text ≤ mostBytes
 
 -- the two round trips, over what the operations come to with the room that is lent to each
 pub record RoundTrip (form : Form) : Type 0 where
