@@ -1,0 +1,26 @@
+use borrow.Author.Needs.{needs}
+use Rattle.planner.proofs.sums.gather.Statement.{statement}
+use Rattle.planner.proofs.sums.gather.Tie as tie
+use Rattle.planner.proofs.sums.gather.Reads as reads
+use Rattle.planner.proofs.sums.gather.Lts as lts
+use Rattle.planner.proofs.sums.add_table.Reads as add-table-reads
+use Rattle.planner.proofs.sums.split.Reads as split-reads
+
+split-requires : tie.Need-split-requires
+split-requires c κs = search needs
+
+add-table-requires : tie.Need-add-table-requires
+add-table-requires c κs = ?
+
+same-length : tie.Need-same-length
+same-length c = search needs
+
+same-length-2 : tie.Need-same-length-2
+same-length-2 c = search needs
+
+returns : tie.Need-returns
+returns c = ?
+
+pub gather-spec : {M : Type 1} → statement M
+gather-spec =
+    tie.close (tie.spec split-requires add-table-requires same-length same-length-2 returns)
