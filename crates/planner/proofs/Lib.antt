@@ -1,2 +1,4 @@
 pub mod Digits
 pub mod Tables
+pub mod Good
+pub mod Searching

@@ -1,21 +1,27 @@
 -- The laws of the tables of sums.
 use Prim.Native.Nat.{ℕ, zero, suc, _+_, _-_, _*_, _/_, _%_, _^_, _≤_, _<_, max}
-use mathlib.Core.Path.{_≡_, refl, sym, ap, ap₂, _∙_}
+use mathlib.Core.Path.{_≡_, refl, sym, ap, subst, _∙_}
 use mathlib.Core.Logic.{⊎-elim}
 use mathlib.Core.Bool.{Bool, true, false, cond, not, _&&_}
 use mathlib.Core.List.{List}
 use native.Mathlib.Omega.{arith}
 use native.Mathlib.Decide.{decLt}
-use native.Mathlib.Nat.{add-zero}
+use native.Mathlib.Nat.{add-zero, mul-le-mul, mul-le-mul-right}
 use native.Mathlib.Numerals.{add-one}
 use lib.Dec.{eqb, ltb}
-use lib.ListN.{length, getD, set, replicate, length-set, getD-replicate}
+use lib.ListN.{length, getD, set, replicate, length-set, length-replicate, getD-replicate}
 use lib.Seq.{getD-set-same, getD-set-other}
 use borrow.Author.Tests.{eq-eqb, ne-eqb, eqb-true, eqb-false, lt-ltb, le-ltb}
-use Rattle.model.specs.Limits.{mostLinks, mostTunnels, mostAmount}
+use Rattle.model.specs.Limits.{mostLinks, mostTunnels, mostSteps, mostAmount}
+use Rattle.lists.specs.Lists.{at}
+use Rattle.model.specs.Sum.{sumOver}
+use Rattle.model.specs.Net.{Net}
+use Rattle.model.specs.Scan.{Bound}
+use Rattle.model.specs.Rule.{crosses, onLink, counts}
+use Rattle.model.proofs.Sums.{sum-zero, sum-take, sum-skip, sum-bound, sum-both}
 use Rattle.model.proofs.Searches.{bool-cases}
 use Rattle.planner.proofs.Digits.{digits-gone}
-use Rattle.planner.specs.Tables.{Part, tableSize, sumAt, amount, Room, Added, inSet, onPart, Table, unprotected, Loads, Gathered, Joined}
+use Rattle.planner.specs.Tables.{Part, tableSize, sumAt, amount, Room, Added, inSet, onPart, Table, unprotected, Loads, Gathered, Joined, stepSum, endSum}
 
 -- ---- one link
 
@@ -137,3 +143,131 @@ passed-all via link e l =
     | no h ↦ (let k : link + (l - link) ≡ l = omega arith in
         ap (λ (b : Bool). b && inSet via l) (le-ltb l link (omega arith)) ∙ sym (ap (inSet via) (sym k) ∙ ap (λ (d : ℕ). eqb d 1) (digits-gone via link (l - link) e)))
     ]
+
+-- ---- two tables joined, place by place
+
+pub record Joining (i : ℕ) (s more s′ : List ℕ) : Type 0 where
+  pub size : length s′ ≡ tableSize
+  pub each : (k : ℕ) → at s′ k ≡ at s k + cond (ltb k i) (at more k) 0
+
+pub join-none : (s more : List ℕ) → length s ≡ tableSize → Joining 0 s more s
+join-none s more h = record { size = h; each = λ k. sym (ap (λ (b : Bool). at s k + cond b (at more k) 0) (le-ltb k 0 (omega arith)) ∙ add-zero _) }
+
+joined-at : (more : List ℕ) (i k : ℕ) → cond (ltb k i) (at more k) 0 + cond (eqb k i) (at more i) 0 ≡ cond (ltb k (i + 1)) (at more k) 0
+joined-at more i k =
+    elim (decLt k i) [
+      yes h ↦ rw (lt-ltb k i h, ne-eqb k i (λ q. omega arith), lt-ltb k (i + 1) (omega arith)) (add-zero _)
+    | no h ↦ elim (decLt i k) [
+        yes j ↦ rw (le-ltb k i (omega arith), ne-eqb k i (λ q. omega arith), le-ltb k (i + 1) (omega arith)) refl
+      | no j ↦ (let e : k ≡ i = omega arith in rw e (rw (le-ltb i i (omega arith), eq-eqb i i refl, lt-ltb i (i + 1) (omega arith)) (omega arith)))
+      ]
+    ]
+
+pub join-on : (i : ℕ) (s more s′ : List ℕ) → i < tableSize → Joining i s more s′ → Joining (i + 1) s more (set s′ i (at s′ i + at more i))
+join-on i s more s′ h j = record {
+  size = length-set s′ i _ ∙ j .size;
+  each = λ k. omega (arith, store-at s′ i (at more i) k (omega (arith, j .size)), j .each k, joined-at more i k);
+}
+
+pub join-all : (s more s′ : List ℕ) → Joining tableSize s more s′ → Joined s more s′
+join-all s more s′ j = record { size = j .size; each = λ k h. j .each k ∙ ap (λ (b : Bool). at s k + cond b (at more k) 0) (lt-ltb k tableSize h) }
+
+-- a number at a place that is passed later has not changed
+pub join-ahead : (i : ℕ) (s more s′ : List ℕ) → Joining i s more s′ → at s′ i ≡ at s i
+join-ahead i s more s′ j = j .each i ∙ ap (λ (b : Bool). at s i + cond b (at more i) 0) (le-ltb i i (omega arith)) ∙ add-zero _
+
+pub room-at : (n : ℕ) (s : List ℕ) → Room n s → (i : ℕ) → i < tableSize → at s i ≤ n * mostAmount
+room-at n s r i h =
+    elim (decLt i 64) [
+      yes k ↦ r .most Part.old i k
+    | no k ↦ elim (decLt i 128) [
+        yes j ↦ (let e : 64 + (i - 64) ≡ i = omega arith in subst (λ (m : ℕ). at s m ≤ n * mostAmount) e (r .most Part.new (i - 64) (omega arith)))
+      | no j ↦ (let e : 128 + (i - 128) ≡ i = omega arith in subst (λ (m : ℕ). at s m ≤ n * mostAmount) e (r .most Part.peak (i - 128) (omega arith)))
+      ]
+    ]
+
+-- ---- a table of tunnels
+
+-- what a part counts of a tunnel is its amount, on the links of its set
+part-amount : (N : Net) (l : ℕ) (p : Part) (t : ℕ) → onPart N l p t ≡ cond (inSet (N .via t) l) (amount (N .old t) (N .new t) p) 0
+unfolding onPart onLink crosses
+part-amount N l Part.old t = refl
+part-amount N l Part.new t = refl
+part-amount N l Part.peak t = cond-max (inSet (N .via t) l) (N .old t) (N .new t)
+  where
+    cond-max : (b : Bool) (x y : ℕ) → max (cond b x 0) (cond b y 0) ≡ cond b (max x y) 0
+    cond-max true x y = refl
+    cond-max false x y = refl
+
+sum-zeros : (p : Part) (l : ℕ) → l < mostLinks → sumAt (replicate tableSize 0) p l ≡ 0
+sum-zeros Part.old l h = getD-replicate tableSize l 0 0 (omega arith)
+sum-zeros Part.new l h = getD-replicate tableSize (64 + l) 0 0 (omega arith)
+sum-zeros Part.peak l h = getD-replicate tableSize (128 + l) 0 0 (omega arith)
+
+pub table-zero : (N : Net) (c : ℕ → Bool) (s : List ℕ) → s ≡ replicate tableSize 0 → Table N 0 c s
+table-zero N c s e = record {
+  size = ap length e ∙ length-replicate {A = ℕ} tableSize 0;
+  each = λ p l h. ap (λ (z : List ℕ). sumAt z p l) e ∙ sum-zeros p l h ∙ sym (sum-zero c (onPart N l p));
+}
+
+pub table-take : (N : Net) (t : ℕ) (c : ℕ → Bool) (s s′ : List ℕ) → Table N t c s → c t ≡ true → Added (inSet (N .via t)) (N .old t) (N .new t) s s′ → Table N (t + 1) c s′
+table-take N t c s s′ T e a = record {
+  size = a .size ∙ T .size;
+  each = λ p l h. omega (arith, a .each p l h, T .each p l h, part-amount N l p t, sum-take t c (onPart N l p) e);
+}
+
+pub table-skip : (N : Net) (t : ℕ) (c : ℕ → Bool) (s : List ℕ) → Table N t c s → c t ≡ false → Table N (t + 1) c s
+table-skip N t c s T e = record { size = T .size; each = λ p l h. T .each p l h ∙ sym (sum-skip t c (onPart N l p) e) }
+
+-- the amounts of a network's tunnels are in their range
+abbrev pub InRange : Net → Type 0
+InRange N = (N .tunnels ≤ mostTunnels) × ((t : ℕ) → t < N .tunnels → (N .old t ≤ mostAmount) × (N .new t ≤ mostAmount))
+
+-- so no sum is larger than all amounts together: what shows that the sums, and all that is computed from them, fit 64 bits
+pub table-room : (N : Net) (t : ℕ) (c : ℕ → Bool) (s : List ℕ) → Table N t c s → t ≤ N .tunnels → InRange N → Room mostTunnels s
+table-room N t c s T h r = record {
+  size = T .size;
+  most = λ p l k.
+      omega (arith, T .each p l k, mul-le-mul-right mostAmount h, mul-le-mul-right mostAmount (r .0), sum-bound t c (onPart N l p) mostAmount (λ u g.
+      let a = r .1 u (omega arith) in
+      omega (arith, part-amount N l p u, cond-most (inSet (N .via u) l) (amount (N .old u) (N .new u) p), amount-most (N .old u) (N .new u) (a .0) (a .1) p)));
+}
+
+-- the sums of all classes are those of the protected ones and of the others together
+either-class : (b : Bool) (u : ℕ) → cond b u 0 + cond (not b) u 0 ≡ u
+either-class true u = add-zero u
+either-class false u = omega arith
+
+class-sum : (N : Net) (n : ℕ) (x : ℕ → ℕ) → sumOver n (counts N Bound.protected) x + sumOver n (unprotected N) x ≡ sumOver n (counts N Bound.total) x
+unfolding counts
+class-sum N n x = sum-both n (counts N Bound.protected) (unprotected N) (counts N Bound.total) x (λ t u. either-class (counts N Bound.protected t) u)
+
+joined-part : (s more s′ : List ℕ) → Joined s more s′ → (p : Part) (l : ℕ) → l < mostLinks → sumAt s′ p l ≡ sumAt s p l + sumAt more p l
+joined-part s more s′ j Part.old l h = j .each l (omega arith)
+joined-part s more s′ j Part.new l h = j .each (64 + l) (omega arith)
+joined-part s more s′ j Part.peak l h = j .each (128 + l) (omega arith)
+
+pub tables-join : (N : Net) (s more s′ : List ℕ) → Loads N Bound.protected more → Table N (N .tunnels) (unprotected N) s → Joined s more s′ → Loads N Bound.total s′
+tables-join N s more s′ P T j = record {
+  size = j .size;
+  each = λ p l h. omega (arith, joined-part s more s′ j p l h, P .each p l h, T .each p l h, class-sum N (N .tunnels) (onPart N l p));
+}
+
+-- ---- the figures computed from a table
+
+-- "96 tunnels and 50 steps; amounts up to 10,000,000": a load of a plan of even steps, in parts, has at most two such products, and 1500 times it fits 64 bits
+abbrev pub mostProduct : ℕ
+mostProduct = mostSteps * (mostTunnels * mostAmount)
+
+pub product-room : (k x : ℕ) → k ≤ mostSteps → x ≤ mostTunnels * mostAmount → k * x ≤ mostProduct
+product-room k x hk hx = mul-le-mul hk hx
+
+module _ (s : List ℕ) (r : Room mostTunnels s) (l : ℕ) (h : l < mostLinks) where
+  pub end-room : (q : ℕ) → q ≤ mostSteps → endSum s q l ≤ 2 * mostProduct
+  end-room q k =
+      omega (arith, r .most Part.peak l h,
+      product-room (q - 1) (max (at s l) (at s (64 + l))) (omega arith) (omega (arith, r .most Part.old l h, r .most Part.new l h)))
+
+  pub step-room : (i : ℕ) → i < mostSteps → stepSum s mostSteps i l ≤ 3 * mostProduct
+  step-room i k =
+      omega (arith, product-room (mostSteps - suc i) (at s l) (omega arith) (r .most Part.old l h), product-room i (at s (64 + l)) (omega arith) (r .most Part.new l h), r .most Part.peak l h)

@@ -46,9 +46,9 @@ inSet via l = eqb (via / 2 ^ l % 2) 1
 
 -- what a part counts of tunnel t on link l
 unfoldable pub onPart : Net → ℕ → Part → ℕ → ℕ
-onPart N l old t = onLink N l (N .old) t
-onPart N l new t = onLink N l (N .new) t
-onPart N l peak t = max (onLink N l (N .old) t) (onLink N l (N .new) t)
+onPart N l old = onLink N l (N .old)
+onPart N l new = onLink N l (N .new)
+onPart N l peak = λ t. max (onLink N l (N .old) t) (onLink N l (N .new) t)
 
 -- the table of those of the first n tunnels that c picks
 pub record Table (N : Net) (n : ℕ) (c : ℕ → Bool) (s : List ℕ) : Type 0 where

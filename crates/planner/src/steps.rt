@@ -9,6 +9,7 @@ ghost use Rattle.lists.specs.Lists.{networkOf, GoodNetwork};
 ghost use Rattle.planner.specs.Tables.{Room, Gathered, stepSum, endSum};
 ghost use Rattle.planner.specs.Planned.{stuck};
 ghost use Rattle.planner.specs.Search.{answered, isOver};
+use crate::sums;
 use lists::Answer;
 use lists::Network;
 
@@ -34,7 +35,7 @@ fn end_load(table: &[u64], q: u64, link: usize) -> u64
 {
     let old = table[link];
     let new = table[64 + link];
-    let most = if old < new { new } else { old };
+    let most = sums::larger(old, new);
     (q - 1) * most + table[128 + link]
 }
 

@@ -9,7 +9,7 @@ ghost use Rattle.model.specs.Scan.{Bound};
 ghost use Rattle.lists.specs.Lists.{networkOf, GoodNetwork};
 ghost use Rattle.planner.specs.Tables.{tableSize, Room, Added, inSet, Table, unprotected, Loads, Gathered, Joined};
 
-fn larger(a: u64, b: u64) -> u64
+pub fn larger(a: u64, b: u64) -> u64
     ensures { λ r. ⌜ r ≡ max a b ⌝ }
 {
     if a < b { b } else { a }

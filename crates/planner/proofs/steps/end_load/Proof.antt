@@ -1,8 +1,15 @@
+use Prim.Native.Nat.{ℕ, _+_, _-_, _*_, _≤_}
+use mathlib.Core.Path.{ap}
+use native.Mathlib.Omega.{arith}
 use borrow.Author.Needs.{needs}
+use Rattle.lists.specs.Lists.{at}
+use Rattle.planner.specs.Tables.{Part}
+use Rattle.planner.proofs.Tables.{mostProduct, product-room}
 use Rattle.planner.proofs.steps.end_load.Statement.{statement}
 use Rattle.planner.proofs.steps.end_load.Tie as tie
 use Rattle.planner.proofs.steps.end_load.Reads as reads
 use Rattle.planner.proofs.steps.end_load.Lts as lts
+use Rattle.planner.proofs.sums.larger.Reads as larger-reads
 
 mul-old : tie.Need-mul-old
 mul-old c = search needs
@@ -19,11 +26,20 @@ mul-new c = search needs
 shared-slice-read-new : tie.Need-shared-slice-read-new
 shared-slice-read-new c = search needs
 
+larger-requires : tie.Need-larger-requires
+larger-requires c κs = search needs
+
 sub-result : tie.Need-sub-result
 sub-result c = search needs
 
+most-product : (c : lts.After-larger (larger-reads.Asked, larger-reads.Learnt) reads.Pre reads.Post) → (c .before .before .before .before .args .q - 1) * c .larger .result ≤ mostProduct
+most-product c =
+    let a = c .before .before .before .before in
+    product-room (a .args .q - 1) (c .larger .result) (omega arith)
+    (omega (arith, c .larger .ensures, a .pre .0 .most Part.old (a .args .link) (a .pre .3), a .pre .0 .most Part.new (a .args .link) (a .pre .3)))
+
 mul-result : tie.Need-mul-result
-mul-result c = ?
+mul-result c = record { fits = omega (arith, most-product c) }
 
 add-result : tie.Need-add-result
 add-result c = search needs
@@ -35,10 +51,10 @@ shared-slice-read-result : tie.Need-shared-slice-read-result
 shared-slice-read-result c = search needs
 
 add-result-2 : tie.Need-add-result-2
-add-result-2 c = ?
+add-result-2 c = record { fits = omega (arith, most-product (c .before), c .before .before .before .before .before .pre .0 .most Part.peak (c .before .before .before .before .before .args .link) (c .before .before .before .before .before .pre .3)) }
 
 returns : tie.Need-returns
-returns c = ?
+returns c = ap (λ (m : ℕ). (c .before .before .before .before .before .args .q - 1) * m + at (c .before .before .before .before .before .args .table .now) (128 + c .before .before .before .before .before .args .link)) (c .before .larger .ensures)
 
 pub end-load-spec : {M : Type 1} → statement M
 end-load-spec =
@@ -49,6 +65,7 @@ end-load-spec =
     add-new
     mul-new
     shared-slice-read-new
+    larger-requires
     sub-result
     mul-result
     add-result

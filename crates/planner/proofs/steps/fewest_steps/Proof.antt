@@ -1,4 +1,12 @@
+use Prim.Native.Nat.{_-_, _≤_}
+use mathlib.Core.Path.{_≡_, sym, ap, subst, _∙_}
+use native.Mathlib.Omega.{arith}
 use borrow.Author.Needs.{needs}
+use Rattle.model.specs.Limits.{mostSteps}
+use Rattle.model.proofs.Searches.{first-zero}
+use Rattle.lists.specs.Lists.{networkOf}
+use Rattle.planner.specs.Search.{answered}
+use Rattle.planner.proofs.Searching.{untried, fewest-at, fewest-on, fewest-none}
 use Rattle.planner.proofs.steps.fewest_steps.Statement.{statement}
 use Rattle.planner.proofs.steps.fewest_steps.Tie as tie
 use Rattle.planner.proofs.steps.fewest_steps.Reads as reads
@@ -6,31 +14,33 @@ use Rattle.planner.proofs.steps.fewest_steps.Lts as lts
 use Rattle.planner.proofs.steps.fits.Reads as fits-reads
 
 abbrev Inv-loop : tie.InvT-loop
-Inv-loop network protected all tried₀ tried = ?
+Inv-loop network protected all tried₀ tried = (tried ≤ mostSteps) × untried (networkOf network) tried
 
 abbrev μ-loop : tie.MeasureT-loop
-μ-loop network protected all tried₀ tried = ?
+μ-loop network protected all tried₀ tried = mostSteps - tried
 
 loop-holds : tie.Need-loop-holds Inv-loop μ-loop
-loop-holds c = ?
+loop-holds c = (omega arith, first-zero _)
 
 add-q : tie.Need-add-q Inv-loop μ-loop
-add-q c = ?
+add-q c = search needs
 
 fits-requires : tie.Need-fits-requires Inv-loop μ-loop
-fits-requires c κs = ?
+fits-requires c κs = (c .before .before .before .before .before .pre .0, (c .before .before .before .before .before .pre .1, (omega arith, omega arith)))
 
 returns : tie.Need-returns Inv-loop μ-loop
-returns c = ?
+returns c = sym (ap answered (fewest-at _ (c .before .before .before .loop .tried) (c .before .before .before .loop .inv .1) (sym (c .before .fits2 .ensures) ∙ c .if1 .taken) (c .before .before .loop-test .taken)))
 
 loop-less : tie.Need-loop-less Inv-loop μ-loop
-loop-less c = ?
+loop-less c = search needs
 
 loop-again : tie.Need-loop-again Inv-loop μ-loop
-loop-again c = ?
+loop-again c = (omega arith, fewest-on _ (c .before .before .before .loop .tried) (c .before .before .before .loop .inv .1) (sym (c .before .fits2 .ensures) ∙ c .if1 .left))
 
 returns-2 : tie.Need-returns-2 Inv-loop μ-loop
-returns-2 c = ?
+returns-2 c =
+    let e : c .before .loop .tried ≡ mostSteps = omega arith in
+    sym (ap answered (fewest-none _ (subst (untried (networkOf (c .before .before .before .before .before .args .network .now))) e (c .before .loop .inv .1))))
 
 pub fewest-steps-spec : {M : Type 1} → statement M
 fewest-steps-spec =

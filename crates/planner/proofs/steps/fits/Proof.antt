@@ -1,4 +1,17 @@
+use Prim.Native.Nat.{ℕ, _+_, _-_, _*_, _≤_, _<_}
+use mathlib.Core.Path.{_≡_, sym, ap, _∙_}
+use mathlib.Core.Logic.{⊎-elim}
+use native.Mathlib.Omega.{arith}
+use native.Mathlib.Nat.{eq-or-lt-of-le, le-of-suc-le-suc, lt-of-lt-of-le}
+use native.Mathlib.Numerals.{add-one}
 use borrow.Author.Needs.{needs}
+use Rattle.model.specs.Scan.{Bound}
+use Rattle.model.specs.ThreeSums.{endLoad}
+use Rattle.model.proofs.Choices.{factor, room}
+use Rattle.model.proofs.Evens.{even-accepted}
+use Rattle.lists.specs.Lists.{networkOf}
+use Rattle.planner.proofs.Tables.{end-room}
+use Rattle.planner.proofs.Searching.{overrun-most, protected-room, all-room, cap-room, overrun-room, over-protected, over-total, kept-both}
 use Rattle.planner.proofs.steps.fits.Statement.{statement}
 use Rattle.planner.proofs.steps.fits.Tie as tie
 use Rattle.planner.proofs.steps.fits.Reads as reads
@@ -6,64 +19,81 @@ use Rattle.planner.proofs.steps.fits.Lts as lts
 use Rattle.planner.proofs.steps.end_load.Reads as end-load-reads
 
 abbrev Inv-loop : tie.InvT-loop
-Inv-loop network protected all q overrun links link₀ link = ?
+Inv-loop network protected all q overrun links link₀ link =
+    record { low : link ≤ links; kept : (k : ℕ) → k < link → (b : Bound) → factor b * endLoad (networkOf network) b q k ≤ q * room (networkOf network) b k }
 
 abbrev μ-loop : tie.MeasureT-loop
-μ-loop network protected all q overrun links link₀ link = ?
+μ-loop network protected all q overrun links link₀ link = links - link
 
 shared-slice-read-overrun : tie.Need-shared-slice-read-overrun Inv-loop μ-loop
-shared-slice-read-overrun c = ?
+shared-slice-read-overrun c = search needs
 
 shared-slice-read-links : tie.Need-shared-slice-read-links Inv-loop μ-loop
-shared-slice-read-links c = ?
+shared-slice-read-links c = search needs
 
 loop-holds : tie.Need-loop-holds Inv-loop μ-loop
-loop-holds c = ?
+loop-holds c = record { low = omega arith; kept = λ k h. absurd (omega arith) }
 
 add-room : tie.Need-add-room Inv-loop μ-loop
-add-room c = ?
+add-room c = record { fits = omega (arith, c .before .before .before .before .before .before .before .pre .0 .size) }
 
 mul-room : tie.Need-mul-room Inv-loop μ-loop
-mul-room c = ?
+mul-room c = omega (arith, c .before .before .before .before .before .before .before .pre .0 .size)
 
 shared-slice-read-room : tie.Need-shared-slice-read-room Inv-loop μ-loop
-shared-slice-read-room c = ?
+shared-slice-read-room c = omega (arith, c .before .before .before .before .before .before .before .before .pre .0 .size)
 
 mul-room-2 : tie.Need-mul-room-2 Inv-loop μ-loop
-mul-room-2 c = ?
+mul-room-2 c = record { fits = omega (arith, cap-room (c .before .before .before .before .before .before .before .before .args .network .now) (c .before .before .before .before .before .before .before .before .pre .0) (c .before .before .before .before .before .before .before .before .args .protected .now) (c .before .before .before .before .before .before .before .before .args .all .now) (c .before .before .before .before .before .before .before .before .pre .1 .0) (c .before .before .before .before .before .before .before .before .args .q) (c .before .before .loop .link) (c .before .before .before .before .before .before .before .before .pre .1 .1 .1) (c .before .loop-test .taken)) }
 
 end-load-requires : tie.Need-end-load-requires Inv-loop μ-loop
-end-load-requires c κs = ?
+end-load-requires c κs = (protected-room (c .before .before .before .before .before .before .before .before .args .network .now) (c .before .before .before .before .before .before .before .before .pre .0) (c .before .before .before .before .before .before .before .before .args .protected .now) (c .before .before .before .before .before .before .before .before .args .all .now) (c .before .before .before .before .before .before .before .before .pre .1 .0), c .before .before .before .before .before .before .before .before .pre .1 .1 .0, c .before .before .before .before .before .before .before .before .pre .1 .1 .1, omega (arith, c .before .before .before .before .before .before .before .before .pre .0 .links))
 
 returns : tie.Need-returns Inv-loop μ-loop
-returns c = ?
+returns c =
+    sym (over-protected (c .before .before .before .before .before .before .before .before .before .before .args .network .now) (c .before .before .before .before .before .before .before .before .before .before .pre .0) (c .before .before .before .before .before .before .before .before .before .before .args .protected .now) (c .before .before .before .before .before .before .before .before .before .before .args .all .now) (c .before .before .before .before .before .before .before .before .before .before .pre .1 .0) (c .before .before .before .before .before .before .before .before .before .before .args .q) (c .before .before .before .before .loop .link) (c .before .before .before .before .before .before .before .before .before .before .pre .1 .1 .0) (c .before .before .before .loop-test .taken) (omega (arith, c .before .end-load .ensures, c .if1 .taken)))
 
 add-if2 : tie.Need-add-if2 Inv-loop μ-loop
-add-if2 c = ?
+add-if2 c = record { fits = omega (arith, overrun-most (c .before .before .before .before .before .before .before .before .before .before .args .network .now) (c .before .before .before .before .before .before .before .before .before .before .pre .0)) }
 
 mul-if2 : tie.Need-mul-if2 Inv-loop μ-loop
-mul-if2 c = ?
+mul-if2 c = record { fits = omega (arith, overrun-room (c .before .before .before .before .before .before .before .before .before .before .args .network .now) (c .before .before .before .before .before .before .before .before .before .before .pre .0) (c .before .before .before .before .before .before .before .before .before .before .args .protected .now) (c .before .before .before .before .before .before .before .before .before .before .args .all .now) (c .before .before .before .before .before .before .before .before .before .before .pre .1 .0) (c .before .before .before .before .before .before .before .before .before .before .args .q) (c .before .before .before .before .loop .link) (c .before .before .before .before .before .before .before .before .before .before .pre .1 .1 .1) (c .before .before .before .loop-test .taken)) }
 
 end-load-requires-2 : tie.Need-end-load-requires-2 Inv-loop μ-loop
-end-load-requires-2 c κs = ?
+end-load-requires-2 c κs = (all-room (c .before .before .before .before .before .before .before .before .before .before .args .network .now) (c .before .before .before .before .before .before .before .before .before .before .pre .0) (c .before .before .before .before .before .before .before .before .before .before .args .protected .now) (c .before .before .before .before .before .before .before .before .before .before .args .all .now) (c .before .before .before .before .before .before .before .before .before .before .pre .1 .0), c .before .before .before .before .before .before .before .before .before .before .pre .1 .1 .0, c .before .before .before .before .before .before .before .before .before .before .pre .1 .1 .1, omega (arith, c .before .before .before .before .before .before .before .before .before .before .pre .0 .links))
 
 mul-if2-2 : tie.Need-mul-if2-2 Inv-loop μ-loop
-mul-if2-2 c = ?
+mul-if2-2 c = record { fits = omega (arith, c .end-load2 .ensures, end-room (c .before .before .before .before .before .before .before .before .before .before .before .args .all .now) (all-room (c .before .before .before .before .before .before .before .before .before .before .before .args .network .now) (c .before .before .before .before .before .before .before .before .before .before .before .pre .0) (c .before .before .before .before .before .before .before .before .before .before .before .args .protected .now) (c .before .before .before .before .before .before .before .before .before .before .before .args .all .now) (c .before .before .before .before .before .before .before .before .before .before .before .pre .1 .0)) (c .before .before .before .before .before .loop .link) (omega (arith, c .before .before .before .before .before .before .before .before .before .before .before .pre .0 .links)) (c .before .before .before .before .before .before .before .before .before .before .before .args .q) (c .before .before .before .before .before .before .before .before .before .before .before .pre .1 .1 .1)) }
 
 returns-2 : tie.Need-returns-2 Inv-loop μ-loop
-returns-2 c = ?
+returns-2 c =
+    sym (over-total (c .before .before .before .before .before .before .before .before .before .before .before .before .args .network .now) (c .before .before .before .before .before .before .before .before .before .before .before .before .pre .0) (c .before .before .before .before .before .before .before .before .before .before .before .before .args .protected .now) (c .before .before .before .before .before .before .before .before .before .before .before .before .args .all .now) (c .before .before .before .before .before .before .before .before .before .before .before .before .pre .1 .0) (c .before .before .before .before .before .before .before .before .before .before .before .before .args .q) (c .before .before .before .before .before .before .loop .link) (c .before .before .before .before .before .before .before .before .before .before .before .before .pre .1 .1 .0) (c .before .before .before .before .before .loop-test .taken)
+    (omega (arith, ap (λ (w : ℕ). 1000 * w) (c .before .end-load2 .ensures), c .if2 .taken)))
 
 add-link : tie.Need-add-link Inv-loop μ-loop
-add-link c = ?
+add-link c = search needs
 
 loop-less : tie.Need-loop-less Inv-loop μ-loop
-loop-less c = ?
+loop-less c = search needs
 
 loop-again : tie.Need-loop-again Inv-loop μ-loop
-loop-again c = ?
+loop-again c =
+    let i = c .before .before .before .before .before .before in
+    let k = i .loop .link in
+    let here = kept-both (c .before .before .before .before .before .before .before .before .before .before .before .before .args .network .now) (c .before .before .before .before .before .before .before .before .before .before .before .before .pre .0) (c .before .before .before .before .before .before .before .before .before .before .before .before .args .protected .now) (c .before .before .before .before .before .before .before .before .before .before .before .before .args .all .now) (c .before .before .before .before .before .before .before .before .before .before .before .before .pre .1 .0) (c .before .before .before .before .before .before .before .before .before .before .before .before .args .q) k (c .before .before .before .before .before .before .before .before .before .before .before .before .pre .1 .1 .0) (c .before .before .before .before .before .loop-test .taken)
+        (omega (arith, c .before .before .before .end-load .ensures, c .before .before .if1 .left))
+        (omega (arith, ap (λ (w : ℕ). 1000 * w) (c .before .end-load2 .ensures), c .if2 .left)) in
+    record {
+      low = omega arith;
+      kept = λ j h. ⊎-elim (λ (e : j ≡ k). rw e here) (i .loop .inv .kept j) (eq-or-lt-of-le (le-of-suc-le-suc (rw add-one at h)));
+    }
 
 returns-3 : tie.Need-returns-3 Inv-loop μ-loop
-returns-3 c = ?
+unfolding networkOf
+returns-3 c =
+    let a = c .before .before .before .before .before .before .before in
+    let N = networkOf (a .args .network .now) in
+    sym (even-accepted N (a .pre .0 .valid .sums) (a .args .q) (a .pre .1 .1 .0) .1 (λ k h. c .before .loop .inv .kept k (lt-of-lt-of-le h (c .loop-test .left))))
 
 pub fits-spec : {M : Type 1} → statement M
 fits-spec =

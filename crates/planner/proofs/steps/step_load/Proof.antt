@@ -1,4 +1,10 @@
+use Prim.Native.Nat.{_+_, _-_, _*_, _≤_}
+use native.Mathlib.Omega.{arith}
+use native.Mathlib.Numerals.{add-one}
 use borrow.Author.Needs.{needs}
+use Rattle.lists.specs.Lists.{at}
+use Rattle.planner.specs.Tables.{Part}
+use Rattle.planner.proofs.Tables.{mostProduct, product-room}
 use Rattle.planner.proofs.steps.step_load.Statement.{statement}
 use Rattle.planner.proofs.steps.step_load.Tie as tie
 use Rattle.planner.proofs.steps.step_load.Reads as reads
@@ -25,14 +31,20 @@ add-result c = search needs
 sub-result : tie.Need-sub-result
 sub-result c = search needs
 
+old-product : (c : lts.After-shared-slice-known2 reads.Pre reads.Post) → (50 - (c .before .before .args .row + 1)) * at (c .before .before .args .table .now) (c .before .before .args .link) ≤ mostProduct
+old-product c = let a = c .before .before in product-room _ _ (omega arith) (a .pre .0 .most Part.old (a .args .link) (a .pre .2))
+
+new-product : (c : lts.After-shared-slice-known2 reads.Pre reads.Post) → c .before .before .args .row * at (c .before .before .args .table .now) (64 + c .before .before .args .link) ≤ mostProduct
+new-product c = let a = c .before .before in product-room _ _ (omega arith) (a .pre .0 .most Part.new (a .args .link) (a .pre .2))
+
 mul-result : tie.Need-mul-result
-mul-result c = ?
+mul-result c = record { fits = omega (arith, old-product c) }
 
 mul-result-2 : tie.Need-mul-result-2
-mul-result-2 c = ?
+mul-result-2 c = record { fits = omega (arith, new-product c) }
 
 add-result-2 : tie.Need-add-result-2
-add-result-2 c = ?
+add-result-2 c = record { fits = omega (arith, old-product c, new-product c) }
 
 add-result-3 : tie.Need-add-result-3
 add-result-3 c = search needs
@@ -44,10 +56,10 @@ shared-slice-read-result : tie.Need-shared-slice-read-result
 shared-slice-read-result c = search needs
 
 add-result-4 : tie.Need-add-result-4
-add-result-4 c = ?
+add-result-4 c = record { fits = omega (arith, old-product (c .before), new-product (c .before), c .before .before .before .pre .0 .most Part.peak (c .before .before .before .args .link) (c .before .before .before .pre .2)) }
 
 returns : tie.Need-returns
-returns c = ?
+returns c = rw add-one
 
 pub step-load-spec : {M : Type 1} → statement M
 step-load-spec =
