@@ -2,3 +2,4 @@ pub mod Digits
 pub mod Tables
 pub mod Good
 pub mod Searching
+pub mod EvenLists

@@ -36,10 +36,10 @@ pub fn write_plan(network: &[u64], q: u64, out: &mut [u64])
     out[2] = q;
     out[3] = network[5];
     let mut at: usize = 4;
-    let mut a: u64 = 1;
-    while a < q {
-        write_row(network, q, a, &mut out[at..at + tunnels]);
+    let mut done: u64 = 0;
+    while done < q - 1 {
+        done += 1;
+        write_row(network, q, done, &mut out[at..at + tunnels]);
         at += tunnels;
-        a += 1;
     }
 }
