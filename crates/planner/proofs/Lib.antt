@@ -3,3 +3,4 @@ pub mod Tables
 pub mod Good
 pub mod Searching
 pub mod EvenLists
+pub mod Planned

@@ -1,4 +1,14 @@
+use Prim.Native.Nat.{ℕ, _+_, _-_, _*_, _≤_}
+use mathlib.Core.Path.{_≡_, sym, ap, _∙_}
+use mathlib.Core.Option.{some}
+use native.Mathlib.Omega.{arith}
+use native.Mathlib.Nat.{mul-le-mul}
 use borrow.Author.Needs.{needs}
+use Rattle.model.specs.Even.{fewest}
+use Rattle.lists.specs.Lists.{at, networkOf}
+use Rattle.lists.specs.declared.Answer.the-variants.{Plan, Refused}
+use Rattle.planner.proofs.EvenLists.{list-length}
+use Rattle.planner.proofs.Planned.{answered-some, answered-none, fewest-some, no-plan, room-short, room-enough}
 use Rattle.planner.proofs.plan_good.Statement.{statement}
 use Rattle.planner.proofs.plan_good.Tie as tie
 use Rattle.planner.proofs.plan_good.Reads as reads
@@ -42,31 +52,61 @@ first-overload-requires : tie.Need-first-overload-requires
 first-overload-requires c κs = search needs
 
 returns : tie.Need-returns
-returns c = ?
+returns c =
+    let s = c .before .before .before .before .before .before .before .before .before .before .before .before .before .before .before in
+    let k = no-plan _ (s .args .out .now) (answered-none _ (sym (c .before .before .before .before .before .fewest-steps .ensures) ∙ c .before .before .before .enum-told .given .1)) in
+    (c .first-overload .ensures ∙ sym (k .0), sym (k .1))
 
 shared-slice-read-tunnels : tie.Need-shared-slice-read-tunnels
 shared-slice-read-tunnels c = search needs
 
+found : (c : lts.After-known-told (gather-reads.Asked, gather-reads.Learnt, fewest-steps-reads.Asked, fewest-steps-reads.Learnt, first-overload-reads.Asked, first-overload-reads.Learnt, write-plan-reads.Asked, write-plan-reads.Learnt) reads.Pre reads.Post)
+    → fewest (networkOf (c .before .before .before .before .before .before .before .before .before .before .before .before .before .args .network .now)) ≡ some (c .before .fewest .given .0 .0)
+found c = answered-some _ _ (sym (c .before .before .before .fewest-steps .ensures) ∙ c .before .fewest .given .1)
+
+small : (c : lts.After-known-told (gather-reads.Asked, gather-reads.Learnt, fewest-steps-reads.Asked, fewest-steps-reads.Learnt, first-overload-reads.Asked, first-overload-reads.Learnt, write-plan-reads.Asked, write-plan-reads.Learnt) reads.Pre reads.Post)
+    → (c .before .fewest .given .0 .0 - 1) * at (c .before .before .before .before .before .before .before .before .before .before .before .before .before .args .network .now) 5 ≤ 5000
+small c =
+    let k : c .before .fewest .given .0 .0 - 1 ≤ 50 = omega (arith, fewest-some _ _ (found c) .most) in
+    omega (arith, mul-le-mul k (c .before .before .before .before .before .before .before .before .before .before .before .before .before .pre .tunnels))
+
 sub-size : tie.Need-sub-size
-sub-size c = ?
+sub-size c = fewest-some _ _ (found (c .before)) .some-step
 
 mul-size : tie.Need-mul-size
-mul-size c = ?
+mul-size c = record { fits = omega (arith, small (c .before)) }
 
 add-size : tie.Need-add-size
-add-size c = ?
+add-size c = record { fits = omega (arith, small (c .before)) }
 
 returns-2 : tie.Need-returns-2
-returns-2 c = ?
+unfolding networkOf
+returns-2 c =
+    let s = c .before .before .before .before .before .before .before .before .before .before .before .before .before .before .before in
+    let N = networkOf (s .args .network .now) in
+    let n = list-length N (c .before .before .before .fewest .given .0 .0) in
+    let k = room-short N (s .args .out .now) _ (found (c .before .before)) (omega (arith, n, c .if1 .taken)) in
+    (ap (λ (m : ℕ). Refused 10 m 0) (sym n) ∙ sym (k .0), sym (k .1))
 
 write-plan-requires : tie.Need-write-plan-requires
-write-plan-requires c κs = ?
+unfolding networkOf
+write-plan-requires c κs =
+    let s = c .before .before .before .before .before .before .before .before .before .before .before .before .before .before .before .before in
+    let N = networkOf (s .args .network .now) in
+    let f = fewest-some _ _ (found (c .before .before .before)) in
+    (s .pre, (f .some-step, f .most, omega (arith, list-length N (c .before .before .before .before .fewest .given .0 .0), c .before .if1 .left)))
 
 same-length : tie.Need-same-length
 same-length c = search needs
 
 returns-3 : tie.Need-returns-3
-returns-3 c = ?
+unfolding networkOf
+returns-3 c =
+    let s = c .before .before .before .before .before .before .before .before .before .before .before .before .before .before .before .before .before .before .before in
+    let N = networkOf (s .args .network .now) in
+    let n = list-length N (c .before .before .before .before .before .before .before .fewest .given .0 .0) in
+    let k = room-enough N (s .args .out .now) _ (found (c .before .before .before .before .before .before)) (omega (arith, n, c .before .before .before .before .if1 .left)) in
+    (ap Plan (sym n) ∙ sym (k .0), c .before .before .write-plan .ensures ∙ sym (k .1))
 
 pub plan-good-spec : {M : Type 1} → statement M
 plan-good-spec =
