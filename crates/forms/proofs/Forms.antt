@@ -1,0 +1,279 @@
+-- Laws of the forms: sets and shifts, which field stands where, and what the numbers of a sound list are bounded by. Assumes nothing.
+use mathlib.Core.Path.{_≡_, refl, sym, ap, _∙_}
+use mathlib.Core.Bool.{Bool, true, false, cond, _&&_, _||_, not, true≢false, false≢true}
+use mathlib.Core.List.{List, [], _∷_, _++_}
+use Prim.Native.Nat.{ℕ, zero, suc, _+_, _*_, _-_, _/_, _%_, _^_, _≤_, _<_}
+use native.Mathlib.Nat.{le-of-lt, mul-le-mul, lt-of-lt-of-le, div-eq-of-lt, div-eq-sub-div}
+use native.Mathlib.Decide.{decLt}
+use native.Mathlib.Omega.{arith}
+use lib.Dec.{T, eqb, leb, ltb, leb→le, ltb→lt, eqb·suc-zero}
+use lib.Pow.{pow-mono, pow-pos}
+use lib.ListN.{length, getD, take, length-append, List·getD-append}
+use lib.Seq.{take-take, getD-take, length-take-le, take-append-le, take-append-seam, getD-append-seam}
+use borrow.Author.Tests.{ne-eqb, lt-ltb, le-ltb}
+use Rattle.model.specs.Limits.{mostLinks, mostFlows, mostTunnels, mostSteps, mostAmount}
+use Rattle.lists.specs.Lists.{at}
+use Rattle.forms.specs.Keys.{At}
+use Rattle.forms.specs.Form.{isHex, admitsOf, Sound, allows, fieldOf, capLine, networkLines, networkHead, flowLines, flowGroup, tunnelLines, tunnelGroup, planLines, planHead, networkField, networkBody, planField, mostNumbers}
+use Rattle.forms.specs.declared.form.Form.{Form}
+use Rattle.forms.specs.declared.form.Form.the-variants.{Network, Plan}
+use Rattle.forms.specs.declared.form.Range.{Range}
+use Rattle.forms.specs.declared.form.Range.the-variants.{Between, ZeroOr, Below, Set}
+use Rattle.forms.specs.declared.form.Field.{Field}
+use Rattle.forms.specs.declared.form.Field.the-variants.{Line, End}
+
+-- ---- sets and shifts
+
+pub wide-set : (v n : ℕ) → v < 2 ^ 64 → 64 ≤ n → ltb v (2 ^ n) ≡ true
+wide-set v n h k = lt-ltb v (2 ^ n) (lt-of-lt-of-le h (pow-mono k))
+
+pub shifted : (v n : ℕ) → eqb (v / 2 ^ n) 0 ≡ ltb v (2 ^ n)
+shifted v n = go (decLt v (2 ^ n))
+  where
+    go : Dec (v < 2 ^ n) → eqb (v / 2 ^ n) 0 ≡ ltb v (2 ^ n)
+    go (yes h) = rw (div-eq-of-lt h, lt-ltb v (2 ^ n) h)
+    go (no h) =
+        let k : 2 ^ n ≤ v = omega arith in
+        rw (le-ltb v (2 ^ n) k) (ne-eqb (v / 2 ^ n) 0 (λ e. let z : v / 2 ^ n ≡ (v - 2 ^ n) / 2 ^ n + 1 = div-eq-sub-div (pow-pos n) k in omega arith))
+
+-- ---- what a range allows
+
+pub both : (a b : Bool) → T (a && b) → T a × T b
+both true b t = (tt, t)
+both false b t = absurd t
+
+pub between : (low high v : ℕ) → T (leb low v && leb v high) → (low ≤ v) × (v ≤ high)
+between low high v t = (leb→le low v (both (leb low v) (leb v high) t .0), leb→le v high (both (leb low v) (leb v high) t .1))
+
+-- ---- sound lists
+
+pub sound-none : (form : Form) → Sound form []
+unfolding Sound
+sound-none form i h = absurd (omega arith)
+
+-- the numbers before an index of a sound list, and the one there
+pub sound-at : (form : Form) (l : List ℕ) (i : ℕ) → i < length l → Sound form l → T (allows (fieldOf form (take i l)) (getD l i 0))
+unfolding Sound
+sound-at form l i h s = s i h
+
+pub sound-take : (form : Form) (l : List ℕ) (n : ℕ) → n ≤ length l → Sound form l → Sound form (take n l)
+unfolding Sound
+sound-take form l n h s i k =
+    let less : i < n = omega (arith, length-take-le n l h) in
+    rw (take-take i n l (le-of-lt less), getD-take n l i 0 less) (s i (omega arith))
+
+-- a sound list with one number more, which its field allows
+pub sound-more : (form : Form) (l : List ℕ) (v : ℕ) → Sound form l → T (allows (fieldOf form l) v) → Sound form (l ++ (v ∷ []))
+unfolding Sound
+sound-more form l v s t i h = go (decLt i (length l))
+  where
+    go : Dec (i < length l) → T (allows (fieldOf form (take i (l ++ (v ∷ [])))) (getD (l ++ (v ∷ [])) i 0))
+    go (yes k) = rw (take-append-le i l (v ∷ []) (le-of-lt k), List·getD-append l (v ∷ []) 0 i k) (s i k)
+    go (no k) =
+        let e : i ≡ length l = omega (arith, simp length-append at h) in
+        rw (e, take-append-seam l (v ∷ []), getD-append-seam l v [] 0) t
+
+-- ---- the network's fields
+
+module _ (links flows tunnels : ℕ) where
+  pub body-cap : (k : ℕ) → k < links → networkBody links flows tunnels k ≡ capLine
+  unfolding networkBody
+  body-cap k h = rw (lt-ltb k links h)
+
+  pub body-flow : (f j : ℕ) → f < flows → j < 2 → networkBody links flows tunnels (links + 2 * f + j) ≡ flowGroup j
+  unfolding networkBody
+  body-flow f j h k =
+      let x : links ≤ links + 2 * f + j = omega arith in
+      let y : (links + 2 * f + j - links) / 2 < flows = omega arith in
+      let z : (links + 2 * f + j - links) % 2 ≡ j = omega arith in
+      rw (le-ltb (links + 2 * f + j) links x, lt-ltb ((links + 2 * f + j - links) / 2) flows y, z)
+
+  pub body-tunnel : (t j : ℕ) → t < tunnels → j < 4 → networkBody links flows tunnels (links + 2 * flows + 4 * t + j) ≡ tunnelGroup links flows j
+  unfolding networkBody
+  body-tunnel t j h k =
+      let n : ℕ = links + 2 * flows + 4 * t + j in
+      let x : links ≤ links + 2 * flows + 4 * t + j = omega arith in
+      let m : links + 2 * flows + 4 * t + j - links ≡ 2 * flows + (4 * t + j) = omega arith in
+      let d : 2 * flows + (4 * t + j) - 2 * flows ≡ 4 * t + j = omega arith in
+      let y : flows ≤ (2 * flows + (4 * t + j)) / 2 = omega arith in
+      let w : (4 * t + j) / 4 < tunnels = omega arith in
+      let z : (4 * t + j) % 4 ≡ j = omega arith in
+      rw (le-ltb (links + 2 * flows + 4 * t + j) links x, m, le-ltb ((2 * flows + (4 * t + j)) / 2) flows y, d, lt-ltb ((4 * t + j) / 4) tunnels w, z)
+
+  pub body-end : (n : ℕ) → links + 2 * flows + 4 * tunnels ≤ n → networkBody links flows tunnels n ≡ End
+  unfolding networkBody
+  body-end n h =
+      let x : links ≤ n = omega arith in
+      let y : flows ≤ (n - links) / 2 = omega arith in
+      let z : tunnels ≤ (n - links - 2 * flows) / 4 = omega arith in
+      rw (le-ltb n links x, le-ltb ((n - links) / 2) flows y, le-ltb ((n - links - 2 * flows) / 4) tunnels z)
+
+-- a sound network's number in the head, and after it
+module _ (l : List ℕ) (s : Sound Network l) where
+  pub network-head-at : (i : ℕ) → i < length l → i < 6 → T (allows (networkHead i) (at l i))
+  unfolding fieldOf networkField
+  network-head-at i h k =
+      let n : length (take i l) ≡ i = length-take-le i l (le-of-lt h) in
+      rw (n, lt-ltb i 6 k) at (sound-at Network l i h s)
+
+  pub network-body-at : (n : ℕ) → 6 + n < length l → T (allows (networkBody (at l 3) (at l 4) (at l 5) n) (at l (6 + n)))
+  unfolding fieldOf networkField
+  network-body-at n h =
+      let m : length (take (6 + n) l) ≡ 6 + n = length-take-le (6 + n) l (le-of-lt h) in
+      let k : 6 ≤ 6 + n = omega arith in
+      let d : 6 + n - 6 ≡ n = omega arith in
+      rw (m, le-ltb (6 + n) 6 k, getD-take (6 + n) l 3 0 (omega arith), getD-take (6 + n) l 4 0 (omega arith), getD-take (6 + n) l 5 0 (omega arith), d)
+      at (sound-at Network l (6 + n) h s)
+
+pub record NetworkHead (l : List ℕ) : Type 0 where
+  pub links : (1 ≤ at l 3) × (at l 3 ≤ mostLinks)
+  pub flows : at l 4 ≤ mostFlows
+  pub tunnels : at l 5 ≤ mostTunnels
+
+pub head-of-network : (l : List ℕ) → Sound Network l → 6 ≤ length l → NetworkHead l
+head-of-network l s h =
+    record {
+      links = between 1 mostLinks (at l 3) (network-head-at l s 3 (omega arith) (omega arith));
+      flows = between 0 mostFlows (at l 4) (network-head-at l s 4 (omega arith) (omega arith)) .1;
+      tunnels = between 0 mostTunnels (at l 5) (network-head-at l s 5 (omega arith) (omega arith)) .1;
+    }
+
+-- ---- the plan's fields
+
+-- how many lines follow the head, and the field after n of them
+abbrev pub rowLines : List ℕ → ℕ
+rowLines l = (at l 2 - 1) * at l 3
+
+abbrev pub planBody : List ℕ → ℕ → Field
+planBody l n = cond (ltb n (rowLines l)) (Line At (Between 0 (mostAmount * at l 1))) End
+
+module _ (l : List ℕ) (s : Sound Plan l) where
+  pub plan-head-at : (i : ℕ) → i < length l → i < 4 → T (allows (planHead i) (at l i))
+  unfolding fieldOf planField
+  plan-head-at i h k =
+      let n : length (take i l) ≡ i = length-take-le i l (le-of-lt h) in
+      rw (n, lt-ltb i 4 k) at (sound-at Plan l i h s)
+
+  pub plan-body-at : (n : ℕ) → 4 + n < length l → T (allows (planBody l n) (at l (4 + n)))
+  unfolding fieldOf planField
+  plan-body-at n h =
+      let m : length (take (4 + n) l) ≡ 4 + n = length-take-le (4 + n) l (le-of-lt h) in
+      let k : 4 ≤ 4 + n = omega arith in
+      let d : 4 + n - 4 ≡ n = omega arith in
+      rw (m, le-ltb (4 + n) 4 k, getD-take (4 + n) l 1 0 (omega arith), getD-take (4 + n) l 2 0 (omega arith), getD-take (4 + n) l 3 0 (omega arith), d)
+      at (sound-at Plan l (4 + n) h s)
+
+pub record PlanHead (l : List ℕ) : Type 0 where
+  pub parts : (1 ≤ at l 1) × (at l 1 ≤ mostSteps)
+  pub steps : (1 ≤ at l 2) × (at l 2 ≤ mostSteps)
+  pub tunnels : at l 3 ≤ mostTunnels
+
+pub head-of-plan : (l : List ℕ) → Sound Plan l → 4 ≤ length l → PlanHead l
+head-of-plan l s h =
+    record {
+      parts = between 1 mostSteps (at l 1) (plan-head-at l s 1 (omega arith) (omega arith));
+      steps = between 1 mostSteps (at l 2) (plan-head-at l s 2 (omega arith) (omega arith));
+      tunnels = between 0 mostTunnels (at l 3) (plan-head-at l s 3 (omega arith) (omega arith)) .1;
+    }
+
+-- ---- no list of a form is longer than the most numbers
+
+pub full : (form : Form) (l : List ℕ) → Sound form l → mostNumbers ≤ length l → fieldOf form l ≡ End
+unfolding fieldOf networkField planField
+full Network l s h =
+    let b = head-of-network l s (omega arith) in
+    let w : 6 ≤ length l = omega arith in
+    rw (le-ltb (length l) 6 w) (body-end (at l 3) (at l 4) (at l 5) (length l - 6) (omega arith))
+full Plan l s h =
+    let b = head-of-plan l s (omega arith) in
+    let q : at l 2 - 1 ≤ 49 = omega arith in
+    let p : (at l 2 - 1) * at l 3 ≤ 49 * 96 = mul-le-mul q (b .tunnels) in
+    let x : (at l 2 - 1) * at l 3 ≤ length l - 4 = omega arith in
+    let w : 4 ≤ length l = omega arith in
+    simp (le-ltb (length l) 4 w, le-ltb (length l - 4) ((at l 2 - 1) * at l 3) x)
+
+pub room : (form : Form) (l : List ℕ) (v : ℕ) → Sound form l → T (allows (fieldOf form l) v) → length l < mostNumbers
+room form l v s t = go (decLt (length l) mostNumbers)
+  where
+    go : Dec (length l < mostNumbers) → length l < mostNumbers
+    go (yes h) = h
+    go (no h) =
+        let e : fieldOf form l ≡ End = full form l s (omega arith) in
+        absurd (rw e at t)
+
+-- ---- a bound on every range that a field can have
+
+abbrev Low : Field → Type 0
+Low End = Unit {0}
+Low (Line k (Between low high)) = high ≤ mostAmount * mostSteps
+Low (Line k (ZeroOr low high)) = high ≤ mostAmount * mostSteps
+Low (Line k (Below n)) = n ≤ mostAmount * mostSteps
+Low (Line k (Set n)) = n ≤ mostLinks
+
+low-cond : (b : Bool) (x y : Field) → Low x → Low y → Low (cond b x y)
+low-cond true x y p q = p
+low-cond false x y p q = q
+
+abbrev Lows : List Field → Type 0
+Lows [] = Unit {0}
+Lows (f ∷ fs) = Low f × Lows fs
+
+low-at : (fs : List Field) (n : ℕ) → Lows fs → Low (getD fs n End)
+low-at [] n p = tt
+low-at (f ∷ fs) zero p = p .0
+low-at (f ∷ fs) (suc n) p = low-at fs n (p .1)
+
+lit : (n : ℕ) → T (leb n (mostAmount * mostSteps)) → n ≤ mostAmount * mostSteps
+lit n t = leb→le n (mostAmount * mostSteps) t
+
+low-body : (links flows tunnels n : ℕ) → links ≤ mostLinks → flows ≤ mostFlows → Low (networkBody links flows tunnels n)
+unfolding networkBody
+low-body links flows tunnels n hl h =
+    let m : ℕ = n - links in
+    low-cond (ltb n links) capLine _ (lit mostAmount tt)
+    (low-cond (ltb (m / 2) flows) (getD flowLines (m % 2) End) _ (low-at flowLines (m % 2) (lit 2 tt, (lit mostAmount tt, tt)))
+    (low-cond (ltb ((m - 2 * flows) / 4) tunnels) (getD (tunnelLines links flows) ((m - 2 * flows) % 4) End) End
+    (low-at (tunnelLines links flows) ((m - 2 * flows) % 4) (omega arith, (hl, (lit mostAmount tt, (lit mostAmount tt, tt))))) tt))
+
+low-field : (form : Form) (l : List ℕ) → Sound form l → Low (fieldOf form l)
+unfolding fieldOf networkField planField
+low-field Network l s = go (decLt (length l) 6)
+  where
+    go : Dec (length l < 6) → Low (networkField l)
+    go (yes h) = rw (lt-ltb (length l) 6 h) (low-at networkLines (length l) (lit 1 tt, (lit 500 tt, (lit 500 tt, (lit 64 tt, (lit 32 tt, (lit 96 tt, tt)))))))
+    go (no h) =
+        let k : 6 ≤ length l = omega arith in
+        let b = head-of-network l s k in
+        rw (le-ltb (length l) 6 k) (low-body (at l 3) (at l 4) (at l 5) (length l - 6) (b .links .1) (b .flows))
+low-field Plan l s = go (decLt (length l) 4)
+  where
+    go : Dec (length l < 4) → Low (planField l)
+    go (yes h) = rw (lt-ltb (length l) 4 h) (low-at planLines (length l) (lit 1 tt, (lit 50 tt, (lit 50 tt, (lit 96 tt, tt)))))
+    go (no h) =
+        let k : 4 ≤ length l = omega arith in
+        let b = head-of-plan l s k in
+        rw (le-ltb (length l) 4 k) (low-cond (ltb (length l - 4) (rowLines l)) (Line At (Between 0 (mostAmount * at l 1))) End (omega (arith, b .parts .1)) tt)
+
+-- no number that is written in decimal has more than 10 digits, and none in hexadecimal more than 16
+pub zero-or : (low high v : ℕ) → T (eqb v 0 || (leb low v && leb v high)) → v ≤ high
+zero-or low high zero t = omega arith
+zero-or low high (suc v) t = between low high (suc v) (rw (eqb·suc-zero v) at t) .1
+
+low-decimal : (k : ℕ) (r : Range) (v : ℕ) → Low (Line k r) → T (admitsOf r v) → isHex r ≡ false → v < 10000000000
+low-decimal k (Between low high) v b t e = omega (arith, between low high v t .1)
+low-decimal k (ZeroOr low high) v b t e = omega (arith, zero-or low high v t)
+low-decimal k (Below n) v b t e = omega (arith, ltb→lt v n t)
+low-decimal k (Set n) v b t e = absurd (true≢false e)
+
+low-hex : (k : ℕ) (r : Range) (v : ℕ) → Low (Line k r) → T (admitsOf r v) → isHex r ≡ true → v < 2 ^ 64
+low-hex k (Between low high) v b t e = absurd (false≢true e)
+low-hex k (ZeroOr low high) v b t e = absurd (false≢true e)
+low-hex k (Below n) v b t e = absurd (false≢true e)
+low-hex k (Set n) v b t e = lt-of-lt-of-le (ltb→lt v (2 ^ n) (both (not (eqb v 0)) (ltb v (2 ^ n)) t .1)) (pow-mono b)
+
+module _ (form : Form) (l : List ℕ) (k : ℕ) (r : Range) (v : ℕ) (s : Sound form l) (e : fieldOf form l ≡ Line k r) (t : T (admitsOf r v)) where
+  pub small : isHex r ≡ false → v < 10000000000
+  small x = low-decimal k r v (rw e at (low-field form l s)) t x
+
+  pub small-set : isHex r ≡ true → v < 2 ^ 64
+  small-set x = low-hex k r v (rw e at (low-field form l s)) t x

@@ -1,0 +1,10 @@
+pub mod Table
+pub mod Slots
+pub mod Numbers
+pub mod Forms
+pub mod Keys
+pub mod Walks
+pub mod Good
+pub mod Gathering
+pub mod Lines
+pub mod Round

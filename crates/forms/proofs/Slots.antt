@@ -1,0 +1,39 @@
+-- The table of keys: each slot has its prefix, by a test that antt computes over the table. Assumes nothing.
+use mathlib.Core.Path.{_≡_, refl, ap, _∙_}
+use mathlib.Core.Bool.{Bool, true, false, _&&_}
+use mathlib.Core.List.{List, [], _∷_}
+use Prim.Native.Nat.{ℕ, _+_, _*_, _≤_, _<_}
+use lib.Dec.{T, eqb, leb, leb→le, eqb→eq}
+use lib.ListN.{length, getD, take, drop}
+use Rattle.forms.specs.Keys.{keyBytes, prefixOf}
+use Rattle.forms.proofs.Table.{at}
+
+abbrev pub lengths : List ℕ
+lengths = 4 ∷ 8 ∷ 8 ∷ 6 ∷ 6 ∷ 8 ∷ 4 ∷ 6 ∷ 5 ∷ 5 ∷ 4 ∷ 4 ∷ 4 ∷ 5 ∷ 6 ∷ 6 ∷ 3 ∷ []
+
+abbrev same : List ℕ → List ℕ → Bool
+same [] [] = true
+same [] (y ∷ ys) = false
+same (x ∷ xs) [] = false
+same (x ∷ xs) (y ∷ ys) = eqb x y && same xs ys
+
+both : (a b : Bool) → T (a && b) → T a × T b
+both true b t = (tt, t)
+both false b t = absurd t
+
+same-eq : (xs ys : List ℕ) → T (same xs ys) → xs ≡ ys
+same-eq [] [] t = refl
+same-eq [] (y ∷ ys) t = absurd t
+same-eq (x ∷ xs) [] t = absurd t
+same-eq (x ∷ xs) (y ∷ ys) t =
+    let p = both (eqb x y) (same xs ys) t in
+    ap (λ (a : ℕ). a ∷ xs) (eqb→eq x y (p .0)) ∙ ap (λ (l : List ℕ). y ∷ l) (same-eq xs ys (p .1))
+
+right : ℕ → ℕ → Bool
+right k n = leb (k * 10 + n) 170 && same (take n (drop (k * 10) keyBytes)) (prefixOf k)
+
+pub slot : (k : ℕ) → k < 17 → (k * 10 + getD lengths k 0 ≤ 170) × (take (getD lengths k 0) (drop (k * 10) keyBytes) ≡ prefixOf k)
+unfolding right
+slot k h =
+    let p = both (leb (k * 10 + getD lengths k 0) 170) (same (take (getD lengths k 0) (drop (k * 10) keyBytes)) (prefixOf k)) (at right lengths tt k h) in
+    (leb→le _ _ (p .0), same-eq _ _ (p .1))

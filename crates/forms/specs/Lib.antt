@@ -1,0 +1,9 @@
+pub mod Bytes
+pub mod Keys
+pub mod Form
+pub mod Line
+pub mod Read
+pub mod Write
+pub mod Sums
+pub mod Good
+pub mod Laws

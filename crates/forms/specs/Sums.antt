@@ -1,0 +1,14 @@
+-- The sums that the code gathers in one pass over the tunnels.
+use Prim.Native.Nat.{ℕ, _<_}
+use mathlib.Core.Path.{_≡_}
+use mathlib.Core.List.{List}
+use lib.Dec.{eqb}
+use lib.ListN.{length, getD}
+use Rattle.model.specs.Limits.{mostFlows}
+use Rattle.model.specs.Sum.{sumOver}
+use Rattle.model.specs.Net.{Net}
+
+-- a sum for each flow that a network can have: its amounts x, as far as the first n tunnels go
+pub record Gathered (N : Net) (x : ℕ → ℕ) (n : ℕ) (s : List ℕ) : Type 0 where
+  pub size : length s ≡ mostFlows
+  pub sums : (f : ℕ) → f < mostFlows → getD s f 0 ≡ sumOver n (λ t. eqb (N .flow t) f) x

@@ -1,0 +1,69 @@
+// The judges of lists: the numbers, one after the other, each for 3, then 2; then, for a network, the sums.
+ghost use mathlib.Core.Path.{_≡_};
+ghost use Prim.Native.Nat.{_+_, _≤_};
+ghost use Rattle.lists.specs.Answers.{done};
+ghost use Rattle.forms.specs.Form.{secondOf, mostNumbers};
+ghost use Rattle.forms.specs.Read.{judgeNumbers, judgeNetwork, judgePlan};
+use crate::form;
+use crate::form::Field;
+use crate::form::Form;
+use crate::sums;
+use lists::Answer;
+
+// The refusal of the number at i, whose line is i + 1.
+fn refusal(number: u64, i: usize, form: Form) -> Answer
+    requires { ⌜ i ≤ mostNumbers ⌝ }
+    ensures { λ r. ⌜ r ≡ Answer.Refused number (i + 1) (secondOf form) ⌝ }
+{
+    Answer::Refused {
+        number,
+        place: (i + 1) as u64,
+        second: form::second(form),
+    }
+}
+
+fn judge_numbers(form: Form, list: &[u64]) -> Answer
+    ensures { λ r. ⌜ r ≡ done (judgeNumbers form (now (list .entry))) ⌝ }
+{
+    let mut i: usize = 0;
+    loop {
+        let field = form::field_after(form, &list[..i]);
+        let Field::Line(_, range) = field else {
+            if i == list.len() {
+                return Answer::Done(i);
+            }
+            return refusal(3, i, form);
+        };
+        if i == list.len() {
+            return refusal(3, i, form);
+        }
+        if form::admits(range, list[i]) {
+            i += 1;
+        } else {
+            return refusal(2, i, form);
+        }
+    }
+}
+
+// Judges the list of a network. Done carries its length.
+pub fn judge_network(list: &[u64]) -> Answer
+    ensures { λ r. ⌜ r ≡ done (judgeNetwork (now (list .entry))) ⌝ }
+{
+    let answer = judge_numbers(Form::Network, list);
+    match answer {
+        Answer::Done(_) => sums::add_up(list),
+        Answer::Plan(_) => answer,
+        Answer::Refused {
+            number: _,
+            place: _,
+            second: _,
+        } => answer,
+    }
+}
+
+// Judges the list of a plan. Done carries its length.
+pub fn judge_plan(list: &[u64]) -> Answer
+    ensures { λ r. ⌜ r ≡ done (judgePlan (now (list .entry))) ⌝ }
+{
+    judge_numbers(Form::Plan, list)
+}

@@ -1,0 +1,174 @@
+// The readers: a text's lines, one after the other, each judged for 3, then 1, then 2; then, for a network, the sums.
+ghost use mathlib.Core.Path.{_≡_};
+ghost use mathlib.Core.List.{_++_};
+ghost use Prim.Native.Nat.{_≤_};
+ghost use lib.ListN.{length, drop};
+ghost use Rattle.model.specs.Outcome.{Outcome};
+ghost use Rattle.lists.specs.Answers.{done, withRoom, lent};
+ghost use Rattle.forms.specs.Keys.{keyBytes};
+ghost use Rattle.forms.specs.Form.{mostNumbers, secondOf};
+ghost use Rattle.forms.specs.Read.{readLines, readNetwork, readPlan};
+ghost use Rattle.readers.specs.Read.{takenOf, stopOf, Holds};
+use crate::line;
+use crate::line::Value;
+use forms::form;
+use forms::form::Field;
+use forms::form::Form;
+use forms::form::Range;
+use forms::sums;
+use lists::Answer;
+
+// What the next line gives: its number and where the line after it begins, or the number of its refusal.
+pub(crate) enum Taken {
+    Number(u64, usize),
+    Stop(u64),
+}
+
+// The line at `at`: judged for 3, then 1, then 2.
+fn take_line(keys: &[u8], text: &[u8], at: usize, key: usize, range: Range) -> Taken
+    requires { ⌜ now keys ≡ keyBytes ⌝ }
+    requires { ⌜ at ≤ length (now text) ⌝ }
+    ensures { λ r. ⌜ r ≡ takenOf key range (now (text .entry)) at ⌝ }
+{
+    if at == text.len() {
+        return Taken::Stop(3);
+    }
+    let name = form::key_part(keys, key);
+    let d = line::digits(text, at, name);
+    let Value::Is(v) = line::parse(d, form::is_hex(range)) else {
+        return Taken::Stop(1);
+    };
+    if form::admits(range, v) {
+        let next = at + name.len() + d.len() + 1;
+        Taken::Number(v, next)
+    } else {
+        Taken::Stop(2)
+    }
+}
+
+// The number of a line's refusal; 0 where there is none.
+fn stop(taken: Taken) -> u64
+    ensures { λ r. ⌜ r ≡ stopOf taken ⌝ }
+{
+    match taken {
+        Taken::Number(_, _) => 0,
+        Taken::Stop(number) => number,
+    }
+}
+
+fn refusal(number: u64, line: u64, form: Form) -> Answer
+    ensures { λ r. ⌜ r ≡ Answer.Refused number line (secondOf form) ⌝ }
+{
+    Answer::Refused {
+        number,
+        place: line,
+        second: form::second(form),
+    }
+}
+
+// Reads the lines of a text into a list. Done carries how many numbers that is.
+fn read(form: Form, keys: &[u8], text: &[u8], vals: &mut [u64]) -> Answer
+    requires { ⌜ now keys ≡ keyBytes ⌝ }
+    requires { ⌜ length (now vals) ≡ mostNumbers ⌝ }
+    ensures { λ r. ⌜ r ≡ done (readLines form (now (text .entry))) ⌝ }
+    ensures { λ r. ⌜ Holds (readLines form (now (text .entry))) (now (vals .exit)) ⌝ }
+{
+    let mut line: u64 = 1;
+    let mut at: usize = 0;
+    let mut i: usize = 0;
+    loop {
+        let field = form::field_after(form, &vals[..i]);
+        let Field::Line(key, range) = field else {
+            if at == text.len() {
+                return Answer::Done(i);
+            }
+            return refusal(3, line, form);
+        };
+        let taken = take_line(keys, text, at, key, range);
+        let Taken::Number(v, next) = taken else {
+            return refusal(stop(taken), line, form);
+        };
+        vals[i] = v;
+        i += 1;
+        at = next;
+        line += 1;
+    }
+}
+
+// Copies a list to the front of another.
+fn copy(src: &[u64], dst: &mut [u64])
+    requires { ⌜ length (now src) ≤ length (now dst) ⌝ }
+    ensures { λ _. ⌜ now (dst .exit) ≡ now (src .entry) ++ drop (length (now (src .entry))) (now (dst .entry)) ⌝ }
+{
+    let mut i: usize = 0;
+    while i < src.len() {
+        dst[i] = src[i];
+        i += 1;
+    }
+}
+
+// Hands a list over to the caller's, where that has room for it.
+fn give(list: &[u64], out: &mut [u64]) -> Answer
+    ensures { λ r. ⌜ r ≡ done (withRoom (length (now (out .entry))) (Outcome.good (now (list .entry)))) ⌝ }
+    ensures { λ r. ⌜ now (out .exit) ≡ lent (withRoom (length (now (out .entry))) (Outcome.good (now (list .entry)))) (now (out .entry)) ⌝ }
+{
+    let n = list.len();
+    if out.len() < n {
+        return Answer::Refused {
+            number: 10,
+            place: n as u64,
+            second: 0,
+        };
+    }
+    copy(list, out);
+    Answer::Done(n)
+}
+
+// Reads a network text into a list of numbers, one for each line.
+pub fn read_network(text: &[u8], out: &mut [u64]) -> Answer
+    ensures { λ r. ⌜ r ≡ done (withRoom (length (now (out .entry))) (readNetwork (now (text .entry)))) ⌝ }
+    ensures { λ r. ⌜ now (out .exit) ≡ lent (withRoom (length (now (out .entry))) (readNetwork (now (text .entry)))) (now (out .entry)) ⌝ }
+{
+    let keys = form::KEYS;
+    let mut vals = [0u64; 4708];
+    let lines = read(Form::Network, &keys, text, &mut vals);
+    match lines {
+        Answer::Done(n) => {
+            let answer = sums::add_up(&vals[..n]);
+            match answer {
+                Answer::Done(_) => give(&vals[..n], out),
+                Answer::Plan(_) => answer,
+                Answer::Refused {
+                    number: _,
+                    place: _,
+                    second: _,
+                } => answer,
+            }
+        }
+        Answer::Plan(_) => lines,
+        Answer::Refused {
+            number: _,
+            place: _,
+            second: _,
+        } => lines,
+    }
+}
+
+// Reads a plan text into a list of numbers, one for each line.
+pub fn read_plan(text: &[u8], out: &mut [u64]) -> Answer
+    ensures { λ r. ⌜ r ≡ done (withRoom (length (now (out .entry))) (readPlan (now (text .entry)))) ⌝ }
+    ensures { λ r. ⌜ now (out .exit) ≡ lent (withRoom (length (now (out .entry))) (readPlan (now (text .entry)))) (now (out .entry)) ⌝ }
+{
+    let keys = form::KEYS;
+    let mut vals = [0u64; 4708];
+    let lines = read(Form::Plan, &keys, text, &mut vals);
+    match lines {
+        Answer::Done(n) => give(&vals[..n], out),
+        Answer::Plan(_) => lines,
+        Answer::Refused {
+            number: _,
+            place: _,
+            second: _,
+        } => lines,
+    }
+}
