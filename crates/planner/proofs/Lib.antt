@@ -4,3 +4,4 @@ pub mod Good
 pub mod Searching
 pub mod EvenLists
 pub mod Planned
+pub mod Judged

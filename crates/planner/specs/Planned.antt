@@ -1,4 +1,4 @@
--- What the planner comes to, for every network.
+-- What the planner comes to, for every list.
 use Prim.Native.Nat.{ℕ, zero, suc, _-_}
 use mathlib.Core.List.{List, [], _∷_, _++_}
 use mathlib.Core.Option.{Option, none, some}
@@ -6,6 +6,8 @@ use Rattle.model.specs.Outcome.{Outcome, good, refused, noEvenPlan}
 use Rattle.model.specs.Net.{Net}
 use Rattle.model.specs.Scan.{Overload, step}
 use Rattle.model.specs.Even.{evenRow, fewest, stuckAt}
+use Rattle.lists.specs.Lists.{networkOf}
+use Rattle.forms.specs.Read.{andThen, judgeNetwork}
 
 -- x 0, x 1, .. x (n - 1)
 unfoldable pub listed : ℕ → (ℕ → ℕ) → List ℕ
@@ -33,3 +35,7 @@ byFewest N (some q) = good (evenList N q)
 
 unfoldable pub evenPlan : Net → Outcome (List ℕ)
 evenPlan N = byFewest N (fewest N)
+
+-- the planner's whole outcome: the network's list is judged first, and its refusal passed on
+unfoldable pub planned : List ℕ → Outcome (List ℕ)
+planned l = andThen (judgeNetwork l) (λ g. evenPlan (networkOf g))

@@ -3,8 +3,9 @@ ghost use mathlib.Core.Path.{_≡_};
 ghost use lib.ListN.{length};
 ghost use Rattle.lists.specs.Answers.{withRoom, plan, lent};
 ghost use Rattle.lists.specs.Lists.{networkOf, GoodNetwork};
-ghost use Rattle.planner.specs.Planned.{evenPlan};
+ghost use Rattle.planner.specs.Planned.{evenPlan, planned};
 use crate::steps::Fewest;
+use forms::judge;
 use lists::Answer;
 
 mod rows;
@@ -35,4 +36,22 @@ fn plan_good(network: &[u64], out: &mut [u64]) -> Answer
     }
     rows::write_plan(network, q, out);
     Answer::Plan(size)
+}
+
+// Makes the even plan of fewest steps. Refuses a list that is no network, a network that no even plan of 1 to 50 steps suits, and an output without room; a refusal leaves
+// the output as it was.
+pub fn make_plan(network: &[u64], out: &mut [u64]) -> Answer
+    ensures { λ r. ⌜ r ≡ plan (withRoom (length (now (out .entry))) (planned (now (network .entry)))) ⌝ }
+    ensures { λ _. ⌜ now (out .exit) ≡ lent (withRoom (length (now (out .entry))) (planned (now (network .entry)))) (now (out .entry)) ⌝ }
+{
+    let judged = judge::judge_network(network);
+    match judged {
+        Answer::Done(_) => plan_good(network, out),
+        Answer::Plan(_) => judged,
+        Answer::Refused {
+            number: _,
+            place: _,
+            second: _,
+        } => judged,
+    }
 }
