@@ -1,15 +1,17 @@
 -- The list of an even plan: its length, its numbers, and how it is written.
 use Prim.Native.Nat.{ℕ, zero, suc, _+_, _-_, _*_, _≤_, _<_}
 use mathlib.Core.Path.{_≡_, refl, sym, ap, ap₂, _∙_}
+use mathlib.Core.Logic.{⊎-elim}
 use mathlib.Core.List.{List, [], _∷_, _++_, append-assoc, append-nil}
 use native.Mathlib.Omega.{arith}
+use native.Mathlib.Nat.{add-assoc, mul-le-mul-right, eq-or-lt-of-le, le-of-suc-le-suc}
 use native.Mathlib.Numerals.{add-one}
-use lib.ListN.{length, getD, set, take, drop, length-append, length-drop, length-set}
-use lib.Seq.{drop-cons, drop-length, append-snoc, set-at, take-at, drop-at, drop-drop, drop-set-lt}
+use lib.ListN.{length, getD, set, take, drop, length-append, length-drop, length-set, List·getD-append}
+use lib.Seq.{getD-at, getD-append-add, drop-cons, drop-length, append-snoc, set-at, take-at, drop-at, drop-drop, drop-set-lt}
 use Rattle.model.specs.Net.{Net}
 use Rattle.model.specs.Even.{evenRow}
 use Rattle.model.proofs.Rows.{even-at}
-use Rattle.lists.specs.Lists.{at, tunnelAt, networkOf}
+use Rattle.lists.specs.Lists.{at, tunnelAt, networkOf, planOf}
 use Rattle.planner.specs.Planned.{listed, evenRows, evenList}
 
 -- ---- one row
@@ -114,3 +116,44 @@ module _ (N : Net) (q : ℕ) (s : List ℕ) where
   written-all n r e h =
       e ∙ ap (λ (k : ℕ). ((1 ∷ q ∷ q ∷ N .tunnels ∷ []) ++ evenRows N q k) ++ drop (4 + k * N .tunnels) s) h
       ∙ ap (λ (k : ℕ). evenList N q ++ drop k s) (sym (list-length N q))
+
+-- ---- the numbers of the list, at their places
+
+listed-at : (n : ℕ) (x : ℕ → ℕ) (t : ℕ) → t < n → getD (listed n x) t 0 ≡ x t
+unfolding listed
+listed-at zero x t h = absurd (omega arith)
+listed-at (suc n) x t h =
+    ⊎-elim
+    (λ (e : t ≡ n). ap (λ (i : ℕ). getD (listed n x ++ x n ∷ []) i 0) e ∙ getD-at (listed n x) (x n) [] 0 n (listed-length n x) ∙ ap x (sym e))
+    (λ k. List·getD-append (listed n x) (x n ∷ []) 0 t (rw (listed-length n x) k) ∙ listed-at n x t k)
+    (eq-or-lt-of-le (le-of-suc-le-suc h))
+
+rows-at : (N : Net) (q n i t : ℕ) → i < n → t < N .tunnels → getD (evenRows N q n) (i * N .tunnels + t) 0 ≡ evenRow N q (suc i) t
+unfolding evenRows
+rows-at N q zero i t h k = absurd (omega arith)
+rows-at N q (suc n) i t h k =
+    let T : ℕ = N .tunnels in
+    let R : List ℕ = evenRows N q n in
+    let row : List ℕ = listed T (evenRow N q (suc n)) in
+    ⊎-elim
+    (λ (e : i ≡ n).
+        let here : i * T + t ≡ length R + t = ap (λ (m : ℕ). m * T + t) e ∙ ap (λ (m : ℕ). m + t) (sym (rows-length N q n)) in
+        ap (λ (j : ℕ). getD (R ++ row) j 0) here ∙ getD-append-add R row t 0 ∙ listed-at T (evenRow N q (suc n)) t k ∙ ap (λ (m : ℕ). evenRow N q (suc m) t) (sym e))
+    (λ less. List·getD-append R row 0 (i * T + t) (omega (arith, rows-length N q n, mul-le-mul-right T less)) ∙ rows-at N q n i t less k)
+    (eq-or-lt-of-le (le-of-suc-le-suc h))
+
+module _ (N : Net) (q : ℕ) where
+  -- parts, steps and tunnels
+  pub list-head : (at (evenList N q) 0 ≡ 1) × (at (evenList N q) 1 ≡ q) × (at (evenList N q) 2 ≡ q) × (at (evenList N q) 3 ≡ N .tunnels)
+  unfolding evenList
+  list-head = (refl, refl, refl, refl)
+
+  -- row a, tunnel t
+  pub list-at : (a t : ℕ) → 1 ≤ a → a < q → t < N .tunnels → planOf (evenList N q) .at a t ≡ evenRow N q a t
+  unfolding planOf evenList
+  list-at a t one less k =
+      let e : suc (a - 1) ≡ a = omega arith in
+      ap (λ (i : ℕ). at (evenList N q) i) (add-assoc 4 ((a - 1) * N .tunnels) t)
+      ∙ getD-append-add (1 ∷ q ∷ q ∷ N .tunnels ∷ []) (evenRows N q (q - 1)) ((a - 1) * N .tunnels + t) 0
+      ∙ rows-at N q (q - 1) (a - 1) t (omega arith) k
+      ∙ ap (λ (i : ℕ). evenRow N q i t) e

@@ -5,3 +5,4 @@ pub mod Searching
 pub mod EvenLists
 pub mod Planned
 pub mod Judged
+pub mod Main
