@@ -29,7 +29,7 @@ use Rattle.planner.specs.Planned.{evenList, stuck, byFewest, evenPlan, p
 use Rattle.planner.specs.Claim.{FewestSteps, NoneBelow, Safe, Claim}
 use Rattle.planner.proofs.EvenLists.{list-length, list-head, list-at}
 use Rattle.planner.proofs.Planned.{fewest-some}
-use Rattle.planner.proofs.Judged.{judged-network, planned-good}
+use Rattle.planner.proofs.Judged.{judged-network, planned-good, planned-nine}
 
 -- ---- the cases of the outcome
 
@@ -150,6 +150,20 @@ nine l j h =
     let s = stuck-somewhere N (judged-network l l j .1 .valid .sums) e in
     (s .0, s .1, planned-good l j ∙ ap (byFewest N) e ∙ ap stuck (s .1))
 
+nine-by-fewest : (N : Net) (o : Option ℕ) (p s : ℕ) → byFewest N o ≡ refused noEvenPlan p s → o ≡ none
+unfolding byFewest
+nine-by-fewest N none p s e = refl
+nine-by-fewest N (some q) p s e = let z : _≡_ {A = ℕ} 0 1 = cc in absurd (omega arith)
+
+pub nine-only : (l : List ℕ) (place second : ℕ) → planned l ≡ refused noEvenPlan place second
+    → (judgeNetwork l ≡ good l) × ((q : ℕ) → 1 ≤ q → q ≤ mostSteps → accepted (networkOf l) (even (networkOf l) q) ≡ false)
+unfolding evenPlan
+nine-only l place second e =
+    let n = planned-nine l place second e in
+    (n .0, none-accepted (networkOf l) (nine-by-fewest (networkOf l) (fewest (networkOf l)) place second (n .1)))
+
+-- ---- a network that keeps its scratch
+
 pub bounded : (l : List ℕ) → judgeNetwork l ≡ good l → keepsScratch (networkOf l) ≡ true
     → (p : List ℕ) × (planned l ≡ good p) × ((room : ℕ) → length p ≤ room → withRoom room (planned l) ≡ good p)
     × (at p 2 ≤ stepBound (networkOf l .scratch) (networkOf l .overrun))
@@ -164,3 +178,6 @@ bounded l j k =
       λ room h. ap (withRoom room) e ∙ ap (λ (t : Bool). cond t (good p) (refused noRoom (length p) 0)) (le-leb (length p) room h),
       rw (list-head N (b .0) .2) (b .2),
     )
+
+pub claim : Claim
+claim = record { safe = safe; fewest = fewest-steps; nine = nine; nine-only = nine-only; bounded = bounded }
