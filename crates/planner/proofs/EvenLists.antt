@@ -100,7 +100,7 @@ module _ (N : Net) (q : ℕ) (s : List ℕ) where
       let after : drop k r ≡ drop (4 + n * N .tunnels) s = ap₂ drop hk e ∙ drop-at (start n) _ _ (start-length n) in
       let next : (4 + n * N .tunnels) + m ≡ 4 + suc n * N .tunnels = omega arith in
       let rest : drop m (drop k r) ≡ drop (4 + suc n * N .tunnels) s =
-          ap (drop m) after ∙ drop-drop m (4 + n * N .tunnels) s ∙ ap (λ (j : ℕ). drop j s) next in
+      ap (drop m) after ∙ drop-drop m (4 + n * N .tunnels) s ∙ ap (λ (j : ℕ). drop j s) next in
       rw (add-one n) (
       ap₂ (λ (x y : List ℕ). x ++ (row ++ y)) before rest
       ∙ sym (append-assoc (start n) row _)
@@ -137,8 +137,8 @@ rows-at N q (suc n) i t h k =
     let row : List ℕ = listed T (evenRow N q (suc n)) in
     ⊎-elim
     (λ (e : i ≡ n).
-        let here : i * T + t ≡ length R + t = ap (λ (m : ℕ). m * T + t) e ∙ ap (λ (m : ℕ). m + t) (sym (rows-length N q n)) in
-        ap (λ (j : ℕ). getD (R ++ row) j 0) here ∙ getD-append-add R row t 0 ∙ listed-at T (evenRow N q (suc n)) t k ∙ ap (λ (m : ℕ). evenRow N q (suc m) t) (sym e))
+    let here : i * T + t ≡ length R + t = ap (λ (m : ℕ). m * T + t) e ∙ ap (λ (m : ℕ). m + t) (sym (rows-length N q n)) in
+    ap (λ (j : ℕ). getD (R ++ row) j 0) here ∙ getD-append-add R row t 0 ∙ listed-at T (evenRow N q (suc n)) t k ∙ ap (λ (m : ℕ). evenRow N q (suc m) t) (sym e))
     (λ less. List·getD-append R row 0 (i * T + t) (omega (arith, rows-length N q n, mul-le-mul-right T less)) ∙ rows-at N q n i t less k)
     (eq-or-lt-of-le (le-of-suc-le-suc h))
 

@@ -25,20 +25,22 @@ pub judged-network : (l g : List ℕ) → judgeNetwork l ≡ good g → (g ≡ l
 unfolding networkOf
 judged-network l g e =
     let j = good-network l g e in
-    let r = j .1 .ranges in
-    (j .0, record {
-      size = r .size;
-      links = r .links;
-      flows = r .flows;
-      tunnels = r .tunnels;
-      cap = r .cap;
-      rate = r .rate;
-      flow = r .flow;
-      via = λ t h. r .via t h .1;
-      old = r .old;
-      new = r .new;
-      valid = record { scratch = r .scratch; overrun = r .overrun; sums = j .1 .sums };
-    })
+    let r = j .1 .ranges in (
+      j .0,
+      record {
+        size = r .size;
+        links = r .links;
+        flows = r .flows;
+        tunnels = r .tunnels;
+        cap = r .cap;
+        rate = r .rate;
+        flow = r .flow;
+        via = λ t h. r .via t h .1;
+        old = r .old;
+        new = r .new;
+        valid = record { scratch = r .scratch; overrun = r .overrun; sums = j .1 .sums };
+      },
+    )
 
 pub planned-good : (l : List ℕ) → judgeNetwork l ≡ good l → planned l ≡ evenPlan (networkOf l)
 unfolding planned

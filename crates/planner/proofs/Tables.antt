@@ -114,21 +114,22 @@ pub passed-on : (via link z : ℕ) → ((j : ℕ) → j < z → inSet via (link 
     → (l x : ℕ) → cond (passed via link l) x 0 + cond (eqb l (link + z)) x 0 ≡ cond (passed via (link + z + 1) l) x 0
 passed-on via link z none one l x =
     elim (decLt l link) [
-      yes h ↦ rw (lt-ltb l link h, ne-eqb l (link + z) (λ q. omega arith), lt-ltb l (link + z + 1) (omega arith)) (add-zero _)
-    | no h ↦ rw (le-ltb l link (omega arith)) (beyond h)
+      | yes h ↦ rw (lt-ltb l link h, ne-eqb l (link + z) (λ q. omega arith), lt-ltb l (link + z + 1) (omega arith)) (add-zero _)
+      | no h ↦ rw (le-ltb l link (omega arith)) (beyond h)
     ]
   where
     between : ¬ (l < link) → l < link + z → inSet via l ≡ false
     between h k =
         let e : link + (l - link) ≡ l = omega arith in
         ap (inSet via) (sym e) ∙ none (l - link) (omega arith)
+
     beyond : ¬ (l < link) → 0 + cond (eqb l (link + z)) x 0 ≡ cond (passed via (link + z + 1) l) x 0
     beyond h =
         elim (decLt l (link + z)) [
-          yes k ↦ rw (ne-eqb l (link + z) (λ q. omega arith), lt-ltb l (link + z + 1) (omega arith), between h k) refl
-        | no k ↦ elim (decLt (link + z) l) [
-            yes j ↦ rw (ne-eqb l (link + z) (λ q. omega arith), le-ltb l (link + z + 1) (omega arith)) refl
-          | no j ↦ (let e : l ≡ link + z = omega arith in rw e (rw (eq-eqb (link + z) (link + z) refl, lt-ltb (link + z) (link + z + 1) (omega arith), one) (omega arith)))
+          | yes k ↦ rw (ne-eqb l (link + z) (λ q. omega arith), lt-ltb l (link + z + 1) (omega arith), between h k) refl
+          | no k ↦ elim (decLt (link + z) l) [
+            | yes j ↦ rw (ne-eqb l (link + z) (λ q. omega arith), le-ltb l (link + z + 1) (omega arith)) refl
+            | no j ↦ (let e : l ≡ link + z = omega arith in rw e (rw (eq-eqb (link + z) (link + z) refl, lt-ltb (link + z) (link + z + 1) (omega arith), one) (omega arith)))
           ]
         ]
 
@@ -139,9 +140,9 @@ passed-none via l = sym (ap (λ (b : Bool). b && inSet via l) (le-ltb l 0 (omega
 pub passed-all : (via link : ℕ) → via / 2 ^ link ≡ 0 → (l : ℕ) → passed via link l ≡ inSet via l
 passed-all via link e l =
     elim (decLt l link) [
-      yes h ↦ ap (λ (b : Bool). b && inSet via l) (lt-ltb l link h)
-    | no h ↦ (let k : link + (l - link) ≡ l = omega arith in
-        ap (λ (b : Bool). b && inSet via l) (le-ltb l link (omega arith)) ∙ sym (ap (inSet via) (sym k) ∙ ap (λ (d : ℕ). eqb d 1) (digits-gone via link (l - link) e)))
+      | yes h ↦ ap (λ (b : Bool). b && inSet via l) (lt-ltb l link h)
+      | no h ↦ (let k : link + (l - link) ≡ l = omega arith in
+          ap (λ (b : Bool). b && inSet via l) (le-ltb l link (omega arith)) ∙ sym (ap (inSet via) (sym k) ∙ ap (λ (d : ℕ). eqb d 1) (digits-gone via link (l - link) e)))
     ]
 
 -- ---- two tables joined, place by place
@@ -156,10 +157,10 @@ join-none s more h = record { size = h; each = λ k. sym (ap (λ (b : Bool). at 
 joined-at : (more : List ℕ) (i k : ℕ) → cond (ltb k i) (at more k) 0 + cond (eqb k i) (at more i) 0 ≡ cond (ltb k (i + 1)) (at more k) 0
 joined-at more i k =
     elim (decLt k i) [
-      yes h ↦ rw (lt-ltb k i h, ne-eqb k i (λ q. omega arith), lt-ltb k (i + 1) (omega arith)) (add-zero _)
-    | no h ↦ elim (decLt i k) [
-        yes j ↦ rw (le-ltb k i (omega arith), ne-eqb k i (λ q. omega arith), le-ltb k (i + 1) (omega arith)) refl
-      | no j ↦ (let e : k ≡ i = omega arith in rw e (rw (le-ltb i i (omega arith), eq-eqb i i refl, lt-ltb i (i + 1) (omega arith)) (omega arith)))
+      | yes h ↦ rw (lt-ltb k i h, ne-eqb k i (λ q. omega arith), lt-ltb k (i + 1) (omega arith)) (add-zero _)
+      | no h ↦ elim (decLt i k) [
+        | yes j ↦ rw (le-ltb k i (omega arith), ne-eqb k i (λ q. omega arith), le-ltb k (i + 1) (omega arith)) refl
+        | no j ↦ (let e : k ≡ i = omega arith in rw e (rw (le-ltb i i (omega arith), eq-eqb i i refl, lt-ltb i (i + 1) (omega arith)) (omega arith)))
       ]
     ]
 
@@ -179,10 +180,10 @@ join-ahead i s more s′ j = j .each i ∙ ap (λ (b : Bool). at s i + cond b (a
 pub room-at : (n : ℕ) (s : List ℕ) → Room n s → (i : ℕ) → i < tableSize → at s i ≤ n * mostAmount
 room-at n s r i h =
     elim (decLt i 64) [
-      yes k ↦ r .most Part.old i k
-    | no k ↦ elim (decLt i 128) [
-        yes j ↦ (let e : 64 + (i - 64) ≡ i = omega arith in subst (λ (m : ℕ). at s m ≤ n * mostAmount) e (r .most Part.new (i - 64) (omega arith)))
-      | no j ↦ (let e : 128 + (i - 128) ≡ i = omega arith in subst (λ (m : ℕ). at s m ≤ n * mostAmount) e (r .most Part.peak (i - 128) (omega arith)))
+      | yes k ↦ r .most Part.old i k
+      | no k ↦ elim (decLt i 128) [
+        | yes j ↦ (let e : 64 + (i - 64) ≡ i = omega arith in subst (λ (m : ℕ). at s m ≤ n * mostAmount) e (r .most Part.new (i - 64) (omega arith)))
+        | no j ↦ (let e : 128 + (i - 128) ≡ i = omega arith in subst (λ (m : ℕ). at s m ≤ n * mostAmount) e (r .most Part.peak (i - 128) (omega arith)))
       ]
     ]
 
@@ -228,9 +229,15 @@ pub table-room : (N : Net) (t : ℕ) (c : ℕ → Bool) (s : List ℕ) → Table
 table-room N t c s T h r = record {
   size = T .size;
   most = λ p l k.
-      omega (arith, T .each p l k, mul-le-mul-right mostAmount h, mul-le-mul-right mostAmount (r .0), sum-bound t c (onPart N l p) mostAmount (λ u g.
-      let a = r .1 u (omega arith) in
-      omega (arith, part-amount N l p u, cond-most (inSet (N .via u) l) (amount (N .old u) (N .new u) p), amount-most (N .old u) (N .new u) (a .0) (a .1) p)));
+      omega (
+        arith,
+        T .each p l k,
+        mul-le-mul-right mostAmount h,
+        mul-le-mul-right mostAmount (r .0),
+        sum-bound t c (onPart N l p) mostAmount (λ u g.
+            let a = r .1 u (omega arith) in
+            omega (arith, part-amount N l p u, cond-most (inSet (N .via u) l) (amount (N .old u) (N .new u) p), amount-most (N .old u) (N .new u) (a .0) (a .1) p)),
+      );
 }
 
 -- the sums of all classes are those of the protected ones and of the others together
@@ -265,8 +272,11 @@ product-room k x hk hx = mul-le-mul hk hx
 module _ (s : List ℕ) (r : Room mostTunnels s) (l : ℕ) (h : l < mostLinks) where
   pub end-room : (q : ℕ) → q ≤ mostSteps → endSum s q l ≤ 2 * mostProduct
   end-room q k =
-      omega (arith, r .most Part.peak l h,
-      product-room (q - 1) (max (at s l) (at s (64 + l))) (omega arith) (omega (arith, r .most Part.old l h, r .most Part.new l h)))
+      omega (
+        arith,
+        r .most Part.peak l h,
+        product-room (q - 1) (max (at s l) (at s (64 + l))) (omega arith) (omega (arith, r .most Part.old l h, r .most Part.new l h)),
+      )
 
   pub step-room : (i : ℕ) → i < mostSteps → stepSum s mostSteps i l ≤ 3 * mostProduct
   step-room i k =

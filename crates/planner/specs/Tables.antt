@@ -17,12 +17,12 @@ pub data Part : Type 0 where
   old new peak : Part
 
 abbrev pub tableSize : ℕ
-tableSize = 192
+tableSize = 3 * mostLinks
 
 abbrev pub sumAt : List ℕ → Part → ℕ → ℕ
 sumAt s old l = at s l
-sumAt s new l = at s (64 + l)
-sumAt s peak l = at s (128 + l)
+sumAt s new l = at s (mostLinks + l)
+sumAt s peak l = at s (2 * mostLinks + l)
 
 -- what a tunnel of the amounts o and n adds to a part
 abbrev pub amount : ℕ → ℕ → Part → ℕ

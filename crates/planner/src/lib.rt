@@ -18,8 +18,8 @@ fn plan_good(network: &[u64], out: &mut [u64]) -> Answer
     ensures { λ r. ⌜ r ≡ plan (withRoom (length (now (out .entry))) (evenPlan (networkOf (now (network .entry))))) ⌝ }
     ensures { λ _. ⌜ now (out .exit) ≡ lent (withRoom (length (now (out .entry))) (evenPlan (networkOf (now (network .entry))))) (now (out .entry)) ⌝ }
 {
-    let mut protected = [0u64; 192];
-    let mut all = [0u64; 192];
+    let mut protected = [0u64; sums::TABLE];
+    let mut all = [0u64; sums::TABLE];
     sums::gather(network, &mut protected, &mut all);
     let fewest = steps::fewest_steps(network, &protected, &all);
     let Fewest::Steps(q) = fewest else {

@@ -24,8 +24,8 @@ fn step_load(table: &[u64], row: u64, link: usize) -> u64
     ensures { λ r. ⌜ r ≡ stepSum (now (table .entry)) mostSteps row link ⌝ }
 {
     let old = table[link];
-    let new = table[64 + link];
-    (Network::STEPS - (row + 1)) * old + row * new + table[128 + link]
+    let new = table[sums::NEW_AT + link];
+    (Network::STEPS - (row + 1)) * old + row * new + table[sums::PEAK_AT + link]
 }
 
 // The larger of a link's worst loads in the first step and in the last, of the plan of q steps: no step's load is larger.
@@ -34,9 +34,9 @@ fn end_load(table: &[u64], q: u64, link: usize) -> u64
     ensures { λ r. ⌜ r ≡ endSum (now (table .entry)) q link ⌝ }
 {
     let old = table[link];
-    let new = table[64 + link];
+    let new = table[sums::NEW_AT + link];
     let most = sums::larger(old, new);
-    (q - 1) * most + table[128 + link]
+    (q - 1) * most + table[sums::PEAK_AT + link]
 }
 
 // Is the even plan of q steps accepted?

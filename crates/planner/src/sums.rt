@@ -8,6 +8,14 @@ ghost use Rattle.model.specs.Limits.{mostAmount, mostLinks, mostTunnels};
 ghost use Rattle.model.specs.Scan.{Bound};
 ghost use Rattle.lists.specs.Lists.{networkOf, GoodNetwork};
 ghost use Rattle.planner.specs.Tables.{tableSize, Room, Added, inSet, Table, unprotected, Loads, Gathered, Joined};
+use lists::Network;
+
+// Where a table's second part begins, and its third, and where it ends.
+pub const NEW_AT: usize = Network::LINKS as usize;
+
+pub const PEAK_AT: usize = 2 * NEW_AT;
+
+pub const TABLE: usize = 3 * NEW_AT;
 
 pub fn larger(a: u64, b: u64) -> u64
     ensures { λ r. ⌜ r ≡ max a b ⌝ }
@@ -28,8 +36,8 @@ fn add_link(table: &mut [u64], link: usize, old: u64, new: u64)
     ensures { λ _. ⌜ Added (λ l. eqb l link) old new (now (table .entry)) (now (table .exit)) ⌝ }
 {
     add(table, link, old);
-    add(table, 64 + link, new);
-    add(table, 128 + link, larger(old, new));
+    add(table, NEW_AT + link, new);
+    add(table, PEAK_AT + link, larger(old, new));
 }
 
 // Adds a tunnel's amounts to the sums of each link that it crosses. The links are found by the set's lowest bit.
@@ -80,7 +88,7 @@ fn add_table(more: &[u64], table: &mut [u64])
     ensures { λ _. ⌜ Joined (now (table .entry)) (now (more .entry)) (now (table .exit)) ⌝ }
 {
     let mut i: usize = 0;
-    while i < 192 {
+    while i < TABLE {
         table[i] += more[i];
         i += 1;
     }

@@ -1,3 +1,4 @@
+-- `planner::make_plan` meets its contract.
 use mathlib.Core.Path.{_≡_, sym, ap, _∙_}
 use lib.ListN.{length}
 use borrow.Author.Needs.{needs}
@@ -9,10 +10,6 @@ use Rattle.forms.proofs.Walks.{done-good, done-plan}
 use Rattle.planner.proofs.Judged.{judged-network, planned-good, planned-refused}
 use Rattle.planner.proofs.make_plan.Statement.{statement}
 use Rattle.planner.proofs.make_plan.Tie as tie
-use Rattle.planner.proofs.make_plan.Reads as reads
-use Rattle.planner.proofs.make_plan.Lts as lts
-use Rattle.forms.proofs.judge.judge_network.Reads as judge-network-reads
-use Rattle.planner.proofs.plan_good.Reads as plan-good-reads
 
 judge-network-requires : tie.Need-judge-network-requires
 judge-network-requires c κs = search needs

@@ -1,3 +1,4 @@
+-- `planner::plan_good` meets its contract.
 use Prim.Native.Nat.{ℕ, _+_, _-_, _*_, _≤_}
 use mathlib.Core.Path.{_≡_, sym, ap, _∙_}
 use mathlib.Core.Option.{some}
@@ -11,12 +12,6 @@ use Rattle.planner.proofs.EvenLists.{list-length}
 use Rattle.planner.proofs.Planned.{answered-some, answered-none, fewest-some, no-plan, room-short, room-enough}
 use Rattle.planner.proofs.plan_good.Statement.{statement}
 use Rattle.planner.proofs.plan_good.Tie as tie
-use Rattle.planner.proofs.plan_good.Reads as reads
-use Rattle.planner.proofs.plan_good.Lts as lts
-use Rattle.planner.proofs.rows.write_plan.Reads as write-plan-reads
-use Rattle.planner.proofs.steps.fewest_steps.Reads as fewest-steps-reads
-use Rattle.planner.proofs.steps.first_overload.Reads as first-overload-reads
-use Rattle.planner.proofs.sums.gather.Reads as gather-reads
 
 slice-aggregate-gather : tie.Need-slice-aggregate-gather
 slice-aggregate-gather c = search needs
@@ -60,11 +55,11 @@ returns c =
 shared-slice-read-tunnels : tie.Need-shared-slice-read-tunnels
 shared-slice-read-tunnels c = search needs
 
-found : (c : lts.After-known-told (gather-reads.Asked, gather-reads.Learnt, fewest-steps-reads.Asked, fewest-steps-reads.Learnt, first-overload-reads.Asked, first-overload-reads.Learnt, write-plan-reads.Asked, write-plan-reads.Learnt) reads.Pre reads.Post)
+found : (c : tie.After-known-told)
     → fewest (networkOf (c .before .before .before .before .before .before .before .before .before .before .before .before .before .args .network .now)) ≡ some (c .before .fewest .given .0 .0)
 found c = answered-some _ _ (sym (c .before .before .before .fewest-steps .ensures) ∙ c .before .fewest .given .1)
 
-small : (c : lts.After-known-told (gather-reads.Asked, gather-reads.Learnt, fewest-steps-reads.Asked, fewest-steps-reads.Learnt, first-overload-reads.Asked, first-overload-reads.Learnt, write-plan-reads.Asked, write-plan-reads.Learnt) reads.Pre reads.Post)
+small : (c : tie.After-known-told)
     → (c .before .fewest .given .0 .0 - 1) * at (c .before .before .before .before .before .before .before .before .before .before .before .before .before .args .network .now) 5 ≤ 5000
 small c =
     let k : c .before .fewest .given .0 .0 - 1 ≤ 50 = omega (arith, fewest-some _ _ (found c) .most) in

@@ -1,3 +1,4 @@
+-- `planner::rows::write_plan` meets its contract.
 use Prim.Native.Nat.{ℕ, _+_, _-_, _*_, _≤_}
 use mathlib.Core.Path.{_≡_, sym, ap, _∙_}
 use mathlib.Core.List.{List, [], _∷_, _++_}
@@ -11,9 +12,6 @@ use Rattle.planner.specs.Planned.{evenList}
 use Rattle.planner.proofs.EvenLists.{list-length, head-stored, head-length, head-rest, Written, written-none, written-on, written-length, written-all}
 use Rattle.planner.proofs.rows.write_plan.Statement.{statement}
 use Rattle.planner.proofs.rows.write_plan.Tie as tie
-use Rattle.planner.proofs.rows.write_plan.Reads as reads
-use Rattle.planner.proofs.rows.write_plan.Lts as lts
-use Rattle.planner.proofs.rows.write_row.Reads as write-row-reads
 
 abbrev Inv-loop : tie.InvT-loop
 Inv-loop network q out₀ tunnels at₀ done₀ out at done = record { low : done ≤ q - 1; place : at ≡ 4 + done * tunnels; written : Written (networkOf network) q out₀ done out }
@@ -24,7 +22,7 @@ abbrev μ-loop : tie.MeasureT-loop
 shared-slice-read-tunnels : tie.Need-shared-slice-read-tunnels Inv-loop μ-loop
 shared-slice-read-tunnels c = search needs
 
-fits-head : (c : lts.After-shared-slice-known2 (write-row-reads.Asked, write-row-reads.Learnt) reads.Pre reads.Post Inv-loop μ-loop) → 4 ≤ length (c .before .before .before .args .out .now)
+fits-head : (c : tie.After-shared-slice-known2 Inv-loop μ-loop) → 4 ≤ length (c .before .before .before .args .out .now)
 fits-head c = let s = c .before .before .before in omega (arith, s .pre .1 .2, list-length (networkOf (s .args .network .now)) (s .args .q))
 
 slice-write-out : tie.Need-slice-write-out Inv-loop μ-loop
@@ -63,7 +61,7 @@ add-done : tie.Need-add-done Inv-loop μ-loop
 add-done c = record { fits = omega arith }
 
 -- the row ends within the output, and its end is small
-inside : (c : lts.In-loop (write-row-reads.Asked, write-row-reads.Learnt) reads.Pre reads.Post Inv-loop μ-loop)
+inside : (c : tie.In-loop Inv-loop μ-loop)
     → c .before .loop .at + at (c .before .before .before .before .before .before .args .network .now) 5 ≤ length (c .before .loop .out)
 unfolding networkOf
 inside c =
@@ -75,7 +73,7 @@ inside c =
     let same = written-length _ _ _ (i .done) _ (i .inv .written) (simp length-set fits) in
     omega (arith, m, s .pre .1 .2, list-length (networkOf l) (s .args .q), i .inv .place, same, head-length (s .args .out .now) (s .args .q) (at l 5))
 
-small : (c : lts.In-loop (write-row-reads.Asked, write-row-reads.Learnt) reads.Pre reads.Post Inv-loop μ-loop)
+small : (c : tie.In-loop Inv-loop μ-loop)
     → c .before .loop .at + at (c .before .before .before .before .before .before .args .network .now) 5 ≤ 10000
 small c =
     let s = c .before .before .before .before .before .before in

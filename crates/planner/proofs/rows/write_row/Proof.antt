@@ -1,3 +1,4 @@
+-- `planner::rows::write_row` meets its contract.
 use Prim.Native.Nat.{ℕ, _+_, _-_, _*_, _≤_, _<_}
 use mathlib.Core.Path.{_≡_, refl, ap, _∙_}
 use mathlib.Core.List.{_++_}
@@ -11,8 +12,6 @@ use Rattle.planner.specs.Planned.{listed}
 use Rattle.planner.proofs.EvenLists.{listed-none, listed-on, listed-all, even-number}
 use Rattle.planner.proofs.rows.write_row.Statement.{statement}
 use Rattle.planner.proofs.rows.write_row.Tie as tie
-use Rattle.planner.proofs.rows.write_row.Reads as reads
-use Rattle.planner.proofs.rows.write_row.Lts as lts
 
 abbrev Inv-loop : tie.InvT-loop
 Inv-loop network q a row₀ tunnels-at rest t₀ row t = record { size : length row ≡ length row₀; low : t ≤ length row₀; done : row ≡ listed t (evenRow (networkOf network) q a) ++ drop t row₀ }
@@ -61,7 +60,7 @@ shared-slice-read-row : tie.Need-shared-slice-read-row Inv-loop μ-loop
 unfolding networkOf
 shared-slice-read-row c = search needs
 
-old-part : (c : lts.After-shared-slice-known3 reads.Pre reads.Post Inv-loop μ-loop)
+old-part : (c : tie.After-shared-slice-known3 Inv-loop μ-loop)
     → (c .before .before .before .before .before .args .q - c .before .before .before .before .before .args .a) * at (c .before .before .before .before .before .args .network .now) (tunnelAt (c .before .before .before .before .before .args .network .now) (c .before .before .loop .t) + 2) ≤ 500000000
 unfolding networkOf
 old-part c =
@@ -69,7 +68,7 @@ old-part c =
     let k : (s .args .q - s .args .a) ≤ 50 = omega arith in
     mul-le-mul k (s .pre .0 .old (c .before .before .loop .t) (omega arith))
 
-new-part : (c : lts.After-shared-slice-known4 reads.Pre reads.Post Inv-loop μ-loop)
+new-part : (c : tie.After-shared-slice-known4 Inv-loop μ-loop)
     → c .before .before .before .before .before .before .args .a * at (c .before .before .before .before .before .before .args .network .now) (tunnelAt (c .before .before .before .before .before .before .args .network .now) (c .before .before .before .loop .t) + 3) ≤ 500000000
 unfolding networkOf
 new-part c =

@@ -1,3 +1,4 @@
+-- `planner::steps::end_load` meets its contract.
 use Prim.Native.Nat.{ℕ, _+_, _-_, _*_, _≤_}
 use mathlib.Core.Path.{ap}
 use native.Mathlib.Omega.{arith}
@@ -7,9 +8,6 @@ use Rattle.planner.specs.Tables.{Part}
 use Rattle.planner.proofs.Tables.{mostProduct, product-room}
 use Rattle.planner.proofs.steps.end_load.Statement.{statement}
 use Rattle.planner.proofs.steps.end_load.Tie as tie
-use Rattle.planner.proofs.steps.end_load.Reads as reads
-use Rattle.planner.proofs.steps.end_load.Lts as lts
-use Rattle.planner.proofs.sums.larger.Reads as larger-reads
 
 mul-old : tie.Need-mul-old
 mul-old c = search needs
@@ -32,7 +30,7 @@ larger-requires c κs = search needs
 sub-result : tie.Need-sub-result
 sub-result c = search needs
 
-most-product : (c : lts.After-larger (larger-reads.Asked, larger-reads.Learnt) reads.Pre reads.Post) → (c .before .before .before .before .args .q - 1) * c .larger .result ≤ mostProduct
+most-product : (c : tie.After-larger) → (c .before .before .before .before .args .q - 1) * c .larger .result ≤ mostProduct
 most-product c =
     let a = c .before .before .before .before in
     product-room (a .args .q - 1) (c .larger .result) (omega arith)

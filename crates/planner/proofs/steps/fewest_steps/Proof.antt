@@ -1,3 +1,4 @@
+-- `planner::steps::fewest_steps` meets its contract.
 use Prim.Native.Nat.{_-_, _≤_}
 use mathlib.Core.Path.{_≡_, sym, ap, subst, _∙_}
 use native.Mathlib.Omega.{arith}
@@ -9,9 +10,6 @@ use Rattle.planner.specs.Search.{answered}
 use Rattle.planner.proofs.Searching.{untried, fewest-at, fewest-on, fewest-none}
 use Rattle.planner.proofs.steps.fewest_steps.Statement.{statement}
 use Rattle.planner.proofs.steps.fewest_steps.Tie as tie
-use Rattle.planner.proofs.steps.fewest_steps.Reads as reads
-use Rattle.planner.proofs.steps.fewest_steps.Lts as lts
-use Rattle.planner.proofs.steps.fits.Reads as fits-reads
 
 abbrev Inv-loop : tie.InvT-loop
 Inv-loop network protected all tried₀ tried = (tried ≤ mostSteps) × untried (networkOf network) tried
@@ -29,7 +27,7 @@ fits-requires : tie.Need-fits-requires Inv-loop μ-loop
 fits-requires c κs = (c .before .before .before .before .before .pre .0, (c .before .before .before .before .before .pre .1, (omega arith, omega arith)))
 
 returns : tie.Need-returns Inv-loop μ-loop
-returns c = sym (ap answered (fewest-at _ (c .before .before .before .loop .tried) (c .before .before .before .loop .inv .1) (sym (c .before .fits2 .ensures) ∙ c .if1 .taken) (c .before .before .loop-test .taken)))
+returns c = sym (ap answered (fewest-at _ (c .before .before .before .loop .tried) (c .before .before .before .loop .inv .1) (sym (c .before .fits2 .ensures) ∙ c .if1 .taken) (omega (arith, c .before .before .loop-test .taken))))
 
 loop-less : tie.Need-loop-less Inv-loop μ-loop
 loop-less c = search needs

@@ -1,3 +1,4 @@
+-- `planner::steps::first_overload` meets its contract.
 use Prim.Native.Nat.{ℕ, _-_, _≤_}
 use mathlib.Core.Path.{_≡_, refl, sym, ap₂, subst, _∙_}
 use native.Mathlib.Omega.{arith}
@@ -12,9 +13,6 @@ use Rattle.lists.specs.declared.Answer.the-variants.{Refused}
 use Rattle.planner.proofs.Searching.{stepsKept, linksKept, links-on, stuck-here, stuck-nowhere}
 use Rattle.planner.proofs.steps.first_overload.Statement.{statement}
 use Rattle.planner.proofs.steps.first_overload.Tie as tie
-use Rattle.planner.proofs.steps.first_overload.Reads as reads
-use Rattle.planner.proofs.steps.first_overload.Lts as lts
-use Rattle.planner.proofs.steps.is_over.Reads as is-over-reads
 
 abbrev Inv-loop : tie.InvT-loop
 Inv-loop network protected all links place₀ second₀ row link₀ place second link = record {

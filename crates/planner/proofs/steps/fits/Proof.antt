@@ -1,3 +1,4 @@
+-- `planner::steps::fits` meets its contract.
 use Prim.Native.Nat.{ℕ, _+_, _-_, _*_, _≤_, _<_}
 use mathlib.Core.Path.{_≡_, sym, ap, _∙_}
 use mathlib.Core.Logic.{⊎-elim}
@@ -14,9 +15,6 @@ use Rattle.planner.proofs.Tables.{end-room}
 use Rattle.planner.proofs.Searching.{overrun-most, protected-room, all-room, cap-room, overrun-room, over-protected, over-total, kept-both}
 use Rattle.planner.proofs.steps.fits.Statement.{statement}
 use Rattle.planner.proofs.steps.fits.Tie as tie
-use Rattle.planner.proofs.steps.fits.Reads as reads
-use Rattle.planner.proofs.steps.fits.Lts as lts
-use Rattle.planner.proofs.steps.end_load.Reads as end-load-reads
 
 abbrev Inv-loop : tie.InvT-loop
 Inv-loop network protected all q overrun links link₀ link =
@@ -81,8 +79,8 @@ loop-again c =
     let i = c .before .before .before .before .before .before in
     let k = i .loop .link in
     let here = kept-both (c .before .before .before .before .before .before .before .before .before .before .before .before .args .network .now) (c .before .before .before .before .before .before .before .before .before .before .before .before .pre .0) (c .before .before .before .before .before .before .before .before .before .before .before .before .args .protected .now) (c .before .before .before .before .before .before .before .before .before .before .before .before .args .all .now) (c .before .before .before .before .before .before .before .before .before .before .before .before .pre .1 .0) (c .before .before .before .before .before .before .before .before .before .before .before .before .args .q) k (c .before .before .before .before .before .before .before .before .before .before .before .before .pre .1 .1 .0) (c .before .before .before .before .before .loop-test .taken)
-        (omega (arith, c .before .before .before .end-load .ensures, c .before .before .if1 .left))
-        (omega (arith, ap (λ (w : ℕ). 1000 * w) (c .before .end-load2 .ensures), c .if2 .left)) in
+    (omega (arith, c .before .before .before .end-load .ensures, c .before .before .if1 .left))
+    (omega (arith, ap (λ (w : ℕ). 1000 * w) (c .before .end-load2 .ensures), c .if2 .left)) in
     record {
       low = omega arith;
       kept = λ j h. ⊎-elim (λ (e : j ≡ k). rw e here) (i .loop .inv .kept j) (eq-or-lt-of-le (le-of-suc-le-suc (rw add-one at h)));

@@ -1,3 +1,4 @@
+-- `planner::steps::is_over` meets its contract.
 use Prim.Native.Nat.{ℕ, _+_, _*_}
 use mathlib.Core.Path.{ap, _∙_}
 use native.Mathlib.Omega.{arith}
@@ -10,9 +11,6 @@ use Rattle.planner.proofs.Tables.{step-room}
 use Rattle.planner.proofs.Searching.{overrun-most, protected-room, all-room, cap-room, overrun-room, is-over-first, is-over-second}
 use Rattle.planner.proofs.steps.is_over.Statement.{statement}
 use Rattle.planner.proofs.steps.is_over.Tie as tie
-use Rattle.planner.proofs.steps.is_over.Reads as reads
-use Rattle.planner.proofs.steps.is_over.Lts as lts
-use Rattle.planner.proofs.steps.step_load.Reads as step-load-reads
 
 add-room : tie.Need-add-room
 unfolding networkOf
@@ -55,8 +53,11 @@ step-load-requires-2 c κs = (all-room (c .before .before .before .before .befor
 mul-result-2 : tie.Need-mul-result-2
 unfolding networkOf
 mul-result-2 c = record {
-  fits = omega (arith, c .step-load2 .ensures,
-      step-room (c .before .before .before .before .before .before .before .before .args .all .now) (all-room (c .before .before .before .before .before .before .before .before .args .network .now) (c .before .before .before .before .before .before .before .before .pre .0) (c .before .before .before .before .before .before .before .before .args .protected .now) (c .before .before .before .before .before .before .before .before .args .all .now) (c .before .before .before .before .before .before .before .before .pre .1 .0)) (c .before .before .before .before .before .before .before .before .args .link) (omega (arith, c .before .before .before .before .before .before .before .before .pre .0 .links)) (c .before .before .before .before .before .before .before .before .args .row) (c .before .before .before .before .before .before .before .before .pre .1 .1 .0));
+  fits = omega (
+    arith,
+    c .step-load2 .ensures,
+    step-room (c .before .before .before .before .before .before .before .before .args .all .now) (all-room (c .before .before .before .before .before .before .before .before .args .network .now) (c .before .before .before .before .before .before .before .before .pre .0) (c .before .before .before .before .before .before .before .before .args .protected .now) (c .before .before .before .before .before .before .before .before .args .all .now) (c .before .before .before .before .before .before .before .before .pre .1 .0)) (c .before .before .before .before .before .before .before .before .args .link) (omega (arith, c .before .before .before .before .before .before .before .before .pre .0 .links)) (c .before .before .before .before .before .before .before .before .args .row) (c .before .before .before .before .before .before .before .before .pre .1 .1 .0),
+  );
 }
 
 returns-2 : tie.Need-returns-2

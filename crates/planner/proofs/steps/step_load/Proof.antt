@@ -1,3 +1,4 @@
+-- `planner::steps::step_load` meets its contract.
 use Prim.Native.Nat.{_+_, _-_, _*_, _≤_}
 use native.Mathlib.Omega.{arith}
 use native.Mathlib.Numerals.{add-one}
@@ -7,8 +8,6 @@ use Rattle.planner.specs.Tables.{Part}
 use Rattle.planner.proofs.Tables.{mostProduct, product-room}
 use Rattle.planner.proofs.steps.step_load.Statement.{statement}
 use Rattle.planner.proofs.steps.step_load.Tie as tie
-use Rattle.planner.proofs.steps.step_load.Reads as reads
-use Rattle.planner.proofs.steps.step_load.Lts as lts
 
 mul-old : tie.Need-mul-old
 mul-old c = search needs
@@ -31,10 +30,10 @@ add-result c = search needs
 sub-result : tie.Need-sub-result
 sub-result c = search needs
 
-old-product : (c : lts.After-shared-slice-known2 reads.Pre reads.Post) → (50 - (c .before .before .args .row + 1)) * at (c .before .before .args .table .now) (c .before .before .args .link) ≤ mostProduct
+old-product : (c : tie.After-shared-slice-known2) → (50 - (c .before .before .args .row + 1)) * at (c .before .before .args .table .now) (c .before .before .args .link) ≤ mostProduct
 old-product c = let a = c .before .before in product-room _ _ (omega arith) (a .pre .0 .most Part.old (a .args .link) (a .pre .2))
 
-new-product : (c : lts.After-shared-slice-known2 reads.Pre reads.Post) → c .before .before .args .row * at (c .before .before .args .table .now) (64 + c .before .before .args .link) ≤ mostProduct
+new-product : (c : tie.After-shared-slice-known2) → c .before .before .args .row * at (c .before .before .args .table .now) (64 + c .before .before .args .link) ≤ mostProduct
 new-product c = let a = c .before .before in product-room _ _ (omega arith) (a .pre .0 .most Part.new (a .args .link) (a .pre .2))
 
 mul-result : tie.Need-mul-result

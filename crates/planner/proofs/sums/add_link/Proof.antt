@@ -1,3 +1,4 @@
+-- `planner::sums::add_link` meets its contract.
 use Prim.Native.Nat.{_+_}
 use native.Mathlib.Omega.{arith}
 use borrow.Author.Needs.{needs}
@@ -5,10 +6,6 @@ use Rattle.planner.specs.Tables.{Part}
 use Rattle.planner.proofs.Tables.{stored-other, link-added}
 use Rattle.planner.proofs.sums.add_link.Statement.{statement}
 use Rattle.planner.proofs.sums.add_link.Tie as tie
-use Rattle.planner.proofs.sums.add_link.Reads as reads
-use Rattle.planner.proofs.sums.add_link.Lts as lts
-use Rattle.planner.proofs.sums.add.Reads as add-reads
-use Rattle.planner.proofs.sums.larger.Reads as larger-reads
 
 add-requires : tie.Need-add-requires
 add-requires c κs =

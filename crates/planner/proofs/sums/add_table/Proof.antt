@@ -1,3 +1,4 @@
+-- `planner::sums::add_table` meets its contract.
 use Prim.Native.Nat.{ℕ, _-_, _≤_, _<_}
 use mathlib.Core.Path.{_≡_, sym, subst, _∙_}
 use native.Mathlib.Omega.{arith}
@@ -7,8 +8,6 @@ use Rattle.planner.specs.Tables.{tableSize}
 use Rattle.planner.proofs.Tables.{Joining, join-none, join-on, join-all, join-ahead, room-at}
 use Rattle.planner.proofs.sums.add_table.Statement.{statement}
 use Rattle.planner.proofs.sums.add_table.Tie as tie
-use Rattle.planner.proofs.sums.add_table.Reads as reads
-use Rattle.planner.proofs.sums.add_table.Lts as lts
 
 abbrev Inv-loop : tie.InvT-loop
 Inv-loop more table₀ i₀ table i = record { low : i ≤ tableSize; joined : Joining i table₀ more table }
@@ -35,8 +34,12 @@ add-table : tie.Need-add-table Inv-loop μ-loop
 add-table c =
     let i = c .before .before .before in
     let low : i .loop .i < tableSize = c .before .before .loop-test .taken in
-    omega (arith, join-ahead (i .loop .i) (i .before .args .table .now) (i .before .args .more .now) (i .loop .table) (i .loop .inv .joined),
-    room-at mostTunnels (i .before .args .table .now) (i .before .pre .1) (i .loop .i) low, room-at mostTunnels (i .before .args .more .now) (i .before .pre .0) (i .loop .i) low)
+    omega (
+      arith,
+      join-ahead (i .loop .i) (i .before .args .table .now) (i .before .args .more .now) (i .loop .table) (i .loop .inv .joined),
+      room-at mostTunnels (i .before .args .table .now) (i .before .pre .1) (i .loop .i) low,
+      room-at mostTunnels (i .before .args .more .now) (i .before .pre .0) (i .loop .i) low,
+    )
 
 slice-write-table : tie.Need-slice-write-table Inv-loop μ-loop
 slice-write-table c = omega (arith, c .before .before .before .loop .inv .joined .size)

@@ -1,3 +1,4 @@
+-- `planner::sums::add_tunnel` meets its contract.
 use Prim.Native.Nat.{_+_, _-_, _/_, _^_, _≤_, _<_}
 use mathlib.Core.Bool.{false}
 use mathlib.Core.Path.{_≡_, sym, ap, _∙_}
@@ -11,9 +12,6 @@ use Rattle.planner.proofs.Digits.{next-set, next-below, next-within, ne
 use Rattle.planner.proofs.Tables.{added-both, added-none, added-cong, added-room, passed, passed-on, passed-none, passed-all}
 use Rattle.planner.proofs.sums.add_tunnel.Statement.{statement}
 use Rattle.planner.proofs.sums.add_tunnel.Tie as tie
-use Rattle.planner.proofs.sums.add_tunnel.Reads as reads
-use Rattle.planner.proofs.sums.add_tunnel.Lts as lts
-use Rattle.planner.proofs.sums.add_link.Reads as add-link-reads
 
 abbrev Inv-loop : tie.InvT-loop
 Inv-loop table₀ via old new set₀ link₀ table set link =
@@ -37,7 +35,7 @@ cast-link c = record { fits = omega (arith, trailing-le 64 (c .before .loop .set
 add-link : tie.Need-add-link Inv-loop μ-loop
 add-link c = record { fits = omega (arith, trailing-le 64 (c .before .loop .set)) }
 
-within : (c : lts.After-slice-known2 (add-link-reads.Asked, add-link-reads.Learnt) reads.Pre reads.Post Inv-loop μ-loop)
+within : (c : tie.After-slice-known2 Inv-loop μ-loop)
     → c .before .before .before .before .before .loop .link + trailingZeros 64 (c .before .before .before .before .before .loop .set) < 64
 within c =
     let s = c .before .before .before .before .before .before .before in

@@ -1,13 +1,10 @@
+-- `planner::sums::gather` meets its contract.
 use borrow.Author.Needs.{needs}
 use native.Mathlib.Nat.{le-refl}
 use Rattle.planner.proofs.Tables.{table-room, tables-join}
 use Rattle.planner.proofs.Good.{good-range}
 use Rattle.planner.proofs.sums.gather.Statement.{statement}
 use Rattle.planner.proofs.sums.gather.Tie as tie
-use Rattle.planner.proofs.sums.gather.Reads as reads
-use Rattle.planner.proofs.sums.gather.Lts as lts
-use Rattle.planner.proofs.sums.add_table.Reads as add-table-reads
-use Rattle.planner.proofs.sums.split.Reads as split-reads
 
 split-requires : tie.Need-split-requires
 split-requires c κs = search needs

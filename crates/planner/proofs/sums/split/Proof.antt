@@ -1,3 +1,4 @@
+-- `planner::sums::split` meets its contract.
 use Prim.Native.Nat.{ℕ, _+_, _-_, _≤_}
 use mathlib.Core.Path.{_≡_, sym, ap, subst, _∙_}
 use mathlib.Core.Logic.{⊎-elim}
@@ -13,9 +14,6 @@ use Rattle.planner.proofs.Tables.{table-zero, table-take, table-skip, t
 use Rattle.planner.proofs.Good.{good-range, is-protected, not-protected}
 use Rattle.planner.proofs.sums.split.Statement.{statement}
 use Rattle.planner.proofs.sums.split.Tie as tie
-use Rattle.planner.proofs.sums.split.Reads as reads
-use Rattle.planner.proofs.sums.split.Lts as lts
-use Rattle.planner.proofs.sums.add_tunnel.Reads as add-tunnel-reads
 
 abbrev Inv-loop : tie.InvT-loop
 Inv-loop network protected₀ others₀ flows-at tunnels-at tunnels t₀ protected others t =
@@ -141,12 +139,12 @@ loop-again c =
     let t = i .loop .t in
     let N = networkOf l in
     let tables : Table N (t + 1) (counts N Bound.protected) (c .if1 .protected) × Table N (t + 1) (unprotected N) (c .if1 .others) =
-        ⊎-elim
-        (λ w. let e = is-protected l t (w .0 .taken) in
-            (rw (w .5) (table-take N t _ _ _ (i .loop .inv .protected) e (w .2 .ensures)), rw (w .6) (table-skip N t _ _ (i .loop .inv .others) (ap not e))))
-        (λ w. let e = not-protected l t (w .0 .left) in
-            (rw (w .5) (table-skip N t _ _ (i .loop .inv .protected) e), rw (w .6) (table-take N t _ _ _ (i .loop .inv .others) (ap not e) (w .2 .ensures))))
-        (c .if1 .came) in
+    ⊎-elim
+    (λ w. let e = is-protected l t (omega (arith, w .0 .taken)) in
+    (rw (w .5) (table-take N t _ _ _ (i .loop .inv .protected) e (w .2 .ensures)), rw (w .6) (table-skip N t _ _ (i .loop .inv .others) (ap not e))))
+    (λ w. let e = not-protected l t (omega (arith, w .0 .left)) in
+    (rw (w .5) (table-skip N t _ _ (i .loop .inv .protected) e), rw (w .6) (table-take N t _ _ _ (i .loop .inv .others) (ap not e) (w .2 .ensures))))
+    (c .if1 .came) in
     record { low = omega arith; protected = tables .0; others = tables .1 }
 
 same-length : tie.Need-same-length Inv-loop μ-loop
@@ -159,9 +157,10 @@ returns : tie.Need-returns Inv-loop μ-loop
 unfolding networkOf
 returns c =
     let l = c .before .before .before .before .before .before .before .before .args .network .now in
-    let e : c .before .loop .t ≡ at l 5 = omega arith in
-    (subst (λ (n : ℕ). Table (networkOf l) n (counts (networkOf l) Bound.protected) (c .before .loop .protected)) e (c .before .loop .inv .protected),
-    subst (λ (n : ℕ). Table (networkOf l) n (unprotected (networkOf l)) (c .before .loop .others)) e (c .before .loop .inv .others))
+    let e : c .before .loop .t ≡ at l 5 = omega arith in (
+      subst (λ (n : ℕ). Table (networkOf l) n (counts (networkOf l) Bound.protected) (c .before .loop .protected)) e (c .before .loop .inv .protected),
+      subst (λ (n : ℕ). Table (networkOf l) n (unprotected (networkOf l)) (c .before .loop .others)) e (c .before .loop .inv .others),
+    )
 
 pub split-spec : {M : Type 1} → statement M
 split-spec =
