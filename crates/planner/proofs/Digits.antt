@@ -1,16 +1,20 @@
--- The digits of a number up to its lowest set digit: what `trailing_zeros` tells.
-use Prim.Native.Nat.{ℕ, zero, suc, _+_, _*_, _/_, _%_, _^_, _≤_, _<_}
-use mathlib.Core.Path.{_≡_, refl, sym, ap, _∙_}
+-- The digits of a number up to its lowest set digit: what `trailing_zeros` and `n & (n - 1)` tell.
+use Prim.Native.Nat.{ℕ, zero, suc, _+_, _-_, _*_, _/_, _%_, _^_, _≤_, _<_}
+use mathlib.Core.Path.{_≡_, refl, sym, ap, ap₂, _∙_}
 use mathlib.Core.Logic.{_≢_}
 use mathlib.Core.Bool.{true, false}
 use native.Mathlib.Omega.{arith}
-use native.Mathlib.Nat.{div-one, div-eq-of-lt, mod-lt, div-add-mod', zero-div, le-of-eq, lt-of-le-of-lt, lt-of-lt-of-le, lt-of-not-le}
+use native.Mathlib.Nat.{add-zero, mul-assoc, div-one, div-eq-of-lt, div-mul-le-self, div-add-mod', mod-lt, mod-self, zero-div, le-of-eq, lt-of-le-of-lt, lt-of-lt-of-le, lt-of-not-le}
 use native.Mathlib.Numerals.{add-one, one-add}
 use lib.Dec.{eqb}
-use lib.Pow.{pow-mono, shr-shr, shr-lt, shr-le}
+use lib.Pow.{pow-pos, pow-mono, pow-lt, pow-add, shl-shr, shr-shr, shr-lt, split, mod-pow-add}
+use lib.Bits.{bitAnd, and-block, and-self, and-mask, and-le-r, shifted-even}
 use lib.Count.{trailingZeros, under}
 use borrow.Author.Tests.{eq-eqb}
 use Rattle.planner.specs.Tables.{inSet}
+
+le-of-not-lt : {a b : ℕ} → ¬ (b < a) → a ≤ b
+le-of-not-lt h = omega arith
 
 -- digit i + 1 of a number is digit i of its half
 digit-suc : (n i : ℕ) → n / 2 / 2 ^ i ≡ n / 2 ^ suc i
@@ -39,43 +43,119 @@ at-lowest (suc k) n z h = go (n % 2) refl (at-lowest k (n / 2))
         ap (λ (m : ℕ). m % 2) (sym (digit-suc n (trailingZeros k (n / 2)))) ∙ rest (λ y. z (omega (arith, div-add-mod' n 2))) (shr-lt k 1 low)
     go (suc d) e rest = ap (λ (m : ℕ). m % 2) (div-one n) ∙ omega (arith, mod-lt n {m = 2} (omega arith))
 
--- the digits of a number, from digit l on, are those of what is left after l digits
-pub digit-from : (n l j : ℕ) → n / 2 ^ (l + j) % 2 ≡ n / 2 ^ l / 2 ^ j % 2
-digit-from n l j = ap (λ (m : ℕ). m % 2) (sym (shr-shr n l j))
+-- a number whose lowest z digits are 0
+low-zero : (n z : ℕ) → ((j : ℕ) → j < z → n / 2 ^ j % 2 ≡ 0) → n % 2 ^ z ≡ 0
+low-zero n zero h = omega arith
+low-zero n (suc z) h =
+    ap (λ (e : ℕ). n % 2 ^ e) (sym (one-add z))
+    ∙ mod-pow-add n 1 z
+    ∙ ap₂ (λ (d r : ℕ). d * 2 ^ z + r) (h z (omega arith)) (low-zero n z (λ j k. h j (omega arith)))
+    ∙ omega arith
+
+-- its lowest set digit, at z, is cleared by `n & (n - 1)`
+cleared : (n z : ℕ) → n / 2 ^ z % 2 ≡ 1 → n % 2 ^ z ≡ 0 → bitAnd n (n - 1) ≡ n / 2 ^ suc z * 2 ^ suc z
+cleared n z one low =
+    let a : ℕ = n / 2 ^ suc z in
+    let p : ℕ = 2 ^ z in
+    let pos : 0 < p = pow-pos z in
+    let lt : p < 2 ^ suc z = pow-lt (omega arith) in
+    let lt′ : p - 1 < 2 ^ suc z = omega arith in
+    let tail : n % 2 ^ suc z ≡ p =
+    ap (λ (e : ℕ). n % 2 ^ e) (sym (one-add z)) ∙ mod-pow-add n 1 z ∙ ap₂ (λ (d r : ℕ). d * p + r) one low ∙ omega arith in
+    let whole : n ≡ a * 2 ^ suc z + p = omega (arith, split n (suc z)) in
+    let less : n - 1 ≡ a * 2 ^ suc z + (p - 1) = omega arith in
+    ap₂ bitAnd whole less
+    ∙ and-block (suc z) a a p (p - 1) lt lt′
+    ∙ ap₂ (λ (x y : ℕ). x * 2 ^ suc z + y) (and-self a) (and-mask p z ∙ mod-self p)
+    ∙ add-zero _
 
 -- where nothing is left after l digits, the digits from l on are 0
-pub digits-gone : (n l j : ℕ) → n / 2 ^ l ≡ 0 → n / 2 ^ (l + j) % 2 ≡ 0
-digits-gone n l j e = digit-from n l j ∙ ap (λ (m : ℕ). m / 2 ^ j % 2) e ∙ ap (λ (m : ℕ). m % 2) (zero-div (2 ^ j))
+pub digits-gone : (n l j : ℕ) → n / 2 ^ l ≡ 0 → l ≤ j → n / 2 ^ j % 2 ≡ 0
+digits-gone n l j e h =
+    let k : l + (j - l) ≡ j = omega arith in
+    ap (λ (i : ℕ). n / 2 ^ i % 2) (sym k) ∙ ap (λ (m : ℕ). m % 2) (sym (shr-shr n l (j - l)))
+    ∙ ap (λ (m : ℕ). m / 2 ^ (j - l) % 2) e ∙ ap (λ (m : ℕ). m % 2) (zero-div (2 ^ (j - l)))
 
 -- a digit that is set is one of those that there are
-pub set-within : (n k j : ℕ) → n < 2 ^ k → n / 2 ^ j % 2 ≡ 1 → j < k
+set-within : (n k j : ℕ) → n < 2 ^ k → n / 2 ^ j % 2 ≡ 1 → j < k
 set-within n k j h e = lt-of-not-le (λ g. absurd (gone g))
   where
     gone : k ≤ j → ⊥
     gone g =
-        let z : n / 2 ^ j ≡ 0 = div-eq-of-lt (lt-of-lt-of-le h (pow-mono g)) in
-        let w : n / 2 ^ j % 2 ≡ 0 = ap (λ (m : ℕ). m % 2) z in omega arith
+        let w : n / 2 ^ j % 2 ≡ 0 = ap (λ (m : ℕ). m % 2) (div-eq-of-lt (lt-of-lt-of-le h (pow-mono g))) in omega arith
 
--- ---- on from digit l to the lowest set digit of what is left
+-- ---- a number without its lowest l digits, which are 0 instead
 
-module _ (n l left : ℕ) (fits : n < 2 ^ 64) (e : left ≡ n / 2 ^ l) (some : left ≢ 0) where
-  left-digit : (j : ℕ) → n / 2 ^ (l + j) % 2 ≡ left / 2 ^ j % 2
-  left-digit j = digit-from n l j ∙ ap (λ (m : ℕ). m / 2 ^ j % 2) (sym e)
+pub none-left : (n l : ℕ) → n / 2 ^ l * 2 ^ l ≡ 0 → n / 2 ^ l ≡ 0
+none-left n l e = sym (shl-shr (n / 2 ^ l) l) ∙ ap (λ (m : ℕ). m / 2 ^ l) e ∙ zero-div (2 ^ l)
 
+left-below : (a l j : ℕ) → j < l → a * 2 ^ l / 2 ^ j % 2 ≡ 0
+left-below a l j h =
+    let k : suc (l - suc j) + j ≡ l = omega arith in
+    let m : ℕ = l - suc j in
+    ap (λ (i : ℕ). a * 2 ^ i / 2 ^ j % 2) (sym k)
+    ∙ ap (λ (x : ℕ). a * x / 2 ^ j % 2) (pow-add 2 (suc m) j)
+    ∙ ap (λ (x : ℕ). x / 2 ^ j % 2) (sym (mul-assoc a (2 ^ suc m) (2 ^ j)))
+    ∙ ap (λ (x : ℕ). x % 2) (shl-shr (a * 2 ^ suc m) j)
+    ∙ shifted-even a m
+
+left-above : (n l j : ℕ) → l ≤ j → n / 2 ^ l * 2 ^ l / 2 ^ j ≡ n / 2 ^ j
+left-above n l j h =
+    let k : l + (j - l) ≡ j = omega arith in
+    ap (λ (i : ℕ). n / 2 ^ l * 2 ^ l / 2 ^ i) (sym k)
+    ∙ sym (shr-shr (n / 2 ^ l * 2 ^ l) l (j - l))
+    ∙ ap (λ (m : ℕ). m / 2 ^ (j - l)) (shl-shr (n / 2 ^ l) l)
+    ∙ shr-shr n l (j - l)
+    ∙ ap (λ (i : ℕ). n / 2 ^ i) k
+
+-- on to the lowest digit that is left
+module _ (n l left : ℕ) (fits : n < 2 ^ 64) (e : left ≡ n / 2 ^ l * 2 ^ l) (some : left ≢ 0) where
   left-fits : left < 2 ^ 64
-  left-fits = lt-of-le-of-lt (le-of-eq e) (lt-of-le-of-lt (shr-le n l) fits)
+  left-fits = lt-of-le-of-lt (le-of-eq e) (lt-of-le-of-lt (div-mul-le-self n (2 ^ l)) fits)
 
-  pub next-set : inSet n (l + trailingZeros 64 left) ≡ true
-  next-set = eq-eqb _ 1 (left-digit (trailingZeros 64 left) ∙ at-lowest 64 left some left-fits)
+  next : ℕ
+  next = trailingZeros 64 left
 
-  pub next-below : (j : ℕ) → j < trailingZeros 64 left → inSet n (l + j) ≡ false
-  next-below j h = ap (λ (d : ℕ). eqb d 1) (left-digit j ∙ below-lowest 64 left j h)
+  next-one : left / 2 ^ next % 2 ≡ 1
+  unfolding next
+  next-one = at-lowest 64 left some left-fits
 
-  pub next-within : l + trailingZeros 64 left < 64
-  next-within = set-within n 64 (l + trailingZeros 64 left) fits (left-digit (trailingZeros 64 left) ∙ at-lowest 64 left some left-fits)
+  next-zero : (j : ℕ) → j < next → left / 2 ^ j % 2 ≡ 0
+  unfolding next
+  next-zero j h = below-lowest 64 left j h
 
-  pub next-left : left / 2 ^ trailingZeros 64 left / 2 ≡ n / 2 ^ (l + trailingZeros 64 left + 1)
+  from : l ≤ next
+  from = le-of-not-lt (λ h. absurd (clash (ap (λ (m : ℕ). m / 2 ^ next % 2) e ∙ left-below (n / 2 ^ l) l next h)))
+    where
+      clash : left / 2 ^ next % 2 ≡ 0 → ⊥
+      clash z = omega (arith, next-one)
+
+  digit-kept : (j : ℕ) → l ≤ j → n / 2 ^ j % 2 ≡ left / 2 ^ j % 2
+  digit-kept j h = ap (λ (m : ℕ). m % 2) (sym (ap (λ (m : ℕ). m / 2 ^ j) e ∙ left-above n l j h))
+
+  pub next-from : l ≤ trailingZeros 64 left
+  unfolding next
+  next-from = from
+
+  pub next-set : inSet n (trailingZeros 64 left) ≡ true
+  unfolding next
+  next-set = eq-eqb _ 1 (digit-kept next from ∙ next-one)
+
+  pub next-below : (j : ℕ) → l ≤ j → j < trailingZeros 64 left → inSet n j ≡ false
+  unfolding next
+  next-below j h k = ap (λ (d : ℕ). eqb d 1) (digit-kept j h ∙ next-zero j k)
+
+  pub next-within : trailingZeros 64 left < 64
+  unfolding next
+  next-within = set-within left 64 next left-fits next-one
+
+  pub next-left : bitAnd left (left - 1) ≡ n / 2 ^ (trailingZeros 64 left + 1) * 2 ^ (trailingZeros 64 left + 1)
+  unfolding next
   next-left =
-      ap (λ (m : ℕ). m / 2 ^ trailingZeros 64 left / 2) e
-      ∙ ap (λ (m : ℕ). m / 2) (shr-shr n l (trailingZeros 64 left))
-      ∙ shr-shr n (l + trailingZeros 64 left) 1
+      let up : l ≤ suc next = omega (arith, from) in
+      cleared left next next-one (low-zero left next next-zero)
+      ∙ ap (λ (m : ℕ). m * 2 ^ suc next) (ap (λ (m : ℕ). m / 2 ^ suc next) e ∙ left-above n l (suc next) up)
+      ∙ ap (λ (i : ℕ). n / 2 ^ i * 2 ^ i) (sym (add-one next))
+
+  pub next-less : bitAnd left (left - 1) < left
+  next-less = omega (arith, and-le-r left (left - 1))

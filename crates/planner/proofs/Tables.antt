@@ -1,14 +1,16 @@
 -- The laws of the tables of sums.
 use Prim.Native.Nat.{ℕ, zero, suc, _+_, _-_, _*_, _/_, _%_, _^_, _≤_, _<_, max}
 use mathlib.Core.Path.{_≡_, refl, sym, ap, subst, _∙_}
-use mathlib.Core.Logic.{⊎-elim}
+use mathlib.Core.Logic.{_≢_, ⊎-elim}
 use mathlib.Core.Bool.{Bool, true, false, cond, not, _&&_}
 use mathlib.Core.List.{List}
 use native.Mathlib.Omega.{arith}
 use native.Mathlib.Decide.{decLt}
-use native.Mathlib.Nat.{add-zero, mul-le-mul, mul-le-mul-right}
+use native.Mathlib.Nat.{add-zero, mul-one, div-one, mul-le-mul, mul-le-mul-right}
 use native.Mathlib.Numerals.{add-one}
 use lib.Dec.{eqb, ltb}
+use lib.Bits.{bitAnd}
+use lib.Count.{trailingZeros}
 use lib.ListN.{length, getD, set, replicate, length-set, length-replicate, getD-replicate}
 use lib.Seq.{getD-set-same, getD-set-other}
 use borrow.Author.Tests.{eq-eqb, ne-eqb, eqb-true, eqb-false, lt-ltb, le-ltb}
@@ -20,7 +22,7 @@ use Rattle.model.specs.Scan.{Bound}
 use Rattle.model.specs.Rule.{crosses, onLink, counts}
 use Rattle.model.proofs.Sums.{sum-zero, sum-take, sum-skip, sum-bound, sum-both}
 use Rattle.model.proofs.Searches.{bool-cases}
-use Rattle.planner.proofs.Digits.{digits-gone}
+use Rattle.planner.proofs.Digits.{digits-gone, none-left, next-from, next-set, next-below, next-left}
 use Rattle.planner.specs.Tables.{Part, tableSize, sumAt, amount, Room, Added, inSet, onPart, Table, unprotected, Loads, Gathered, Joined, stepSum, endSum}
 
 -- ---- one link
@@ -76,17 +78,17 @@ module _ (s s₁ s₂ s₃ : List ℕ) (link o n m : ℕ) (size : length s ≡ t
 -- ---- several links
 
 -- amounts that are added on some links and then on others
-pub added-both : (c d e : ℕ → Bool) (o n : ℕ) (s s₁ s₂ : List ℕ) → Added c o n s s₁ → Added d o n s₁ s₂
+added-both : (c d e : ℕ → Bool) (o n : ℕ) (s s₁ s₂ : List ℕ) → Added c o n s s₁ → Added d o n s₁ s₂
     → ((l x : ℕ) → l < mostLinks → cond (c l) x 0 + cond (d l) x 0 ≡ cond (e l) x 0) → Added e o n s s₂
 added-both c d e o n s s₁ s₂ a b h = record {
   size = b .size ∙ a .size;
   each = λ p l k. omega (arith, a .each p l k, b .each p l k, h l (amount o n p) k);
 }
 
-pub added-none : (o n : ℕ) (s : List ℕ) → Added (λ l. false) o n s s
+added-none : (o n : ℕ) (s : List ℕ) → Added (λ l. false) o n s s
 added-none o n s = record { size = refl; each = λ p l k. sym (add-zero _) }
 
-pub added-cong : (c d : ℕ → Bool) (o n : ℕ) (s s′ : List ℕ) → Added c o n s s′ → ((l : ℕ) → l < mostLinks → c l ≡ d l) → Added d o n s s′
+added-cong : (c d : ℕ → Bool) (o n : ℕ) (s s′ : List ℕ) → Added c o n s s′ → ((l : ℕ) → l < mostLinks → c l ≡ d l) → Added d o n s s′
 added-cong c d o n s s′ a h = record { size = a .size; each = λ p l k. a .each p l k ∙ ap (λ (b : Bool). sumAt s p l + cond b (amount o n p) 0) (h l k) }
 
 -- a tunnel's amounts make the sums those of one amount more
@@ -106,44 +108,67 @@ added-room c o n s s′ a r ho hn = record {
 }
 
 -- the links of a set below a link
-abbrev pub passed : ℕ → ℕ → ℕ → Bool
+abbrev passed : ℕ → ℕ → ℕ → Bool
 passed via link l = ltb l link && inSet via l
 
--- on from a link by its lowest bit: those between are not in the set
-pub passed-on : (via link z : ℕ) → ((j : ℕ) → j < z → inSet via (link + j) ≡ false) → inSet via (link + z) ≡ true
-    → (l x : ℕ) → cond (passed via link l) x 0 + cond (eqb l (link + z)) x 0 ≡ cond (passed via (link + z + 1) l) x 0
-passed-on via link z none one l x =
+-- on from a link to the next in the set: those between are not in it
+passed-on : (via link z : ℕ) → link ≤ z → ((j : ℕ) → link ≤ j → j < z → inSet via j ≡ false) → inSet via z ≡ true
+    → (l x : ℕ) → cond (passed via link l) x 0 + cond (eqb l z) x 0 ≡ cond (passed via (z + 1) l) x 0
+passed-on via link z up none one l x =
     elim (decLt l link) [
-      | yes h ↦ rw (lt-ltb l link h, ne-eqb l (link + z) (λ q. omega arith), lt-ltb l (link + z + 1) (omega arith)) (add-zero _)
-      | no h ↦ rw (le-ltb l link (omega arith)) (beyond h)
+      | yes h ↦ rw (lt-ltb l link h, ne-eqb l z (λ q. omega arith), lt-ltb l (z + 1) (omega arith)) (add-zero _)
+      | no h ↦ rw (le-ltb l link (omega arith)) (beyond (omega arith))
     ]
   where
-    between : ¬ (l < link) → l < link + z → inSet via l ≡ false
-    between h k =
-        let e : link + (l - link) ≡ l = omega arith in
-        ap (inSet via) (sym e) ∙ none (l - link) (omega arith)
-
-    beyond : ¬ (l < link) → 0 + cond (eqb l (link + z)) x 0 ≡ cond (passed via (link + z + 1) l) x 0
+    beyond : link ≤ l → 0 + cond (eqb l z) x 0 ≡ cond (passed via (z + 1) l) x 0
     beyond h =
-        elim (decLt l (link + z)) [
-          | yes k ↦ rw (ne-eqb l (link + z) (λ q. omega arith), lt-ltb l (link + z + 1) (omega arith), between h k) refl
-          | no k ↦ elim (decLt (link + z) l) [
-            | yes j ↦ rw (ne-eqb l (link + z) (λ q. omega arith), le-ltb l (link + z + 1) (omega arith)) refl
-            | no j ↦ (let e : l ≡ link + z = omega arith in rw e (rw (eq-eqb (link + z) (link + z) refl, lt-ltb (link + z) (link + z + 1) (omega arith), one) (omega arith)))
+        elim (decLt l z) [
+          | yes k ↦ rw (ne-eqb l z (λ q. omega arith), lt-ltb l (z + 1) (omega arith), none l h k) refl
+          | no k ↦ elim (decLt z l) [
+            | yes j ↦ rw (ne-eqb l z (λ q. omega arith), le-ltb l (z + 1) (omega arith)) refl
+            | no j ↦ (let e : l ≡ z = omega arith in rw e (rw (eq-eqb z z refl, lt-ltb z (z + 1) (omega arith), one) (omega arith)))
           ]
         ]
 
-pub passed-none : (via l : ℕ) → false ≡ passed via 0 l
+passed-none : (via l : ℕ) → false ≡ passed via 0 l
 passed-none via l = sym (ap (λ (b : Bool). b && inSet via l) (le-ltb l 0 (omega arith)))
 
 -- where nothing of the set is left, all are passed
-pub passed-all : (via link : ℕ) → via / 2 ^ link ≡ 0 → (l : ℕ) → passed via link l ≡ inSet via l
+passed-all : (via link : ℕ) → via / 2 ^ link ≡ 0 → (l : ℕ) → passed via link l ≡ inSet via l
 passed-all via link e l =
     elim (decLt l link) [
       | yes h ↦ ap (λ (b : Bool). b && inSet via l) (lt-ltb l link h)
-      | no h ↦ (let k : link + (l - link) ≡ l = omega arith in
-          ap (λ (b : Bool). b && inSet via l) (le-ltb l link (omega arith)) ∙ sym (ap (inSet via) (sym k) ∙ ap (λ (d : ℕ). eqb d 1) (digits-gone via link (l - link) e)))
+      | no h ↦ (let up : link ≤ l = omega arith in
+          ap (λ (b : Bool). b && inSet via l) (le-ltb l link up) ∙ sym (ap (λ (d : ℕ). eqb d 1) (digits-gone via link l e up)))
     ]
+
+-- the table where the links of a set below a link are passed, and those from it on are left
+pub record Passing (via o n : ℕ) (s : List ℕ) (left : ℕ) (s′ : List ℕ) : Type 0 where
+  pub link : ℕ
+  pub left-from : left ≡ via / 2 ^ link * 2 ^ link
+  pub added : Added (passed via link) o n s s′
+
+module _ (via o n : ℕ) (s : List ℕ) where
+  pub passing-start : Passing via o n s via s
+  passing-start =
+      record { link = 0; left-from = sym (mul-one _ ∙ div-one via); added = added-cong (λ l. false) (passed via 0) o n s s (added-none o n s) (λ l h. passed-none via l) }
+
+  pub passing-on : (left : ℕ) (s₁ s₂ : List ℕ) → via < 2 ^ 64 → left ≢ 0 → Passing via o n s left s₁ → Added (λ l. eqb l (trailingZeros 64 left)) o n s₁ s₂
+      → Passing via o n s (bitAnd left (left - 1)) s₂
+  passing-on left s₁ s₂ fits some P a =
+      let z : ℕ = trailingZeros 64 left in
+      let l : ℕ = P .link in
+      let e = P .left-from in
+      record {
+        link = z + 1;
+        left-from = next-left via l left fits e some;
+        added = added-both (passed via l) (λ k. eqb k z) (passed via (z + 1)) o n s s₁ s₂ (P .added) a
+            (λ k x h. passed-on via l z (next-from via l left fits e some) (next-below via l left fits e some) (next-set via l left fits e some) k x);
+      }
+
+  pub passing-end : (left : ℕ) (s₁ : List ℕ) → Passing via o n s left s₁ → left ≡ 0 → Added (inSet via) o n s s₁
+  passing-end left s₁ P z =
+      added-cong (passed via (P .link)) (inSet via) o n s s₁ (P .added) (λ l h. passed-all via (P .link) (none-left via (P .link) (sym (P .left-from) ∙ z)) l)
 
 -- ---- two tables joined, place by place
 

@@ -40,19 +40,16 @@ fn add_link(table: &mut [u64], link: usize, old: u64, new: u64)
     add(table, PEAK_AT + link, larger(old, new));
 }
 
-// Adds a tunnel's amounts to the sums of each link that it crosses. The links are found by the set's lowest bit.
+// Adds a tunnel's amounts to the sums of each link that it crosses: the link of the set's lowest bit, which is then cleared, until none is left.
 fn add_tunnel(table: &mut [u64], via: u64, old: u64, new: u64)
     requires { ⌜ Room mostTunnels (now table) × (old ≤ mostAmount) × (new ≤ mostAmount) ⌝ }
     ensures { λ _. ⌜ Added (inSet via) old new (now (table .entry)) (now (table .exit)) ⌝ }
 {
     let mut set = via;
-    let mut link: usize = 0;
     while set != 0 {
-        let zeros = u64::trailing_zeros(set);
-        link += zeros as usize;
+        let link = u64::trailing_zeros(set) as usize;
         add_link(table, link, old, new);
-        link += 1;
-        set = (set >> zeros) >> 1;
+        set = set & (set - 1);
     }
 }
 
