@@ -10,12 +10,11 @@ use native.Mathlib.Nat.{le-refl, mul-le-mul}
 use native.Mathlib.Numerals.{add-one}
 use lib.Dec.{ltb}
 use borrow.Author.Tests.{lt-ltb, le-ltb}
-use Rattle.model.specs.Limits.{mostLinks, mostTunnels, mostSteps, mostAmount}
-use Rattle.model.specs.Outcome.{Outcome}
+use Rattle.model.specs.Limits.{mostLinks, mostTunnels, mostSteps, mostAmount, mostShare}
 use Rattle.model.specs.Search.{first}
 use Rattle.model.specs.Net.{Net}
-use Rattle.model.specs.Scan.{Bound, Overload, testLink, testStep}
-use Rattle.model.specs.Rule.{load, exceeds, missedRate, stepCount, worst, worstOver, firstOverload, accepted}
+use Rattle.model.specs.Scan.{Bound, testLink, testStep}
+use Rattle.model.specs.Rule.{load, exceeds, missedRate, stepCount, worstOver, firstOverload, accepted}
 use Rattle.model.specs.Even.{even, tryEven, fewest, stuckAt}
 use Rattle.model.specs.ThreeSums.{oldLoad, newLoad, peakLoad, stepLoad, endLoad}
 use Rattle.model.proofs.Searches.{bool-cases, only-true, only-false, first-on, first-at}
@@ -23,9 +22,9 @@ use Rattle.model.proofs.Scans.{link-protected, link-total, link-neither, scan-a
 use Rattle.model.proofs.Choices.{factor, room}
 use Rattle.model.proofs.Evens.{even-load, even-accepted}
 use Rattle.lists.specs.Answers.{plan}
-use Rattle.lists.specs.Lists.{at, networkOf, GoodNetwork}
+use Rattle.lists.specs.Lists.{at, networkOf}
 use Rattle.lists.specs.declared.Answer.the-variants.{Refused}
-use Rattle.planner.specs.Tables.{Part, sumAt, Room, onPart, Loads, Gathered, stepSum, endSum}
+use Rattle.planner.specs.Tables.{Part, Room, onPart, Loads, Ready, stepSum, endSum}
 use Rattle.planner.specs.Planned.{stuck}
 use Rattle.planner.specs.Search.{isOver}
 use Rattle.planner.proofs.Tables.{table-room}
@@ -49,42 +48,54 @@ unfolding stepLoad oldLoad newLoad peakLoad load onPart
 sum-step N b s T q i l h =
     ap₂ (λ (m k : ℕ). m + k) (ap₂ (λ (o n : ℕ). (q - suc i) * o + i * n) (T .each Part.old l h) (T .each Part.new l h)) (T .each Part.peak l h)
 
-pub overrun-most : (l : List ℕ) → GoodNetwork l → at l 2 ≤ 500
-unfolding networkOf
-overrun-most l g = ⊎-elim (λ z. omega arith) (λ h. omega arith) (g .valid .overrun)
+-- what is known where the code looks at link k, in plans of q steps
+pub record AtLink (l p a : List ℕ) (q k : ℕ) : Type 0 where
+  pub ready : Ready l p a
+  pub least : 1 ≤ q
+  pub most : q ≤ mostSteps
+  pub link : k < at l 3
 
-module _ (l : List ℕ) (g : GoodNetwork l) (p a : List ℕ) (G : Gathered (networkOf l) p a) where
+module _ {l p a : List ℕ} {q k : ℕ} (h : AtLink l p a q k) where
+  -- all that is computed there fits 64 bits
+  pub link-low : k < mostLinks
+  link-low = omega (arith, h .ready .good .links)
+
   pub protected-room : Room mostTunnels p
-  protected-room = table-room _ _ _ _ (G .protected) (le-refl _) (good-range l g)
+  protected-room = table-room _ _ _ _ (h .ready .protected) (le-refl _) (good-range l (h .ready .good))
 
   pub all-room : Room mostTunnels a
-  all-room = table-room _ _ _ _ (G .all) (le-refl _) (good-range l g)
+  all-room = table-room _ _ _ _ (h .ready .all) (le-refl _) (good-range l (h .ready .good))
 
-  pub cap-room : (q k : ℕ) → q ≤ mostSteps → k < at l 3 → q * at l (6 + k) ≤ 500000000
-  cap-room q k h hk = mul-le-mul h (g .cap k hk)
+  pub overrun-most : at l 2 ≤ mostShare
+  unfolding networkOf
+  overrun-most = ⊎-elim (λ z. omega arith) (λ b. omega arith) (h .ready .good .valid .overrun)
 
-  pub overrun-room : (q k : ℕ) → q ≤ mostSteps → k < at l 3 → (1000 + at l 2) * (q * at l (6 + k)) ≤ 750000000000
-  overrun-room q k h hk = let o : 1000 + at l 2 ≤ 1500 = omega (arith, overrun-most l g) in mul-le-mul o (cap-room q k h hk)
+  pub cap-room : q * at l (6 + k) ≤ mostSteps * mostAmount
+  cap-room = mul-le-mul (h .most) (h .ready .good .cap k (h .link))
 
-  module _ (q k : ℕ) (pos : 0 < q) (hk : k < at l 3) where
-    low : k < mostLinks
-    low = omega (arith, g .links)
+  pub overrun-room : (1000 + at l 2) * (q * at l (6 + k)) ≤ (1000 + mostShare) * (mostSteps * mostAmount)
+  overrun-room = let o : 1000 + at l 2 ≤ 1000 + mostShare = omega (arith, overrun-most) in mul-le-mul o cap-room
 
-    pub over-protected : q * at l (6 + k) < endSum p q k → accepted (networkOf l) (even (networkOf l) q) ≡ false
-    unfolding networkOf factor room
-    over-protected h =
-        not-accepted (networkOf l) (g .valid .sums) q pos k hk Bound.protected (omega (arith, sum-end (networkOf l) Bound.protected p (G .protected) q k low))
+  -- the two comparisons decide for the link
+  protected-sum : endSum p q k ≡ endLoad (networkOf l) Bound.protected q k
+  protected-sum = sum-end (networkOf l) Bound.protected p (h .ready .protected) q k link-low
 
-    pub over-total : (1000 + at l 2) * (q * at l (6 + k)) < 1000 * endSum a q k → accepted (networkOf l) (even (networkOf l) q) ≡ false
-    unfolding networkOf factor room
-    over-total h =
-        not-accepted (networkOf l) (g .valid .sums) q pos k hk Bound.total (omega (arith, ap (λ (w : ℕ). 1000 * w) (sum-end (networkOf l) Bound.total a (G .all) q k low)))
+  all-sum : 1000 * endSum a q k ≡ 1000 * endLoad (networkOf l) Bound.total q k
+  all-sum = ap (λ (w : ℕ). 1000 * w) (sum-end (networkOf l) Bound.total a (h .ready .all) q k link-low)
 
-    pub kept-both : endSum p q k ≤ q * at l (6 + k) → 1000 * endSum a q k ≤ (1000 + at l 2) * (q * at l (6 + k))
-        → (b : Bound) → factor b * endLoad (networkOf l) b q k ≤ q * room (networkOf l) b k
-    unfolding networkOf factor room
-    kept-both h j Bound.protected = omega (arith, sum-end (networkOf l) Bound.protected p (G .protected) q k low)
-    kept-both h j Bound.total = omega (arith, ap (λ (w : ℕ). 1000 * w) (sum-end (networkOf l) Bound.total a (G .all) q k low))
+  pub over-protected : q * at l (6 + k) < endSum p q k → accepted (networkOf l) (even (networkOf l) q) ≡ false
+  unfolding networkOf factor room
+  over-protected o = not-accepted (networkOf l) (h .ready .good .valid .sums) q (h .least) k (h .link) Bound.protected (omega (arith, protected-sum))
+
+  pub over-total : (1000 + at l 2) * (q * at l (6 + k)) < 1000 * endSum a q k → accepted (networkOf l) (even (networkOf l) q) ≡ false
+  unfolding networkOf factor room
+  over-total o = not-accepted (networkOf l) (h .ready .good .valid .sums) q (h .least) k (h .link) Bound.total (omega (arith, all-sum))
+
+  pub kept-both : endSum p q k ≤ q * at l (6 + k) → 1000 * endSum a q k ≤ (1000 + at l 2) * (q * at l (6 + k))
+      → (b : Bound) → factor b * endLoad (networkOf l) b q k ≤ q * room (networkOf l) b k
+  unfolding networkOf factor room
+  kept-both i j Bound.protected = omega (arith, protected-sum)
+  kept-both i j Bound.total = omega (arith, all-sum)
 
 -- ---- the fewest steps
 
@@ -111,25 +122,22 @@ worst-step : (N : Net) (b : Bound) (s : List ℕ) → Loads N b s → (i l : ℕ
 unfolding worstOver even
 worst-step N b s T i l hi hl = ap (exceeds N b mostSteps l) (even-load N b l mostSteps i hi ∙ sym (sum-step N b s T mostSteps i l hl))
 
-module _ (l : List ℕ) (g : GoodNetwork l) (p a : List ℕ) (G : Gathered (networkOf l) p a) (i k : ℕ) (hi : i < mostSteps) (hk : k < at l 3) where
-  inside : k < mostLinks
-  inside = omega (arith, g .links)
-
+module _ {l p a : List ℕ} {k : ℕ} (h : AtLink l p a mostSteps k) (i : ℕ) (hi : i < mostSteps) where
   protected-over : worstOver (networkOf l) (even (networkOf l) mostSteps) i k Bound.protected ≡ ltb (mostSteps * at l (6 + k)) (stepSum p mostSteps i k)
   unfolding networkOf exceeds
-  protected-over = worst-step (networkOf l) Bound.protected p (G .protected) i k hi inside
+  protected-over = worst-step (networkOf l) Bound.protected p (h .ready .protected) i k hi (link-low h)
 
   total-over : worstOver (networkOf l) (even (networkOf l) mostSteps) i k Bound.total
       ≡ ltb ((1000 + at l 2) * (mostSteps * at l (6 + k))) (1000 * stepSum a mostSteps i k)
   unfolding networkOf exceeds
-  total-over = worst-step (networkOf l) Bound.total a (G .all) i k hi inside
+  total-over = worst-step (networkOf l) Bound.total a (h .ready .all) i k hi (link-low h)
 
   pub is-over-first : mostSteps * at l (6 + k) < stepSum p mostSteps i k → true ≡ isOver (networkOf l) i k
-  is-over-first h = sym (ap (λ (b : Bool). b || worstOver (networkOf l) (even (networkOf l) mostSteps) i k Bound.total) (protected-over ∙ lt-ltb _ _ h))
+  is-over-first o = sym (ap (λ (b : Bool). b || worstOver (networkOf l) (even (networkOf l) mostSteps) i k Bound.total) (protected-over ∙ lt-ltb _ _ o))
 
   pub is-over-second : stepSum p mostSteps i k ≤ mostSteps * at l (6 + k)
       → ltb ((1000 + at l 2) * (mostSteps * at l (6 + k))) (1000 * stepSum a mostSteps i k) ≡ isOver (networkOf l) i k
-  is-over-second h = sym (ap₂ _||_ (protected-over ∙ le-ltb _ _ h) total-over)
+  is-over-second o = sym (ap₂ _||_ (protected-over ∙ le-ltb _ _ o) total-over)
 
 -- what one link tells of the search for the first overload
 or-false : (b c : Bool) → (b || c) ≡ false → (b ≡ false) × (c ≡ false)

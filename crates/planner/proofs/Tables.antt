@@ -23,7 +23,7 @@ use Rattle.model.specs.Rule.{crosses, onLink, counts}
 use Rattle.model.proofs.Sums.{sum-zero, sum-take, sum-skip, sum-bound, sum-both}
 use Rattle.model.proofs.Searches.{bool-cases}
 use Rattle.planner.proofs.Digits.{digits-gone, none-left, next-from, next-set, next-below, next-left}
-use Rattle.planner.specs.Tables.{Part, tableSize, sumAt, amount, Room, Added, inSet, onPart, Table, unprotected, Loads, Gathered, Joined, stepSum, endSum}
+use Rattle.planner.specs.Tables.{Part, tableSize, sumAt, amount, Room, Added, inSet, onPart, Table, unprotected, Loads, Joined, stepSum, endSum}
 
 -- ---- one link
 

@@ -10,7 +10,7 @@ use Rattle.model.specs.Sum.{sumOver}
 use Rattle.model.specs.Net.{Net}
 use Rattle.model.specs.Scan.{Bound}
 use Rattle.model.specs.Rule.{onLink, counts}
-use Rattle.lists.specs.Lists.{at}
+use Rattle.lists.specs.Lists.{at, networkOf, GoodNetwork}
 
 -- a table has three parts, with a number for each link that a network can have: of the old amounts, the new ones, and the larger of the two
 pub data Part : Type 0 where
@@ -63,10 +63,11 @@ unprotected N t = not (counts N Bound.protected t)
 abbrev pub Loads : Net → Bound → List ℕ → Type 0
 Loads N b s = Table N (N .tunnels) (counts N b) s
 
--- the tables of both bounds
-pub record Gathered (N : Net) (p a : List ℕ) : Type 0 where
-  pub protected : Loads N Bound.protected p
-  pub all : Loads N Bound.total a
+-- what the search starts from: a good network, with the tables of both bounds
+pub record Ready (l p a : List ℕ) : Type 0 where
+  pub good : GoodNetwork l
+  pub protected : Loads (networkOf l) Bound.protected p
+  pub all : Loads (networkOf l) Bound.total a
 
 -- the table s′ has the sums of the numbers of two others
 pub record Joined (s more s′ : List ℕ) : Type 0 where

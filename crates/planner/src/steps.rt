@@ -5,8 +5,8 @@ ghost use Rattle.model.specs.Limits.{mostLinks, mostTunnels, mostSteps};
 ghost use Rattle.model.specs.Rule.{accepted};
 ghost use Rattle.model.specs.Even.{even, fewest, stuckAt};
 ghost use Rattle.lists.specs.Answers.{plan};
-ghost use Rattle.lists.specs.Lists.{networkOf, GoodNetwork};
-ghost use Rattle.planner.specs.Tables.{Room, Gathered, stepSum, endSum};
+ghost use Rattle.lists.specs.Lists.{at, networkOf};
+ghost use Rattle.planner.specs.Tables.{Room, Ready, stepSum, endSum};
 ghost use Rattle.planner.specs.Planned.{stuck};
 ghost use Rattle.planner.specs.Search.{answered, isOver};
 use crate::sums;
@@ -41,8 +41,7 @@ fn end_load(table: &[u64], q: u64, link: usize) -> u64
 
 // Is the even plan of q steps accepted?
 fn fits(network: &[u64], protected: &[u64], all: &[u64], q: u64) -> bool
-    requires { ⌜ GoodNetwork (now network) ⌝ }
-    requires { ⌜ Gathered (networkOf (now network)) (now protected) (now all) ⌝ }
+    requires { ⌜ Ready (now network) (now protected) (now all) ⌝ }
     requires { ⌜ (1 ≤ q) × (q ≤ mostSteps) ⌝ }
     ensures { λ r. ⌜ r ≡ accepted (networkOf (now (network .entry))) (even (networkOf (now (network .entry))) q) ⌝ }
 {
@@ -63,8 +62,7 @@ fn fits(network: &[u64], protected: &[u64], all: &[u64], q: u64) -> bool
 }
 
 pub fn fewest_steps(network: &[u64], protected: &[u64], all: &[u64]) -> Fewest
-    requires { ⌜ GoodNetwork (now network) ⌝ }
-    requires { ⌜ Gathered (networkOf (now network)) (now protected) (now all) ⌝ }
+    requires { ⌜ Ready (now network) (now protected) (now all) ⌝ }
     ensures { λ r. ⌜ r ≡ answered (fewest (networkOf (now (network .entry)))) ⌝ }
 {
     let mut tried: u64 = 0;
@@ -80,9 +78,8 @@ pub fn fewest_steps(network: &[u64], protected: &[u64], all: &[u64]) -> Fewest
 
 // Does the plan of 50 steps break a bound on the link in the step that leads from the given row?
 fn is_over(network: &[u64], protected: &[u64], all: &[u64], row: u64, link: usize) -> bool
-    requires { ⌜ GoodNetwork (now network) ⌝ }
-    requires { ⌜ Gathered (networkOf (now network)) (now protected) (now all) ⌝ }
-    requires { ⌜ (row < mostSteps) × (link < networkOf (now network) .links) ⌝ }
+    requires { ⌜ Ready (now network) (now protected) (now all) ⌝ }
+    requires { ⌜ (row < mostSteps) × (link < at (now network) 3) ⌝ }
     ensures { λ r. ⌜ r ≡ isOver (networkOf (now (network .entry))) row link ⌝ }
 {
     let room = Network::STEPS * network[6 + link];
@@ -94,8 +91,7 @@ fn is_over(network: &[u64], protected: &[u64], all: &[u64], row: u64, link: usiz
 
 // Where the plan of 50 steps first overloads: steps ascending, within a step links ascending.
 pub fn first_overload(network: &[u64], protected: &[u64], all: &[u64]) -> Answer
-    requires { ⌜ GoodNetwork (now network) ⌝ }
-    requires { ⌜ Gathered (networkOf (now network)) (now protected) (now all) ⌝ }
+    requires { ⌜ Ready (now network) (now protected) (now all) ⌝ }
     ensures { λ r. ⌜ r ≡ plan (stuck (stuckAt (networkOf (now (network .entry))))) ⌝ }
 {
     let links = network[3] as usize;

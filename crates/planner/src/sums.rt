@@ -7,7 +7,7 @@ ghost use lib.ListN.{length, getD, set, replicate};
 ghost use Rattle.model.specs.Limits.{mostAmount, mostLinks, mostTunnels};
 ghost use Rattle.model.specs.Scan.{Bound};
 ghost use Rattle.lists.specs.Lists.{networkOf, GoodNetwork};
-ghost use Rattle.planner.specs.Tables.{tableSize, Room, Added, inSet, Table, unprotected, Loads, Gathered, Joined};
+ghost use Rattle.planner.specs.Tables.{tableSize, Room, Added, inSet, Table, unprotected, Loads, Ready, Joined};
 use lists::Network;
 
 // Where a table's second part begins, and its third, and where it ends.
@@ -95,7 +95,7 @@ fn add_table(more: &[u64], table: &mut [u64])
 pub fn gather(network: &[u64], protected: &mut [u64], all: &mut [u64])
     requires { ⌜ GoodNetwork (now network) ⌝ }
     requires { ⌜ (now protected ≡ replicate tableSize 0) × (now all ≡ replicate tableSize 0) ⌝ }
-    ensures { λ _. ⌜ Gathered (networkOf (now (network .entry))) (now (protected .exit)) (now (all .exit)) ⌝ }
+    ensures { λ _. ⌜ Ready (now (network .entry)) (now (protected .exit)) (now (all .exit)) ⌝ }
 {
     split(network, protected, all);
     add_table(protected, all);

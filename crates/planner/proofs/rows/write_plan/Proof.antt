@@ -58,7 +58,7 @@ sub-loop : tie.Need-sub-loop Inv-loop μ-loop
 sub-loop c = search needs
 
 add-done : tie.Need-add-done Inv-loop μ-loop
-add-done c = record { fits = omega arith }
+add-done c = search needs
 
 -- the row ends within the output, and its end is small
 inside : (c : tie.In-loop Inv-loop μ-loop)
@@ -91,7 +91,7 @@ sub-write-row : tie.Need-sub-write-row Inv-loop μ-loop
 sub-write-row c = search needs
 
 part-write-row-start : tie.Need-part-write-row-start Inv-loop μ-loop
-part-write-row-start c = omega arith
+part-write-row-start c = search needs
 
 part-write-row-end : tie.Need-part-write-row-end Inv-loop μ-loop
 part-write-row-end c = omega (arith, inside c)

@@ -41,15 +41,12 @@ loop-holds : tie.Need-loop-holds Inv-loop μ-loop
 loop-holds c = record { size = refl; low = omega arith; done = listed-none _ _ }
 
 mul-at : tie.Need-mul-at Inv-loop μ-loop
-unfolding networkOf
 mul-at c = search needs
 
 add-at : tie.Need-add-at Inv-loop μ-loop
-unfolding networkOf
 add-at c = search needs
 
 add-row : tie.Need-add-row Inv-loop μ-loop
-unfolding networkOf
 add-row c = search needs
 
 mul-row : tie.Need-mul-row Inv-loop μ-loop
@@ -80,7 +77,6 @@ mul-row-2 : tie.Need-mul-row-2 Inv-loop μ-loop
 mul-row-2 c = record { fits = omega (arith, old-part c) }
 
 add-row-2 : tie.Need-add-row-2 Inv-loop μ-loop
-unfolding networkOf
 add-row-2 c = search needs
 
 mul-row-3 : tie.Need-mul-row-3 Inv-loop μ-loop
@@ -121,7 +117,7 @@ loop-again c =
     }
 
 same-length : tie.Need-same-length Inv-loop μ-loop
-same-length c = c .before .loop .inv .size
+same-length c = search needs
 
 returns : tie.Need-returns Inv-loop μ-loop
 unfolding networkOf

@@ -24,7 +24,7 @@ add-q : tie.Need-add-q Inv-loop μ-loop
 add-q c = search needs
 
 fits-requires : tie.Need-fits-requires Inv-loop μ-loop
-fits-requires c κs = (c .before .before .before .before .before .pre .0, (c .before .before .before .before .before .pre .1, (omega arith, omega arith)))
+fits-requires c κs = (c .before .before .before .before .before .pre, (omega arith, omega arith))
 
 returns : tie.Need-returns Inv-loop μ-loop
 returns c = sym (ap answered (fewest-at _ (c .before .before .before .loop .tried) (c .before .before .before .loop .inv .1) (sym (c .before .fits2 .ensures) ∙ c .if1 .taken) (omega (arith, c .before .before .loop-test .taken))))

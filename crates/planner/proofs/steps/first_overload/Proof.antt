@@ -44,8 +44,7 @@ loop-holds : tie.Need-loop-holds Inv-loop μ-loop Inv-steps μ-steps
 loop-holds c = record { low = omega arith; none = c .before .steps .inv .none; kept = first-zero _ }
 
 is-over-requires : tie.Need-is-over-requires Inv-loop μ-loop Inv-steps μ-steps
-unfolding networkOf
-is-over-requires c κs = (c .before .before .before .before .before .before .before .before .pre .0, (c .before .before .before .before .before .before .before .before .pre .1, (c .before .before .steps-test .taken, c .loop-test .taken)))
+is-over-requires c κs = (c .before .before .before .before .before .before .before .before .pre, (c .before .before .steps-test .taken, c .loop-test .taken))
 
 add-place : tie.Need-add-place Inv-loop μ-loop Inv-steps μ-steps
 add-place c = search needs

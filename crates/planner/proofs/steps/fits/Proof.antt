@@ -12,7 +12,7 @@ use Rattle.model.proofs.Choices.{factor, room}
 use Rattle.model.proofs.Evens.{even-accepted}
 use Rattle.lists.specs.Lists.{networkOf}
 use Rattle.planner.proofs.Tables.{end-room}
-use Rattle.planner.proofs.Searching.{overrun-most, protected-room, all-room, cap-room, overrun-room, over-protected, over-total, kept-both}
+use Rattle.planner.proofs.Searching.{AtLink, link-low, protected-room, all-room, overrun-most, cap-room, overrun-room, over-protected, over-total, kept-both}
 use Rattle.planner.proofs.steps.fits.Statement.{statement}
 use Rattle.planner.proofs.steps.fits.Tie as tie
 
@@ -30,43 +30,44 @@ shared-slice-read-links : tie.Need-shared-slice-read-links Inv-loop μ-loop
 shared-slice-read-links c = search needs
 
 loop-holds : tie.Need-loop-holds Inv-loop μ-loop
-loop-holds c = record { low = omega arith; kept = λ k h. absurd (omega arith) }
+loop-holds c = search needs
 
 add-room : tie.Need-add-room Inv-loop μ-loop
-add-room c = record { fits = omega (arith, c .before .before .before .before .before .before .before .pre .0 .size) }
+add-room c = search needs
 
 mul-room : tie.Need-mul-room Inv-loop μ-loop
-mul-room c = omega (arith, c .before .before .before .before .before .before .before .pre .0 .size)
+mul-room c = search needs
 
 shared-slice-read-room : tie.Need-shared-slice-read-room Inv-loop μ-loop
-shared-slice-read-room c = omega (arith, c .before .before .before .before .before .before .before .before .pre .0 .size)
+shared-slice-read-room c = search needs
+
+here : (c : tie.In-loop Inv-loop μ-loop)
+    → AtLink (c .before .before .before .before .before .before .before .args .network .now) (c .before .before .before .before .before .before .before .args .protected .now) (c .before .before .before .before .before .before .before .args .all .now) (c .before .before .before .before .before .before .before .args .q) (c .before .loop .link)
+here c = let s = c .before .before .before .before .before .before .before in record { ready = s .pre .0; least = s .pre .1 .0; most = s .pre .1 .1; link = c .loop-test .taken }
 
 mul-room-2 : tie.Need-mul-room-2 Inv-loop μ-loop
-mul-room-2 c = record { fits = omega (arith, cap-room (c .before .before .before .before .before .before .before .before .args .network .now) (c .before .before .before .before .before .before .before .before .pre .0) (c .before .before .before .before .before .before .before .before .args .protected .now) (c .before .before .before .before .before .before .before .before .args .all .now) (c .before .before .before .before .before .before .before .before .pre .1 .0) (c .before .before .before .before .before .before .before .before .args .q) (c .before .before .loop .link) (c .before .before .before .before .before .before .before .before .pre .1 .1 .1) (c .before .loop-test .taken)) }
+mul-room-2 c = record { fits = omega (arith, cap-room (here (c .before))) }
 
 end-load-requires : tie.Need-end-load-requires Inv-loop μ-loop
-end-load-requires c κs = (protected-room (c .before .before .before .before .before .before .before .before .args .network .now) (c .before .before .before .before .before .before .before .before .pre .0) (c .before .before .before .before .before .before .before .before .args .protected .now) (c .before .before .before .before .before .before .before .before .args .all .now) (c .before .before .before .before .before .before .before .before .pre .1 .0), c .before .before .before .before .before .before .before .before .pre .1 .1 .0, c .before .before .before .before .before .before .before .before .pre .1 .1 .1, omega (arith, c .before .before .before .before .before .before .before .before .pre .0 .links))
+end-load-requires c κs = let h = here (c .before) in (protected-room h, h .least, h .most, link-low h)
 
 returns : tie.Need-returns Inv-loop μ-loop
-returns c =
-    sym (over-protected (c .before .before .before .before .before .before .before .before .before .before .args .network .now) (c .before .before .before .before .before .before .before .before .before .before .pre .0) (c .before .before .before .before .before .before .before .before .before .before .args .protected .now) (c .before .before .before .before .before .before .before .before .before .before .args .all .now) (c .before .before .before .before .before .before .before .before .before .before .pre .1 .0) (c .before .before .before .before .before .before .before .before .before .before .args .q) (c .before .before .before .before .loop .link) (c .before .before .before .before .before .before .before .before .before .before .pre .1 .1 .0) (c .before .before .before .loop-test .taken) (omega (arith, c .before .end-load .ensures, c .if1 .taken)))
+returns c = sym (over-protected (here (c .before .before .before)) (omega (arith, c .before .end-load .ensures, c .if1 .taken)))
 
 add-if2 : tie.Need-add-if2 Inv-loop μ-loop
-add-if2 c = record { fits = omega (arith, overrun-most (c .before .before .before .before .before .before .before .before .before .before .args .network .now) (c .before .before .before .before .before .before .before .before .before .before .pre .0)) }
+add-if2 c = record { fits = omega (arith, overrun-most (here (c .before .before .before))) }
 
 mul-if2 : tie.Need-mul-if2 Inv-loop μ-loop
-mul-if2 c = record { fits = omega (arith, overrun-room (c .before .before .before .before .before .before .before .before .before .before .args .network .now) (c .before .before .before .before .before .before .before .before .before .before .pre .0) (c .before .before .before .before .before .before .before .before .before .before .args .protected .now) (c .before .before .before .before .before .before .before .before .before .before .args .all .now) (c .before .before .before .before .before .before .before .before .before .before .pre .1 .0) (c .before .before .before .before .before .before .before .before .before .before .args .q) (c .before .before .before .before .loop .link) (c .before .before .before .before .before .before .before .before .before .before .pre .1 .1 .1) (c .before .before .before .loop-test .taken)) }
+mul-if2 c = record { fits = omega (arith, overrun-room (here (c .before .before .before))) }
 
 end-load-requires-2 : tie.Need-end-load-requires-2 Inv-loop μ-loop
-end-load-requires-2 c κs = (all-room (c .before .before .before .before .before .before .before .before .before .before .args .network .now) (c .before .before .before .before .before .before .before .before .before .before .pre .0) (c .before .before .before .before .before .before .before .before .before .before .args .protected .now) (c .before .before .before .before .before .before .before .before .before .before .args .all .now) (c .before .before .before .before .before .before .before .before .before .before .pre .1 .0), c .before .before .before .before .before .before .before .before .before .before .pre .1 .1 .0, c .before .before .before .before .before .before .before .before .before .before .pre .1 .1 .1, omega (arith, c .before .before .before .before .before .before .before .before .before .before .pre .0 .links))
+end-load-requires-2 c κs = let h = here (c .before .before .before) in (all-room h, h .least, h .most, link-low h)
 
 mul-if2-2 : tie.Need-mul-if2-2 Inv-loop μ-loop
-mul-if2-2 c = record { fits = omega (arith, c .end-load2 .ensures, end-room (c .before .before .before .before .before .before .before .before .before .before .before .args .all .now) (all-room (c .before .before .before .before .before .before .before .before .before .before .before .args .network .now) (c .before .before .before .before .before .before .before .before .before .before .before .pre .0) (c .before .before .before .before .before .before .before .before .before .before .before .args .protected .now) (c .before .before .before .before .before .before .before .before .before .before .before .args .all .now) (c .before .before .before .before .before .before .before .before .before .before .before .pre .1 .0)) (c .before .before .before .before .before .loop .link) (omega (arith, c .before .before .before .before .before .before .before .before .before .before .before .pre .0 .links)) (c .before .before .before .before .before .before .before .before .before .before .before .args .q) (c .before .before .before .before .before .before .before .before .before .before .before .pre .1 .1 .1)) }
+mul-if2-2 c = let h = here (c .before .before .before .before) in record { fits = omega (arith, c .end-load2 .ensures, end-room _ (all-room h) _ (link-low h) _ (h .most)) }
 
 returns-2 : tie.Need-returns-2 Inv-loop μ-loop
-returns-2 c =
-    sym (over-total (c .before .before .before .before .before .before .before .before .before .before .before .before .args .network .now) (c .before .before .before .before .before .before .before .before .before .before .before .before .pre .0) (c .before .before .before .before .before .before .before .before .before .before .before .before .args .protected .now) (c .before .before .before .before .before .before .before .before .before .before .before .before .args .all .now) (c .before .before .before .before .before .before .before .before .before .before .before .before .pre .1 .0) (c .before .before .before .before .before .before .before .before .before .before .before .before .args .q) (c .before .before .before .before .before .before .loop .link) (c .before .before .before .before .before .before .before .before .before .before .before .before .pre .1 .1 .0) (c .before .before .before .before .before .loop-test .taken)
-    (omega (arith, ap (λ (w : ℕ). 1000 * w) (c .before .end-load2 .ensures), c .if2 .taken)))
+returns-2 c = sym (over-total (here (c .before .before .before .before .before)) (omega (arith, ap (λ (w : ℕ). 1000 * w) (c .before .end-load2 .ensures), c .if2 .taken)))
 
 add-link : tie.Need-add-link Inv-loop μ-loop
 add-link c = search needs
@@ -76,22 +77,21 @@ loop-less c = search needs
 
 loop-again : tie.Need-loop-again Inv-loop μ-loop
 loop-again c =
-    let i = c .before .before .before .before .before .before in
-    let k = i .loop .link in
-    let here = kept-both (c .before .before .before .before .before .before .before .before .before .before .before .before .args .network .now) (c .before .before .before .before .before .before .before .before .before .before .before .before .pre .0) (c .before .before .before .before .before .before .before .before .before .before .before .before .args .protected .now) (c .before .before .before .before .before .before .before .before .before .before .before .before .args .all .now) (c .before .before .before .before .before .before .before .before .before .before .before .before .pre .1 .0) (c .before .before .before .before .before .before .before .before .before .before .before .before .args .q) k (c .before .before .before .before .before .before .before .before .before .before .before .before .pre .1 .1 .0) (c .before .before .before .before .before .loop-test .taken)
+    let i = c .before .before .before .before .before .before .loop in
+    let both = kept-both (here (c .before .before .before .before .before))
     (omega (arith, c .before .before .before .end-load .ensures, c .before .before .if1 .left))
     (omega (arith, ap (λ (w : ℕ). 1000 * w) (c .before .end-load2 .ensures), c .if2 .left)) in
     record {
       low = omega arith;
-      kept = λ j h. ⊎-elim (λ (e : j ≡ k). rw e here) (i .loop .inv .kept j) (eq-or-lt-of-le (le-of-suc-le-suc (rw add-one at h)));
+      kept = λ j h. ⊎-elim (λ (e : j ≡ i .link). rw e both) (i .inv .kept j) (eq-or-lt-of-le (le-of-suc-le-suc (rw add-one at h)));
     }
 
 returns-3 : tie.Need-returns-3 Inv-loop μ-loop
 unfolding networkOf
 returns-3 c =
-    let a = c .before .before .before .before .before .before .before in
-    let N = networkOf (a .args .network .now) in
-    sym (even-accepted N (a .pre .0 .valid .sums) (a .args .q) (a .pre .1 .1 .0) .1 (λ k h. c .before .loop .inv .kept k (lt-of-lt-of-le h (c .loop-test .left))))
+    let s = c .before .before .before .before .before .before .before in
+    let N = networkOf (s .args .network .now) in
+    sym (even-accepted N (s .pre .0 .good .valid .sums) (s .args .q) (s .pre .1 .0) .1 (λ k h. c .before .loop .inv .kept k (lt-of-lt-of-le h (c .loop-test .left))))
 
 pub fits-spec : {M : Type 1} → statement M
 fits-spec =

@@ -22,13 +22,13 @@ mul-table : tie.Need-mul-table Inv-loop μ-loop
 mul-table c = search needs
 
 shared-slice-read-table : tie.Need-shared-slice-read-table Inv-loop μ-loop
-shared-slice-read-table c = omega (arith, c .before .before .before .pre .0 .size)
+shared-slice-read-table c = search needs
 
 mul-table-2 : tie.Need-mul-table-2 Inv-loop μ-loop
-mul-table-2 c = omega (arith, c .before .before .loop .inv .joined .size)
+mul-table-2 c = search needs
 
 slice-read-table : tie.Need-slice-read-table Inv-loop μ-loop
-slice-read-table c = omega (arith, c .before .before .before .loop .inv .joined .size)
+slice-read-table c = search needs
 
 add-table : tie.Need-add-table Inv-loop μ-loop
 add-table c =
@@ -42,7 +42,7 @@ add-table c =
     )
 
 slice-write-table : tie.Need-slice-write-table Inv-loop μ-loop
-slice-write-table c = omega (arith, c .before .before .before .loop .inv .joined .size)
+slice-write-table c = search needs
 
 add-i : tie.Need-add-i Inv-loop μ-loop
 add-i c = search needs
@@ -56,7 +56,7 @@ loop-again c =
     record { low = omega arith; joined = join-on (i .loop .i) _ _ _ (c .before .before .loop-test .taken) (i .loop .inv .joined) }
 
 same-length : tie.Need-same-length Inv-loop μ-loop
-same-length c = c .before .loop .inv .joined .size ∙ sym (c .before .before .pre .1 .size)
+same-length c = search needs
 
 returns : tie.Need-returns Inv-loop μ-loop
 returns c =

@@ -28,7 +28,7 @@ add-link-requires c κs =
     (added-room _ _ _ _ _ (p .added) (s .pre .0) (s .pre .1) (s .pre .2), next-within (s .args .via) (p .link) (i .set) (s .fits .via .fits) (p .left-from) (c .before .loop-test .taken), s .pre .1, s .pre .2)
 
 sub-set : tie.Need-sub-set Inv-loop μ-loop
-sub-set c = omega (arith, pos-of-ne-zero (c .before .before .before .before .loop-test .taken))
+sub-set c = search needs
 
 loop-less : tie.Need-loop-less Inv-loop μ-loop
 loop-less c =
@@ -43,7 +43,7 @@ loop-again c =
     passing-on (s .args .via) _ _ _ (i .set) _ _ (s .fits .via .fits) (c .before .before .before .before .loop-test .taken) (i .inv) (c .before .before .add-link .ensures)
 
 same-length : tie.Need-same-length Inv-loop μ-loop
-same-length c = c .before .loop .inv .added .size
+same-length c = search needs
 
 returns : tie.Need-returns Inv-loop μ-loop
 returns c = passing-end _ _ _ _ _ _ (c .before .loop .inv) (c .loop-test .left)

@@ -25,7 +25,7 @@ same-length-2 c = search needs
 returns : tie.Need-returns
 returns c =
     let e = c .before .before .before .before .before .before .before .before .before .split .ensures in
-    record { protected = e .0; all = tables-join _ _ _ _ (e .0) (e .1) (c .before .before .add-table .ensures) }
+    record { good = c .before .before .before .before .before .before .before .before .before .before .before .before .before .before .before .pre .0; protected = e .0; all = tables-join _ _ _ _ (e .0) (e .1) (c .before .before .add-table .ensures) }
 
 pub gather-spec : {M : Type 1} → statement M
 gather-spec =

@@ -148,10 +148,10 @@ loop-again c =
     record { low = omega arith; protected = tables .0; others = tables .1 }
 
 same-length : tie.Need-same-length Inv-loop μ-loop
-same-length c = c .before .loop .inv .protected .size ∙ sym (ap length (c .before .before .before .before .before .before .before .before .pre .1 .0) ∙ length-replicate {A = ℕ} tableSize 0)
+same-length c = search needs
 
 same-length-2 : tie.Need-same-length-2 Inv-loop μ-loop
-same-length-2 c = c .before .loop .inv .others .size ∙ sym (ap length (c .before .before .before .before .before .before .before .before .pre .1 .1) ∙ length-replicate {A = ℕ} tableSize 0)
+same-length-2 c = search needs
 
 returns : tie.Need-returns Inv-loop μ-loop
 unfolding networkOf
