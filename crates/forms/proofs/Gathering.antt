@@ -1,14 +1,12 @@
 -- Laws of the sums that are gathered tunnel by tunnel, and of the search for the first that misses its rate. Assumes nothing.
-use mathlib.Core.Path.{_≡_, refl, sym, ap, _∙_}
-use mathlib.Core.Bool.{Bool, true, false, not}
+use mathlib.Core.Path.{_≡_, refl, sym, ap}
 use mathlib.Core.List.{List}
 use mathlib.Core.Option.{Option, none, some}
-use Prim.Native.Nat.{ℕ, zero, suc, _+_, _*_, _^_, _≤_, _<_}
+use Prim.Native.Nat.{ℕ, zero, suc, _+_, _^_, _≤_, _<_}
 use native.Mathlib.Decide.{ℕ-discrete}
-use native.Mathlib.Nat.{mul-le-mul-right, lt-of-le-of-lt}
 use native.Mathlib.Omega.{arith}
 use lib.Dec.{eqb}
-use lib.ListN.{length, getD, set, replicate, length-set, length-replicate}
+use lib.ListN.{length, getD, set, replicate, length-set}
 use lib.Seq.{getD-set-same, getD-set-other}
 use borrow.Author.Tests.{eq-eqb, ne-eqb}
 use Rattle.model.specs.Limits.{mostFlows, mostTunnels, mostAmount}
@@ -20,7 +18,6 @@ use Rattle.model.proofs.Sums.{sum-zero, sum-take, sum-skip, sum-bound}
 use Rattle.model.proofs.Searches.{first-at}
 use Rattle.lists.specs.Lists.{networkOf}
 use Rattle.lists.specs.Answers.{done}
-use Rattle.lists.specs.declared.Answer.{Answer}
 use Rattle.lists.specs.declared.Answer.the-variants.{Done, Refused}
 use Rattle.forms.specs.Read.{addUp, unlessMissed}
 use Rattle.forms.specs.Sums.{Gathered}
@@ -32,11 +29,11 @@ zeros (suc n) zero = refl
 zeros (suc n) (suc f) = zeros n f
 
 module _ (N : Net) (x : ℕ → ℕ) where
-  pub gathered-none : (s : List ℕ) → s ≡ replicate 32 0 → Gathered N x 0 s
+  pub gathered-none : (s : List ℕ) → s ≡ replicate mostFlows 0 → Gathered N x 0 s
   gathered-none s e =
       record {
         size = rw e;
-        sums = λ f h. rw (e, sum-zero) (zeros 32 f);
+        sums = λ f h. rw (e, sum-zero) (zeros mostFlows f);
       }
 
   -- the amount of tunnel n is added to the sum of its flow

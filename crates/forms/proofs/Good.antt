@@ -5,7 +5,7 @@ use mathlib.Core.List.{List, [], _∷_}
 use mathlib.Core.Logic.{_⊎_, inl, inr}
 use mathlib.Core.Option.{Option, none, some}
 use Prim.Native.Nat.{ℕ, zero, suc, _+_, _*_, _-_, _/_, _%_, _^_, _≤_, _<_}
-use native.Mathlib.Nat.{add-assoc, mul-comm, mul-le-mul-right, div-lt-iff-lt-mul, div-add-mod', mod-lt, le-of-lt}
+use native.Mathlib.Nat.{le-of-lt}
 use native.Mathlib.Decide.{decLt}
 use native.Mathlib.Omega.{arith}
 use lib.Dec.{T, eqb, leb, ltb, ltb→lt, eqb·suc-zero}
@@ -13,18 +13,18 @@ use lib.ListN.{length, getD, take}
 use lib.Seq.{getD-take, length-take-le}
 use borrow.Author.Tests.{le-leb, lt-ltb, le-ltb}
 use Rattle.model.specs.Limits.{mostLinks, mostFlows, mostTunnels, mostSteps, mostAmount, leastShare, mostShare}
-use Rattle.model.specs.Outcome.{Outcome, good, refused}
+use Rattle.model.specs.Outcome.{good}
 use Rattle.model.specs.Rule as rule
-use Rattle.lists.specs.Lists.{at, flowAt, tunnelAt, networkOf, planOf}
+use Rattle.lists.specs.Lists.{at, flowAt, tunnelAt, networkOf, GoodNetwork, GoodPlan}
 use Rattle.forms.specs.Keys.{At}
-use Rattle.forms.specs.Form.{admitsOf, Sound, Whole, allows, fieldOf, networkLines, networkHead, flowLines, flowGroup, tunnelLines, tunnelGroup, planLines, planHead, networkField, networkBody, planField}
+use Rattle.forms.specs.Form.{Sound, Whole, allows, fieldOf, networkLines, networkHead, flowLines, flowGroup, tunnelLines, tunnelGroup, planLines, planHead, networkField, networkBody, planField}
 use Rattle.forms.specs.Read.{addUp, unlessMissed, judgeNetwork, judgePlan}
-use Rattle.forms.specs.Good.{NetworkRanges, GoodNetwork, GoodPlan}
+use Rattle.forms.specs.Good.{NetworkRanges}
 use Rattle.forms.specs.declared.form.Form.the-variants.{Network, Plan}
 use Rattle.forms.specs.declared.form.Range.the-variants.{Between}
 use Rattle.forms.specs.declared.form.Field.{Field}
 use Rattle.forms.specs.declared.form.Field.the-variants.{Line, End}
-use Rattle.forms.proofs.Forms.{both, between, head-of-network, head-of-plan, network-head-at, network-body-at, plan-head-at, plan-body-at, planBody, rowLines, body-cap, body-flow, body-tunnel, body-end}
+use Rattle.forms.proofs.Forms.{both, between, network-head-at, network-body-at, plan-head-at, plan-body-at, planBody, rowLines, body-cap, body-flow, body-tunnel, body-end}
 use Rattle.forms.proofs.Walks.{judged-good, good-judged}
 
 -- ---- no field of a group is the end
@@ -125,7 +125,6 @@ module _ (l : List ℕ) (w : Whole Network l) where
   head-line i h = network-head-at l (w .sound) i (omega (arith, network-long)) h
 
   pub network-ranges : NetworkRanges l
-  unfolding networkOf
   network-ranges =
       record {
         edition = let p = between 1 1 (at l 0) (head-line 0 (omega arith)) in omega arith;
@@ -144,33 +143,33 @@ module _ (l : List ℕ) (w : Whole Network l) where
         new = λ t h. between 0 mostAmount _ (tunnel-line t 3 (tunnelAt l t + 3) h (omega arith) refl) .1;
       }
 
--- the sizes, as the code reads them from the head
-pub record Sizes (l : List ℕ) : Type 0 where
-  pub links : at l 3 ≤ mostLinks
-  pub flows : at l 4 ≤ mostFlows
-  pub tunnels : at l 5 ≤ mostTunnels
-  pub size : length l ≡ 6 + at l 3 + 2 * at l 4 + 4 * at l 5
-
-pub sizes : (l : List ℕ) → NetworkRanges l → Sizes l
-unfolding networkOf
-sizes l r = record { links = r .links .1; flows = r .flows; tunnels = r .tunnels; size = r .size }
-
 sums-good : (l g : List ℕ) (o : Option rule.Place) → unlessMissed l o ≡ good g → o ≡ none
 sums-good l g none e = refl
 sums-good l g (some p) e = let z : _≡_ {A = ℕ} 0 1 = cc in absurd (omega arith)
 
 -- a list that is judged good as a network is what is got, and is good
 pub good-network : (l g : List ℕ) → judgeNetwork l ≡ good g → (g ≡ l) × GoodNetwork l
-unfolding addUp
+unfolding addUp networkOf
 good-network l g e =
     let j = judged-good Network l g e in
-    (j .same, record { ranges = network-ranges l (j .whole); sums = sums-good l l (rule.missedRate (networkOf l)) (j .sums) })
+    let r = network-ranges l (j .whole) in (
+      j .same,
+      record {
+        size = r .size;
+        links = r .links;
+        flows = r .flows;
+        tunnels = r .tunnels;
+        cap = r .cap;
+        rate = r .rate;
+        flow = r .flow;
+        via = λ t h. r .via t h .1;
+        old = r .old;
+        new = r .new;
+        valid = record { scratch = r .scratch; overrun = r .overrun; sums = sums-good l l (rule.missedRate (networkOf l)) (j .sums) };
+      },
+    )
 
 -- ---- the plan
-
--- the place of column t of row q, in rows of m
-row-index : (q p m t : ℕ) → q < p → t < m → q * m + t < p * m
-row-index q p m t h k = omega (arith, mul-le-mul-right m h)
 
 cond-end : (b : Bool) (k : ℕ) (v : ℕ) → cond b (Line k (Between 0 v)) End ≡ End → b ≡ false
 cond-end true k v e = let z : _≡_ {A = ℕ} 0 1 = cc in absurd (omega arith)
@@ -206,18 +205,16 @@ module _ (l : List ℕ) (w : Whole Plan l) where
   plan-head-line i h = plan-head-at l (w .sound) i (omega (arith, plan-long)) h
 
   pub plan-ranges : GoodPlan l
-  unfolding planOf
   plan-ranges =
       record {
+        size = plan-size;
         edition = let p = between 1 1 (at l 0) (plan-head-line 0 (omega arith)) in omega arith;
         parts = between 1 mostSteps (at l 1) (plan-head-line 1 (omega arith));
         steps = between 1 mostSteps (at l 2) (plan-head-line 2 (omega arith));
         tunnels = between 0 mostTunnels (at l 3) (plan-head-line 3 (omega arith)) .1;
-        size = plan-size;
-        amount = λ a t one h k.
-            let less : a - 1 < at l 2 - 1 = omega arith in
-            let n : (a - 1) * at l 3 + t < rowLines l = row-index (a - 1) (at l 2 - 1) (at l 3) t less k in
-            rw add-assoc (body-in ((a - 1) * at l 3 + t) n (omega (arith, plan-size)));
+        amounts = λ i four h.
+            let e : 4 + (i - 4) ≡ i = omega arith in
+            rw e at (body-in (i - 4) (omega (arith, plan-size)) (omega arith));
       }
 
 -- a list that is judged good as a plan is what is got, and is good
@@ -229,43 +226,23 @@ good-plan l g e =
 -- and a good plan is judged good
 module _ (l : List ℕ) (g : GoodPlan l) where
   head-in : (i : ℕ) → i < 4 → T (allows (planHead i) (at l i))
-  unfolding planOf
   head-in zero h = let e : at l 0 ≡ 1 = g .edition in rw e tt
   head-in (suc zero) h = in-between 1 mostSteps (at l 1) (g .parts .0) (g .parts .1)
   head-in (suc (suc zero)) h = in-between 1 mostSteps (at l 2) (g .steps .0) (g .steps .1)
   head-in (suc (suc (suc zero))) h = in-between 0 mostTunnels (at l 3) (omega arith) (g .tunnels)
   head-in (suc (suc (suc (suc i)))) h = absurd (omega arith)
 
-  row-in : (n : ℕ) → n < rowLines l → at l (4 + n) ≤ mostAmount * at l 1
-  unfolding planOf
-  row-in n h = go (decLt 0 (at l 3))
-    where
-      go : Dec (0 < at l 3) → at l (4 + n) ≤ mostAmount * at l 1
-      go (yes p) =
-          let q : n / at l 3 < at l 2 - 1 = div-lt-iff-lt-mul p .1 h in
-          let s : n / at l 3 + 1 < at l 2 = omega arith in
-          let one : 1 ≤ n / at l 3 + 1 = omega arith in
-          let d : n / at l 3 + 1 - 1 ≡ n / at l 3 = omega arith in
-          let a : at l (4 + (n / at l 3 + 1 - 1) * at l 3 + n % at l 3) ≤ mostAmount * at l 1 = g .amount (n / at l 3 + 1) (n % at l 3) one s (mod-lt n p) in
-          rw (d, add-assoc, div-add-mod' n (at l 3)) at a
-      go (no p) =
-          let z : at l 3 ≡ 0 = omega arith in
-          let r : n < (at l 2 - 1) * 0 = rw z at h in
-          absurd (omega arith)
-
   plan-sound : (i : ℕ) → i < length l → Dec (i < 4) → T (allows (fieldOf Plan (take i l)) (getD l i 0))
-  unfolding fieldOf planField planOf
+  unfolding fieldOf planField
   plan-sound i h (yes k) = rw (length-take-le i l (le-of-lt h), lt-ltb i 4 k) (head-in i k)
   plan-sound i h (no k) =
       let four : 4 ≤ i = omega arith in
       let n : i - 4 < (at l 2 - 1) * at l 3 = omega (arith, g .size) in
-      let j : 4 + (i - 4) ≡ i = omega arith in
-      let v : at l i ≤ mostAmount * at l 1 = rw j at (row-in (i - 4) n) in
       rw (length-take-le i l (le-of-lt h), le-ltb i 4 four, getD-take i l 1 0 (omega arith), getD-take i l 2 0 (omega arith), getD-take i l 3 0 (omega arith), lt-ltb (i - 4) ((at l 2 - 1) * at l 3) n)
-      (in-between 0 (mostAmount * at l 1) (at l i) (omega arith) v)
+      (in-between 0 (mostAmount * at l 1) (at l i) (omega arith) (g .amounts i four h))
 
   plan-ends : fieldOf Plan l ≡ End
-  unfolding fieldOf planField planOf
+  unfolding fieldOf planField
   plan-ends =
       let four : 4 ≤ length l = omega (arith, g .size) in
       let n : (at l 2 - 1) * at l 3 ≤ length l - 4 = omega (arith, g .size) in

@@ -1,5 +1,5 @@
 -- The keys: each has at most 9 bytes with its `=`, none of them a line feed, by a test that antt computes over the table. Assumes nothing.
-use mathlib.Core.Bool.{Bool, true, false, not, _&&_}
+use mathlib.Core.Bool.{Bool, true, not, _&&_}
 use mathlib.Core.List.{List, [], _∷_}
 use Prim.Native.Nat.{ℕ, zero, suc, _≤_}
 use lib.Dec.{T, leb, eqb, leb→le}

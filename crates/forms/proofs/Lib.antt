@@ -3,6 +3,7 @@ pub mod Slots
 pub mod Numbers
 pub mod Forms
 pub mod Keys
+pub mod Answers
 pub mod Walks
 pub mod Good
 pub mod Gathering

@@ -4,11 +4,11 @@ use mathlib.Core.Bool.{Bool, true, false, cond}
 use mathlib.Core.List.{List, [], _∷_}
 use mathlib.Core.Option.{Option, none, some}
 use Prim.Native.Nat.{ℕ, zero, suc, _+_, _*_, _-_, _/_, _%_, _^_, _≤_, _<_}
-use native.Mathlib.Nat.{add-zero, one-mul, le-antisymm, div-eq-of-lt, div-lt-iff-lt-mul, le-div-iff-mul-le, lt-irrefl, pow-le-pow-right, add-mul, mul-assoc, add-assoc, mul-one, zero-mul, zero-add, mod-one, mod-lt, mod-eq-of-lt, pow-zero, pow-suc, pow-succ', div-one, div-div-eq-div-mul, lt-of-lt-of-le}
+use native.Mathlib.Nat.{add-zero, one-mul, le-antisymm, div-eq-of-lt, div-lt-iff-lt-mul, le-div-iff-mul-le, lt-irrefl, pow-le-pow-right, add-mul, mul-assoc, add-assoc, zero-mul, zero-add, mod-lt, mod-eq-of-lt, pow-zero, pow-suc, pow-succ', div-one, div-div-eq-div-mul, lt-of-lt-of-le}
 use native.Mathlib.Decide.{decLt, ℕ-discrete}
 use native.Mathlib.Omega.{arith}
 use lib.Arith.{mod-mul, digits-mod, digits-div}
-use lib.Dec.{ltb, leb, eqb, lit≤}
+use lib.Dec.{ltb, eqb, lit≤}
 use mathlib.Core.Logic.{_⊎_, inl, inr, ⊎-elim}
 use lib.ListN.{length, getD}
 use borrow.Author.Tests.{ltb-true, ltb-false, eqb-true, eqb-false, lt-ltb, le-ltb, le-leb, lt-leb, eq-eqb, ne-eqb}

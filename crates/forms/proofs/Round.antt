@@ -3,24 +3,25 @@ use mathlib.Core.Path.{_≡_, refl, sym, ap, _∙_}
 use mathlib.Core.Bool.{Bool, true, false, cond, not, _&&_}
 use mathlib.Core.List.{List, [], _∷_, _++_, append-assoc, append-nil}
 use mathlib.Core.Option.{Option, none, some}
-use Prim.Native.Nat.{ℕ, zero, suc, _+_, _*_, _-_, _/_, _%_, _^_, _≤_, _<_}
+use Prim.Native.Nat.{ℕ, zero, suc, _+_, _/_, _%_, _^_, _≤_, _<_}
 use native.Mathlib.Omega.{arith}
-use lib.Dec.{T, ltb, leb, eqb}
-use lib.ListN.{length, getD, take, length-append, length-take}
-use lib.Seq.{take-append-seam, getD-append-seam, take-suc, take-length, append-snoc}
-use borrow.Author.Tests.{eq-eqb, ne-eqb, eqb-true, le-leb}
-use Rattle.model.specs.Outcome.{Outcome, good, refused, Cause, malformed, outOfRange, missing, noRoom}
+use lib.Dec.{T, ltb, eqb}
+use lib.ListN.{length}
+use lib.Seq.{append-snoc}
+use borrow.Author.Tests.{ne-eqb}
+use Rattle.model.specs.Outcome.{Outcome, good, refused, Cause, malformed, outOfRange, missing}
 use Rattle.lists.specs.Answers.{withRoom}
 use Rattle.forms.specs.Keys.{prefixOf}
-use Rattle.forms.specs.Line.{lines, onFirst, valuePart, beforeFeed, decimalOf, hexOf, numberFrom, lineValue}
+use Rattle.forms.specs.Line.{lines, onFirst, valuePart, decimalOf, hexOf, lineValue}
 use Rattle.forms.specs.Form.{isHex, fieldOf, admitsOf, allows, secondOf, Sound}
-use Rattle.forms.specs.Read.{walk, itself, readLines, judgeNumbers, readText, judgeList, addUp, andThen, onField, onValue}
+use Rattle.forms.specs.Read.{walk, itself, readLines, judgeNumbers, readText, judgeList, addUp, onField, onValue}
 use Rattle.forms.specs.Write.{digitChar, digitsIn, widthOf, baseOf, digitCount, valueDigits, lineOf, renderFrom, render, writeText}
 use Rattle.forms.specs.Laws.{Follows, FileForm, RoundTrip}
 use Rattle.forms.specs.declared.form.Form.{Form}
 use Rattle.forms.specs.declared.form.Range.{Range}
 use Rattle.forms.specs.declared.form.Field.{Field}
 use Rattle.forms.specs.declared.form.Field.the-variants.{Line, End}
+use Rattle.forms.proofs.Answers.{room-good, good-room}
 use Rattle.forms.proofs.Forms.{sound-none, sound-more, small, small-set}
 use Rattle.forms.proofs.Keys.{no-feeds, key-no-feed}
 use Rattle.forms.proofs.Lines.{own-part, part-line}
@@ -260,17 +261,6 @@ file-form form =
     }
 
 -- ---- the round trips, with room
-
-room-good : (room : ℕ) (o : Outcome (List ℕ)) (l : List ℕ) → withRoom room o ≡ good l → o ≡ good l
-room-good room (good g) l e = go (leb (length g) room) e
-  where
-    go : (b : Bool) → cond b (good g) (refused noRoom (length g) 0) ≡ good l → good g ≡ good l
-    go true e = e
-    go false e = let z : _≡_ {A = ℕ} 0 1 = cc in absurd (omega arith)
-room-good room (refused c a b) l e = e
-
-good-room : (room : ℕ) (l : List ℕ) → length l ≤ room → withRoom room (good l) ≡ good l
-good-room room l h = rw (le-leb (length l) room h)
 
 text-again : (form : Form) (text l : List ℕ) (room space : ℕ) → withRoom room (readText form text) ≡ good l → length text ≤ space
     → withRoom space (writeText form l) ≡ good text

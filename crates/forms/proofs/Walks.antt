@@ -1,5 +1,5 @@
 -- Laws of the walk over a list: its next turn by what stands at an index, and that a list is judged good exactly where it is whole. Assumes nothing.
-use mathlib.Core.Path.{_≡_, refl, sym, ap, _∙_}
+use mathlib.Core.Path.{_≡_, refl, ap, _∙_}
 use mathlib.Core.Bool.{Bool, true, false, cond}
 use mathlib.Core.List.{List, [], _∷_, _++_, append-nil}
 use mathlib.Core.Option.{Option, none, some}
@@ -7,13 +7,11 @@ use Prim.Native.Nat.{ℕ, _+_, _≤_, _<_}
 use native.Mathlib.Numerals.{add-one}
 use native.Mathlib.Omega.{arith}
 use lib.Dec.{T}
-use lib.ListN.{length, getD, take, drop, drop-of-length-le, length-append}
+use lib.ListN.{length, getD, drop, drop-of-length-le, length-append}
 use lib.Seq.{drop-cons, append-snoc, take-append-seam, getD-append-seam}
 use Rattle.model.specs.Outcome.{Outcome, good, refused, outOfRange, missing, malformed}
 use Rattle.model.specs.Rule as rule
 use Rattle.lists.specs.Lists.{networkOf}
-use Rattle.lists.specs.Answers.{done}
-use Rattle.lists.specs.declared.Answer.the-variants.{Done, Plan as Planned, Refused}
 use Rattle.forms.specs.Form.{fieldOf, admitsOf, allows, secondOf, Sound, Whole}
 use Rattle.forms.specs.Read.{walk, itself, onField, onValue, andThen, judgeNumbers, judgeList, addUp, unlessMissed}
 use Rattle.forms.specs.declared.form.Form.{Form}
@@ -153,18 +151,3 @@ pub no-sums : (o : Outcome (List ℕ)) → andThen o (addUp Plan) ≡ o
 unfolding addUp
 no-sums (good l) = refl
 no-sums (refused c a b) = refl
-
--- ---- what an answer tells of an outcome
-
-pub done-good : (o : Outcome (List ℕ)) (n : ℕ) → done o ≡ Done n → (l : List ℕ) × (o ≡ good l) × (length l ≡ n)
-done-good (good l) n e = (l, refl, cc)
-done-good (refused c a b) n e = let z : _≡_ {A = ℕ} 0 1 = cc in absurd (omega arith)
-
-pub done-plan : (o : Outcome (List ℕ)) (n : ℕ) → done o ≡ Planned n → ⊥
-done-plan (good l) n e = let z : _≡_ {A = ℕ} 0 1 = cc in omega arith
-done-plan (refused c a b) n e = let z : _≡_ {A = ℕ} 0 1 = cc in omega arith
-
--- a refusal stands, whatever would come after
-pub done-refused : (o : Outcome (List ℕ)) (next : List ℕ → Outcome (List ℕ)) (m place second : ℕ) → done o ≡ Refused m place second → done (andThen o next) ≡ done o
-done-refused (good l) next m place second e = let z : _≡_ {A = ℕ} 0 1 = cc in absurd (omega arith)
-done-refused (refused c a b) next m place second e = refl

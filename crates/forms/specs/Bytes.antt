@@ -1,7 +1,7 @@
 -- Text literals as the bytes that stand in a file.
 use Prim.Native.Nat.{ℕ}
 use Prim.Native.String.{String, [], _∷_}
-use Prim.Native.Char.{Char, code}
+use Prim.Native.Char.{code}
 use mathlib.Core.List as L
 
 abbrev pub bytes : String → L.List ℕ

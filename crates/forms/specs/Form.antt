@@ -1,5 +1,5 @@
 -- The two forms: which line stands after some numbers, and which numbers it may have.
-use Prim.Native.Nat.{ℕ, _*_, _-_, _/_, _%_, _^_, _<_}
+use Prim.Native.Nat.{ℕ, _+_, _*_, _-_, _/_, _%_, _^_, _<_}
 use mathlib.Core.Bool.{Bool, true, false, cond, _&&_, _||_, not}
 use mathlib.Core.Path.{_≡_}
 use mathlib.Core.List.{List, [], _∷_}
@@ -123,4 +123,4 @@ pub record Whole (form : Form) (l : List ℕ) : Type 0 where
 
 -- no list that is sound is longer: the longest is a plan of 50 steps and 96 tunnels
 abbrev pub mostNumbers : ℕ
-mostNumbers = 4708
+mostNumbers = 4 + (mostSteps - 1) * mostTunnels

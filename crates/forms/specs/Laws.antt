@@ -3,7 +3,7 @@ use Prim.Native.Nat.{ℕ, _≤_}
 use mathlib.Core.Path.{_≡_}
 use mathlib.Core.List.{List}
 use lib.ListN.{length}
-use Rattle.model.specs.Outcome.{Outcome, good, refused, Cause}
+use Rattle.model.specs.Outcome.{good, refused, Cause}
 use Rattle.lists.specs.Answers.{withRoom}
 use Rattle.forms.specs.Read.{readLines, judgeNumbers, readText, judgeList}
 use Rattle.forms.specs.Write.{render, writeText}

@@ -3,7 +3,7 @@ use Prim.Native.Nat.{ℕ, zero, suc, _+_, _/_, _%_, _^_}
 use mathlib.Core.Bool.{cond}
 use mathlib.Core.List.{List, [], _∷_, _++_}
 use lib.Dec.{ltb}
-use Rattle.model.specs.Outcome.{Outcome, good, refused}
+use Rattle.model.specs.Outcome.{Outcome, good}
 use Rattle.forms.specs.Keys.{prefixOf}
 use Rattle.forms.specs.Form.{fieldOf, isHex}
 use Rattle.forms.specs.Read.{judgeList, andThen}

@@ -50,15 +50,10 @@ pub fn judge_network(list: &[u64]) -> Answer
     ensures { λ r. ⌜ r ≡ done (judgeNetwork (now (list .entry))) ⌝ }
 {
     let answer = judge_numbers(Form::Network, list);
-    match answer {
-        Answer::Done(_) => sums::add_up(list),
-        Answer::Plan(_) => answer,
-        Answer::Refused {
-            number: _,
-            place: _,
-            second: _,
-        } => answer,
-    }
+    let Answer::Done(_) = answer else {
+        return answer;
+    };
+    sums::add_up(list)
 }
 
 // Judges the list of a plan. Done carries its length.

@@ -2,6 +2,7 @@
 ghost use mathlib.Core.Path.{_≡_};
 ghost use Prim.Native.Nat.{_+_, _<_, _^_};
 ghost use lib.ListN.{length, getD, set, replicate};
+ghost use Rattle.model.specs.Limits.{mostFlows};
 ghost use Rattle.lists.specs.Answers.{done};
 ghost use Rattle.lists.specs.Lists.{networkOf};
 ghost use Rattle.forms.specs.Good.{NetworkRanges};
@@ -9,6 +10,9 @@ ghost use Rattle.forms.specs.Read.{addUp};
 ghost use Rattle.forms.specs.Sums.{Gathered};
 use crate::form::Form;
 use lists::Answer;
+use lists::Network;
+
+const FLOWS: usize = Network::FLOWS as usize;
 
 // Adds an amount to a flow's sum.
 fn add(sums: &mut [u64], flow: usize, amount: u64)
@@ -21,7 +25,7 @@ fn add(sums: &mut [u64], flow: usize, amount: u64)
 // The sums of each flow's old and new amounts, gathered in one pass over the tunnels.
 fn gather(list: &[u64], old: &mut [u64], new: &mut [u64])
     requires { ⌜ NetworkRanges (now list) ⌝ }
-    requires { ⌜ (now old ≡ replicate 32 0) × (now new ≡ replicate 32 0) ⌝ }
+    requires { ⌜ (now old ≡ replicate mostFlows 0) × (now new ≡ replicate mostFlows 0) ⌝ }
     ensures { λ _. ⌜ Gathered (networkOf (now (list .entry))) (networkOf (now (list .entry)) .old) (networkOf (now (list .entry)) .tunnels) (now (old .exit)) ⌝ }
     ensures { λ _. ⌜ Gathered (networkOf (now (list .entry))) (networkOf (now (list .entry)) .new) (networkOf (now (list .entry)) .tunnels) (now (new .exit)) ⌝ }
 {
@@ -74,8 +78,8 @@ pub fn add_up(list: &[u64]) -> Answer
     requires { ⌜ NetworkRanges (now list) ⌝ }
     ensures { λ r. ⌜ r ≡ done (addUp Form.Network (now (list .entry))) ⌝ }
 {
-    let mut old = [0u64; 32];
-    let mut new = [0u64; 32];
+    let mut old = [0u64; FLOWS];
+    let mut new = [0u64; FLOWS];
     gather(list, &mut old, &mut new);
     first_missed(list, &old, &new)
 }

@@ -1,9 +1,9 @@
 -- A network that keeps its scratch has an even plan within the step bound.
 use Prim.Native.Nat.{ℕ, zero, suc, _+_, _-_, _*_, _≤_, _<_, max}
-use mathlib.Core.Path.{_≡_, refl, sym, ap}
+use mathlib.Core.Path.{_≡_, refl, sym, ap, subst}
 use mathlib.Core.Logic.{_≢_, _⊎_, inl, inr, ⊎-elim}
 use mathlib.Core.Bool.{Bool, true, false, cond, _&&_, true≢false}
-use mathlib.Core.Option.{some}
+use mathlib.Core.Option.{none, some}
 use native.Mathlib.Omega.{arith}
 use native.Mathlib.Nat.{le-trans, max-le, max-eq-left, max-eq-right, mul-le-mul-left, mul-le-mul-right, lt-div-mul-add, div-mul-le-self}
 use lib.Dec.{leb, eqb}
@@ -15,7 +15,7 @@ use Rattle.model.specs.Rule.{onLink, load, accepted}
 use Rattle.model.specs.Even.{even, tryEven, fewest, ceilDiv, stepBound, leavesScratch, keepsScratch}
 use Rattle.model.specs.ThreeSums.{oldLoad, newLoad, peakLoad, endLoad}
 use Rattle.model.specs.Claim.{Valid}
-use Rattle.model.proofs.Searches.{only-true, only-some, only-none, first-none, first-least, none-true, not-false, and-true}
+use Rattle.model.proofs.Searches.{only-true, only-some, only-none, first-none, first-some, first-least, none-true, not-false, and-true}
 use Rattle.model.proofs.Choices.{load-mono, load-add, factor, room}
 use Rattle.model.proofs.Evens.{either, even-accepted}
 
@@ -153,16 +153,35 @@ module _ (N : Net) (q : ℕ) (k : keepsScratch N ≡ true) (hs : N .scratch ≤ 
   ends-kept Bound.protected = omega (arith, scratch-room Bound.protected (leaves-protected N k l hl))
   ends-kept Bound.total = omega (arith, total-room (en .overrun))
 
--- an even plan that is accepted bounds the fewest steps
-fewest-least : (N : Net) (q : ℕ) → 0 < q → q ≤ mostSteps → accepted N (even N q) ≡ true → (p : ℕ) × (fewest N ≡ some p) × (p ≤ q)
-unfolding fewest tryEven
-fewest-least N zero h m e = absurd (omega arith)
-fewest-least N (suc q) h m e =
-    let s = first-least (λ i. tryEven N (suc i)) mostSteps q (suc q) m (only-true (accepted N (even N (suc q))) (suc q) e) in
-    (s .2, s .4, omega (arith, s .1, only-some (accepted N (even N (suc (s .0)))) (suc (s .0)) (s .2) (s .3) .1))
+-- ---- the fewest steps
 
-pub bounded : (N : Net) → Valid N → keepsScratch N ≡ true → (q : ℕ) × (fewest N ≡ some q) × (q ≤ stepBound (N .scratch) (N .overrun))
+module _ (N : Net) where
+  -- the fewest even steps are 1 to 50, and their plan is accepted
+  pub fewest-some : (q : ℕ) → fewest N ≡ some q → (0 < q) × (q ≤ mostSteps) × (accepted N (even N q) ≡ true)
+  unfolding fewest tryEven
+  fewest-some q e =
+      let s = first-some (λ i. tryEven N (suc i)) mostSteps q e in
+      let o = only-some (accepted N (even N (suc (s .0)))) (suc (s .0)) q (s .2) in
+      (omega (arith, o .1), omega (arith, s .1, o .1), subst (λ (k : ℕ). accepted N (even N k) ≡ true) (o .1) (o .0))
+
+  -- where there are none, no even plan of 1 to 50 steps is accepted
+  pub fewest-none : fewest N ≡ none → (q : ℕ) → 0 < q → q ≤ mostSteps → accepted N (even N q) ≡ false
+  unfolding fewest tryEven
+  fewest-none e zero h m = absurd (omega arith)
+  fewest-none e (suc q) h m = only-none _ _ (first-none (λ i. tryEven N (suc i)) mostSteps e q m)
+
+  -- an even plan that is accepted bounds them
+  pub fewest-least : (q : ℕ) → 0 < q → q ≤ mostSteps → accepted N (even N q) ≡ true → (p : ℕ) × (fewest N ≡ some p) × (p ≤ q)
+  unfolding fewest tryEven
+  fewest-least zero h m e = absurd (omega arith)
+  fewest-least (suc q) h m e =
+      let s = first-least (λ i. tryEven N (suc i)) mostSteps q (suc q) m (only-true (accepted N (even N (suc q))) (suc q) e) in
+      (s .2, s .4, omega (arith, s .1, only-some (accepted N (even N (suc (s .0)))) (suc (s .0)) (s .2) (s .3) .1))
+
+pub bounded : (N : Net) → Valid N → keepsScratch N ≡ true
+    → (q : ℕ) × (fewest N ≡ some q) × (accepted N (even N q) ≡ true) × (q ≤ stepBound (N .scratch) (N .overrun))
 bounded N v k =
     let en = enough (N .scratch) (N .overrun) (v .scratch) (v .overrun) in
     let small : N .scratch ≤ 1000 = omega (arith, v .scratch) in
-    fewest-least N _ (en .pos) (en .most) (even-accepted N (v .sums) _ (en .pos) .1 (ends-kept N _ k small en))
+    let f = fewest-least N _ (en .pos) (en .most) (even-accepted N (v .sums) _ (en .pos) .1 (ends-kept N _ k small en)) in
+    (f .0, f .1, fewest-some N (f .0) (f .1) .2, f .2)

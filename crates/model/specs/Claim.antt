@@ -7,8 +7,8 @@ use mathlib.Core.Option.{none, some}
 use Rattle.model.specs.Limits.{leastShare, mostShare}
 use Rattle.model.specs.Net.{Net, Plan}
 use Rattle.model.specs.Scan.{Bound, Overload}
-use Rattle.model.specs.Rule.{Choice, overloads, stepCount, missedRate, firstOverload, marked}
-use Rattle.model.specs.Even.{keepsScratch, fewest, stepBound}
+use Rattle.model.specs.Rule.{Choice, overloads, stepCount, missedRate, firstOverload, accepted, marked}
+use Rattle.model.specs.Even.{even, keepsScratch, fewest, stepBound}
 
 -- what a network's own lines say of its figures
 pub record Valid (N : Net) : Type 0 where
@@ -28,4 +28,4 @@ pub record Claim : Type 0 where
       → (c : Choice N P i) (b : Bound) → overloads N P i l c b ≡ true → (o : Overload) × (firstOverload N P ≡ some o)
   -- a network that keeps its scratch has an even plan that is accepted, and "the fewest even steps are at most" the step bound
   pub bounded : (N : Net) → Valid N → keepsScratch N ≡ true
-      → (q : ℕ) × (fewest N ≡ some q) × (q ≤ stepBound (N .scratch) (N .overrun))
+      → (q : ℕ) × (fewest N ≡ some q) × (accepted N (even N q) ≡ true) × (q ≤ stepBound (N .scratch) (N .overrun))

@@ -1,15 +1,15 @@
 -- Laws of the line reader's steps, as the code's loops use them: what each is at the part of a list from an index on. Assumes nothing.
-use mathlib.Core.Path.{_≡_, refl, sym, ap, _∙_}
-use mathlib.Core.Bool.{Bool, true, false, cond, _&&_, not}
+use mathlib.Core.Path.{_≡_, refl, ap, _∙_}
+use mathlib.Core.Bool.{Bool, true, false, cond, not}
 use mathlib.Core.List.{List, [], _∷_, _++_}
-use mathlib.Core.Option.{Option, none, some}
+use mathlib.Core.Option.{none, some}
 use Prim.Native.Nat.{ℕ, zero, suc, _+_, _*_, _-_, _^_, _≤_, _<_}
 use native.Mathlib.Numerals.{add-one}
 use native.Mathlib.Omega.{arith}
 use native.Mathlib.Nat.{zero-add, pow-suc, pow-le-pow-right, lt-of-lt-of-le, le-trans}
-use lib.Dec.{T, eqb, ltb}
+use lib.Dec.{T, eqb}
 use lib.Arith.{digits-lt}
-use lib.ListN.{length, getD, take, drop, set, drop-of-length-le, length-drop, length-append}
+use lib.ListN.{length, getD, take, drop, set, drop-of-length-le, length-append}
 use lib.Seq.{drop-drop, paste-suc, take-all, length-take-le}
 use borrow.Author.Tests.{eq-eqb, ne-eqb, eqb-true, eqb-false, lt-ltb, le-ltb}
 use Rattle.forms.specs.Line.{lines, onFirst, valuePart, beforeFeed, digitOf, numberFrom}
@@ -17,9 +17,7 @@ use Rattle.forms.proofs.Forms.{both}
 use Rattle.forms.proofs.Keys.{no-feeds}
 use Rattle.forms.proofs.Lines.{own-feed, part-line}
 use Rattle.forms.proofs.Walks.{step}
-use Rattle.readers.specs.Line.{lineLen, firstLine, bytesBefore, prefixed, valueOf}
-use Rattle.readers.specs.declared.line.Value.{Value}
-use Rattle.readers.specs.declared.line.Value.the-variants.{Is, Malformed}
+use Rattle.readers.specs.Line.{lineLen, firstLine, bytesBefore, prefixed}
 
 -- ---- the loops
 

@@ -6,24 +6,20 @@ use mathlib.Core.Option.{Option, none, some}
 use Prim.Native.Nat.{ℕ, _+_, _-_, _≤_, _<_}
 use native.Mathlib.Decide.{ℕ-discrete}
 use native.Mathlib.Omega.{arith}
-use lib.Dec.{T, eqb}
 use lib.ListN.{length, take, drop, length-drop, length-take}
 use lib.Seq.{drop-drop, drop-length}
-use borrow.Author.Tests.{eq-eqb, ne-eqb, le-leb, lt-leb}
+use borrow.Author.Tests.{eq-eqb, ne-eqb}
 use Rattle.model.specs.Outcome.{Outcome, good, refused, missing, malformed, outOfRange}
-use Rattle.lists.specs.Answers.{done, withRoom, lent}
-use Rattle.lists.specs.declared.Answer.{Answer}
+use Rattle.lists.specs.Answers.{done}
 use Rattle.lists.specs.declared.Answer.the-variants.{Done, Refused}
 use Rattle.forms.specs.Line.{lines, lineValue}
-use Rattle.forms.specs.Form.{fieldOf, admitsOf, allows, secondOf}
-use Rattle.forms.specs.Read.{walk, onField, onValue, andThen}
+use Rattle.forms.specs.Form.{fieldOf, admitsOf, secondOf}
+use Rattle.forms.specs.Read.{walk, onValue}
 use Rattle.forms.specs.declared.form.Form.{Form}
 use Rattle.forms.specs.declared.form.Range.{Range}
-use Rattle.forms.specs.declared.form.Field.{Field}
 use Rattle.forms.specs.declared.form.Field.the-variants.{Line, End}
 use Rattle.readers.specs.Line.{lineLen, firstLine, valueOf}
 use Rattle.readers.specs.Read.{takenOf, Holds}
-use Rattle.readers.specs.declared.line.Value.{Value}
 use Rattle.readers.specs.declared.line.Value.the-variants.{Is, Malformed}
 use Rattle.readers.specs.declared.read.Taken.{Taken}
 use Rattle.readers.specs.declared.read.Taken.the-variants.{Number, Stop}
@@ -153,31 +149,10 @@ pub number-facts : (k : ℕ) (r : Range) (text : List ℕ) (at v next : ℕ) →
     → (at < next) × ((next ≤ length text) × (admitsOf r v ≡ true))
 number-facts k r text at v next h e = rw e at (facts k r text at h)
 
--- ---- a list that is handed over, where the caller's has no room for it and where it has
-
-module _ (l out : List ℕ) where
-  pub give-none : length out < length l → (done (withRoom (length out) (good l)) ≡ Refused 10 (length l) 0) × (lent (withRoom (length out) (good l)) out ≡ out)
-  give-none h = (rw (lt-leb (length l) (length out) h), rw (lt-leb (length l) (length out) h))
-
-  pub give-all : length l ≤ length out → (done (withRoom (length out) (good l)) ≡ Done (length l)) × (lent (withRoom (length out) (good l)) out ≡ l ++ drop (length l) out)
-  give-all h = (rw (le-leb (length l) (length out) h), rw (le-leb (length l) (length out) h))
-
--- a refusal stands, whatever the room, and leaves all
-pub refused-all : (o : Outcome (List ℕ)) (m place second : ℕ) (out : List ℕ) → done o ≡ Refused m place second
-    → (done (withRoom (length out) o) ≡ done o) × (lent (withRoom (length out) o) out ≡ out)
-refused-all (good l) m place second out e = let z : _≡_ {A = ℕ} 0 1 = cc in absurd (omega arith)
-refused-all (refused c a b) m place second out e = (refl, refl)
-
 -- where a text is refused, the list may have anything
 pub holds-refused : (o : Outcome (List ℕ)) (m place second : ℕ) (vals : List ℕ) → done o ≡ Refused m place second → Holds o vals
 holds-refused (good l) m place second vals e = let z : _≡_ {A = ℕ} 0 1 = cc in absurd (omega arith)
 holds-refused (refused c a b) m place second vals e = tt
-
--- and nothing comes after it
-pub stopped : (o : Outcome (List ℕ)) (next : List ℕ → Outcome (List ℕ)) (m place second : ℕ) (out : List ℕ) → done o ≡ Refused m place second
-    → (done (withRoom (length out) (andThen o next)) ≡ done o) × (lent (withRoom (length out) (andThen o next)) out ≡ out)
-stopped (good l) next m place second out e = let z : _≡_ {A = ℕ} 0 1 = cc in absurd (omega arith)
-stopped (refused c a b) next m place second out e = (refl, refl)
 
 -- the numbers that were read
 pub lines-read : (o : Outcome (List ℕ)) (vals : List ℕ) (n : ℕ) → done o ≡ Done n → Holds o vals → (o ≡ good (take n vals)) × (n ≤ length vals)

@@ -130,28 +130,16 @@ pub fn read_network(text: &[u8], out: &mut [u64]) -> Answer
     ensures { λ r. ⌜ now (out .exit) ≡ lent (withRoom (length (now (out .entry))) (readNetwork (now (text .entry)))) (now (out .entry)) ⌝ }
 {
     let keys = form::KEYS;
-    let mut vals = [0u64; 4708];
+    let mut vals = [0u64; form::NUMBERS];
     let lines = read(Form::Network, &keys, text, &mut vals);
-    match lines {
-        Answer::Done(n) => {
-            let answer = sums::add_up(&vals[..n]);
-            match answer {
-                Answer::Done(_) => give(&vals[..n], out),
-                Answer::Plan(_) => answer,
-                Answer::Refused {
-                    number: _,
-                    place: _,
-                    second: _,
-                } => answer,
-            }
-        }
-        Answer::Plan(_) => lines,
-        Answer::Refused {
-            number: _,
-            place: _,
-            second: _,
-        } => lines,
-    }
+    let Answer::Done(n) = lines else {
+        return lines;
+    };
+    let answer = sums::add_up(&vals[..n]);
+    let Answer::Done(_) = answer else {
+        return answer;
+    };
+    give(&vals[..n], out)
 }
 
 // Reads a plan text into a list of numbers, one for each line.
@@ -160,15 +148,10 @@ pub fn read_plan(text: &[u8], out: &mut [u64]) -> Answer
     ensures { λ r. ⌜ now (out .exit) ≡ lent (withRoom (length (now (out .entry))) (readPlan (now (text .entry)))) (now (out .entry)) ⌝ }
 {
     let keys = form::KEYS;
-    let mut vals = [0u64; 4708];
+    let mut vals = [0u64; form::NUMBERS];
     let lines = read(Form::Plan, &keys, text, &mut vals);
-    match lines {
-        Answer::Done(n) => give(&vals[..n], out),
-        Answer::Plan(_) => lines,
-        Answer::Refused {
-            number: _,
-            place: _,
-            second: _,
-        } => lines,
-    }
+    let Answer::Done(n) = lines else {
+        return lines;
+    };
+    give(&vals[..n], out)
 }

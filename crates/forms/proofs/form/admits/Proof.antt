@@ -1,56 +1,42 @@
-use borrow.Author.Tests.{le-leb, lt-leb, eq-eqb, ne-eqb}
+-- `forms::form::admits` meets its contract. Assumes nothing.
+use borrow.Author.Tests.{le-leb, lt-leb, ne-eqb}
 use borrow.Author.Needs.{needs}
 use Rattle.forms.proofs.form.admits.Statement.{statement}
 use Rattle.forms.proofs.form.admits.Tie as tie
-use Rattle.forms.proofs.form.admits.Reads as reads
-use Rattle.forms.proofs.form.admits.Lts as lts
-use Rattle.forms.proofs.form.is_set.Reads as is-set-reads
 
--- src/form.rt:190:24
 enum-known-range : tie.Need-enum-known-range
 enum-known-range c = search needs
 
--- src/form.rt:191:23
 enum-known-range-2 : tie.Need-enum-known-range-2
 enum-known-range-2 c = search needs
 
--- src/form.rt:192:22
 enum-known-range-3 : tie.Need-enum-known-range-3
 enum-known-range-3 c = search needs
 
--- src/form.rt:193:20
 enum-known-range-4 : tie.Need-enum-known-range-4
 enum-known-range-4 c = search needs
 
--- src/form.rt:193:26
 is-set-requires : tie.Need-is-set-requires
 is-set-requires c κs = search needs
 
--- src/form.rt:186:1
 returns : tie.Need-returns
 returns c = rw (c .before .before .range .given .1, le-leb _ _ (c .if1 .taken))
 
--- src/form.rt:186:1
 returns-2 : tie.Need-returns-2
 returns-2 c = rw (c .before .before .range .given .1, lt-leb _ _ (c .if1 .left))
 
--- src/form.rt:186:1
 returns-3 : tie.Need-returns-3
 returns-3 c = rw (c .before .before .range2 .given .1, c .if2 .taken)
 
--- src/form.rt:186:1
 returns-4 : tie.Need-returns-4
 returns-4 c = rw (c .before .before .before .range2 .given .1, ne-eqb _ _ (c .before .if2 .left), le-leb _ _ (c .if3 .taken))
 
--- src/form.rt:186:1
 returns-5 : tie.Need-returns-5
 returns-5 c = rw (c .before .before .before .range2 .given .1, ne-eqb _ _ (c .before .if2 .left), lt-leb _ _ (c .if3 .left))
 
--- src/form.rt:186:1
 returns-6 : tie.Need-returns-6
 returns-6 c = rw (c .before .range3 .given .1)
 
--- src/form.rt:186:1
 returns-7 : tie.Need-returns-7
 returns-7 c = rw (c .before .before .range4 .given .1) (c .is-set .ensures)
 

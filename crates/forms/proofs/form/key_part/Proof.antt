@@ -1,12 +1,13 @@
+-- `forms::form::key_part` meets its contract. Assumes nothing.
 use borrow.Author.Needs.{needs}
-use mathlib.Core.Path.{_≡_, sym, ap, _∙_}
-use Prim.Native.Nat.{ℕ, _+_, _*_, _-_, _≤_}
+use mathlib.Core.Path.{sym}
+use Prim.Native.Nat.{_-_, _≤_}
 use native.Mathlib.Omega.{arith}
 use native.Mathlib.Nat.{add-sub-cancel-left}
-use lib.ListN.{length, getD, take, drop, List·getD-eq-default}
-use Rattle.forms.specs.Keys.{keyTable, keyBytes, prefixOf}
-use mathlib.Core.List.{List, []}
-use Rattle.forms.proofs.Slots.{slot, lengths}
+use lib.ListN.{List·getD-eq-default}
+use Rattle.forms.specs.Keys.{keyTable}
+use mathlib.Core.List.{[]}
+use Rattle.forms.proofs.Slots.{slot}
 use Rattle.forms.proofs.form.key_part.Statement.{statement}
 use Rattle.forms.proofs.form.key_part.Tie as tie
 

@@ -1,46 +1,35 @@
+-- `forms::form::network_body` meets its contract. Assumes nothing.
 use native.Mathlib.Omega.{arith}
 use borrow.Author.Tests.{lt-ltb, le-ltb}
 use Rattle.forms.specs.Form.{networkBody}
 use borrow.Author.Needs.{needs}
 use Rattle.forms.proofs.form.network_body.Statement.{statement}
 use Rattle.forms.proofs.form.network_body.Tie as tie
-use Rattle.forms.proofs.form.network_body.Reads as reads
-use Rattle.forms.proofs.form.network_body.Lts as lts
-use Rattle.forms.proofs.form.flow_group.Reads as flow-group-reads
-use Rattle.forms.proofs.form.tunnel_group.Reads as tunnel-group-reads
 
--- src/form.rt:112:9
 returns : tie.Need-returns
 unfolding networkBody
 returns c = simp (lt-ltb _ _ (c .if1 .taken))
 
--- src/form.rt:116:9
 flow-group-requires : tie.Need-flow-group-requires
 flow-group-requires c κs = search needs
 
--- src/form.rt:116:9
 returns-2 : tie.Need-returns-2
 unfolding networkBody
 returns-2 c = rw (le-ltb _ _ (c .before .before .if1 .left), lt-ltb _ _ (c .before .if2 .taken)) (c .flow-group .ensures)
 
--- src/form.rt:118:17
 mul-k : tie.Need-mul-k
 mul-k c = omega arith
 
--- src/form.rt:118:13
 sub-k : tie.Need-sub-k
 sub-k c = search needs
 
--- src/form.rt:120:9
 tunnel-group-requires : tie.Need-tunnel-group-requires
 tunnel-group-requires c κs = search needs
 
--- src/form.rt:120:9
 returns-3 : tie.Need-returns-3
 unfolding networkBody
 returns-3 c = rw (le-ltb _ _ (c .before .before .before .if1 .left), le-ltb _ _ (c .before .before .if2 .left), lt-ltb _ _ (c .before .if3 .taken)) (c .tunnel-group .ensures)
 
--- src/form.rt:108:1
 returns-4 : tie.Need-returns-4
 unfolding networkBody
 returns-4 c = simp (le-ltb _ _ (c .before .before .if1 .left), le-ltb _ _ (c .before .if2 .left), le-ltb _ _ (c .if3 .left))

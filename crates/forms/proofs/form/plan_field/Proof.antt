@@ -1,3 +1,4 @@
+-- `forms::form::plan_field` meets its contract. Assumes nothing.
 use native.Mathlib.Nat.{mul-le-mul, le-trans, sub-le}
 use native.Mathlib.Omega.{arith}
 use Rattle.forms.proofs.Forms.{PlanHead, head-of-plan}
@@ -6,56 +7,43 @@ use borrow.Author.Tests.{lt-ltb, le-ltb}
 use borrow.Author.Needs.{needs}
 use Rattle.forms.proofs.form.plan_field.Statement.{statement}
 use Rattle.forms.proofs.form.plan_field.Tie as tie
-use Rattle.forms.proofs.form.plan_field.Reads as reads
-use Rattle.forms.proofs.form.plan_field.Lts as lts
-use Rattle.forms.proofs.form.plan_head.Reads as plan-head-reads
 
 head : (c : tie.Else1) → PlanHead (c .before .before .args .done .now)
 head c = head-of-plan _ (c .before .before .pre) (c .if1 .left)
 
--- src/form.rt:153:9
 plan-head-requires : tie.Need-plan-head-requires
 plan-head-requires c κs = search needs
 
--- src/form.rt:153:9
 returns : tie.Need-returns
 unfolding planField
 returns c = rw (lt-ltb _ _ (c .before .if1 .taken)) (c .plan-head .ensures)
 
--- src/form.rt:156:13
 shared-slice-read-if2 : tie.Need-shared-slice-read-if2
 shared-slice-read-if2 c = search needs
 
--- src/form.rt:156:13
 sub-if2 : tie.Need-sub-if2
 sub-if2 c = head (c .before) .steps .0
 
--- src/form.rt:156:28
 shared-slice-read-if2-2 : tie.Need-shared-slice-read-if2-2
 shared-slice-read-if2-2 c = search needs
 
--- src/form.rt:156:12
 mul-if2 : tie.Need-mul-if2
 mul-if2 c =
     let b = head (c .before .before) in
     omega (arith, mul-le-mul (le-trans (sub-le _ 1) (b .steps .1)) (b .tunnels))
 
--- src/form.rt:157:73
 shared-slice-read-high : tie.Need-shared-slice-read-high
 shared-slice-read-high c = search needs
 
--- src/form.rt:157:55
 mul-high : tie.Need-mul-high
 mul-high c =
     let b = head (c .before .before .before .before) in
     omega (arith, b .parts .1)
 
--- src/form.rt:157:9
 returns-2 : tie.Need-returns-2
 unfolding planField
 returns-2 c = simp (le-ltb _ _ (c .before .before .before .before .if1 .left), lt-ltb _ _ (c .before .if2 .taken))
 
--- src/form.rt:147:1
 returns-3 : tie.Need-returns-3
 unfolding planField
 returns-3 c = simp (le-ltb _ _ (c .before .before .before .if1 .left), le-ltb _ _ (c .if2 .left))

@@ -1,12 +1,12 @@
-use Prim.Native.Nat.{ℕ, _≤_, _<_, _+_, _-_}
+-- `forms::judge::judge_numbers` meets its contract. Assumes nothing.
+use Prim.Native.Nat.{_≤_, _<_, _+_, _-_}
 use mathlib.Core.Path.{_≡_, refl, sym, ap, _∙_}
-use mathlib.Core.List.{List, [], _∷_, _++_}
+use mathlib.Core.List.{[], _∷_, _++_}
 use native.Mathlib.Omega.{arith}
 use native.Mathlib.Numerals.{add-one}
 use native.Mathlib.Nat.{le-of-eq}
 use lib.ListN.{length, take, drop, getD}
 use lib.Seq.{length-take-le, take-suc}
-use Rattle.model.specs.Outcome.{Outcome}
 use Rattle.lists.specs.Answers.{done}
 use Rattle.forms.specs.Form.{Sound, fieldOf, mostNumbers}
 use Rattle.forms.specs.Read.{walk, itself, judgeNumbers}
@@ -17,11 +17,6 @@ use Rattle.forms.proofs.Walks.{judge-done, judge-missing, judge-many, j
 use borrow.Author.Needs.{needs}
 use Rattle.forms.proofs.judge.judge_numbers.Statement.{statement}
 use Rattle.forms.proofs.judge.judge_numbers.Tie as tie
-use Rattle.forms.proofs.judge.judge_numbers.Reads as reads
-use Rattle.forms.proofs.judge.judge_numbers.Lts as lts
-use Rattle.forms.proofs.form.admits.Reads as admits-reads
-use Rattle.forms.proofs.form.field_after.Reads as field-after-reads
-use Rattle.forms.proofs.judge.refusal.Reads as refusal-reads
 
 abbrev Inv-loop : tie.InvT-loop
 Inv-loop form list i₀ i =
@@ -45,39 +40,31 @@ is-end c = sym (c .before .before .field-after .ensures) ∙ c .enum-told .given
 below : (c : tie.Else2 Inv-loop μ-loop) → c .before .before .before .before .before .before .loop .i < length (c .before .before .before .before .before .before .before .before .args .list .now)
 below c = omega arith
 
--- src/judge.rt:29:5
 loop-holds : tie.Need-loop-holds Inv-loop μ-loop
 unfolding judgeNumbers
 loop-holds c = record { within = search needs; few = search needs; sound = sound-none _; rest = refl }
 
--- src/judge.rt:30:45
 slice-aggregate-field-after : tie.Need-slice-aggregate-field-after Inv-loop μ-loop
 slice-aggregate-field-after c = sym (length-take-le _ _ (c .before .loop .inv .within))
 
--- src/judge.rt:30:13
 field-after-requires : tie.Need-field-after-requires Inv-loop μ-loop
 field-after-requires c κs = c .before .loop .inv .sound
 
--- src/judge.rt:31:28
 enum-known-field : tie.Need-enum-known-field Inv-loop μ-loop
 enum-known-field c = search needs
 
--- src/judge.rt:32:21
 enum-told : tie.Need-enum-told Inv-loop μ-loop
 enum-told c = search needs
 
--- src/judge.rt:33:17
 returns : tie.Need-returns Inv-loop μ-loop
 returns c =
     let e = c .before in
     let l = e .before .before .before .before in
     sym (ap done (l .loop .inv .rest ∙ judge-done _ _ _ _ _ (le-of-eq (sym (c .if1 .taken))) (is-end e)) ∙ ap Done (length-take-le _ _ (l .loop .inv .within)))
 
--- src/judge.rt:35:13
 refusal-requires : tie.Need-refusal-requires Inv-loop μ-loop
 refusal-requires c κs = search needs
 
--- src/judge.rt:35:13
 returns-2 : tie.Need-returns-2 Inv-loop μ-loop
 returns-2 c =
     let e = c .before .before in
@@ -85,11 +72,9 @@ returns-2 c =
     let below : l .loop .i < length (l .before .before .args .list .now) = omega (arith, l .loop .inv .within, c .before .if1 .left) in
     c .refusal .ensures ∙ sym (ap done (l .loop .inv .rest ∙ judge-many _ _ _ _ _ below (is-end e)))
 
--- src/judge.rt:38:13
 refusal-requires-2 : tie.Need-refusal-requires-2 Inv-loop μ-loop
 refusal-requires-2 c κs = search needs
 
--- src/judge.rt:38:13
 returns-3 : tie.Need-returns-3 Inv-loop μ-loop
 returns-3 c =
     let t = c .before in
@@ -97,27 +82,21 @@ returns-3 c =
     let l = f .before .before .before .before in
     c .refusal2 .ensures ∙ sym (ap done (l .loop .inv .rest ∙ judge-missing _ _ _ _ _ _ _ (le-of-eq (sym (t .if2 .taken))) (is-line f)))
 
--- src/judge.rt:40:32
 mul-admits : tie.Need-mul-admits Inv-loop μ-loop
 mul-admits c = omega (arith, c .before .before .before .before .before .before .loop .inv .few)
 
--- src/judge.rt:40:32
 shared-slice-read-admits : tie.Need-shared-slice-read-admits Inv-loop μ-loop
 shared-slice-read-admits c = below (c .before)
 
--- src/judge.rt:40:12
 admits-requires : tie.Need-admits-requires Inv-loop μ-loop
 admits-requires c κs = search needs
 
--- src/judge.rt:41:13
 add-i : tie.Need-add-i Inv-loop μ-loop
 add-i c = omega (arith, c .before .before .before .before .before .before .before .before .before .loop .inv .few)
 
--- src/judge.rt:29:5
 loop-less : tie.Need-loop-less Inv-loop μ-loop
 loop-less c = omega (arith, below (c .before .before .before))
 
--- src/judge.rt:29:5
 loop-again : tie.Need-loop-again Inv-loop μ-loop
 loop-again c =
     let b = c .before .before .before in
@@ -134,11 +113,9 @@ loop-again c =
       rest = rw more (l .loop .inv .rest ∙ judge-more _ _ _ _ _ _ _ h (is-line f) a);
     }
 
--- src/judge.rt:43:13
 refusal-requires-3 : tie.Need-refusal-requires-3 Inv-loop μ-loop
 refusal-requires-3 c κs = search needs
 
--- src/judge.rt:43:13
 returns-4 : tie.Need-returns-4 Inv-loop μ-loop
 returns-4 c =
     let b = c .before .before .before .before in

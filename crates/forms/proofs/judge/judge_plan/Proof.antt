@@ -1,22 +1,16 @@
-use mathlib.Core.Path.{_≡_, refl, sym, ap, _∙_}
-use mathlib.Core.List.{List}
-use Rattle.model.specs.Outcome.{Outcome}
+-- `forms::judge::judge_plan` meets its contract. Assumes nothing.
+use mathlib.Core.Path.{sym, ap, _∙_}
 use Rattle.lists.specs.Answers.{done}
-use Rattle.forms.specs.Read.{addUp, judgeNumbers, andThen}
-use Rattle.forms.specs.declared.form.Form.the-variants.{Network, Plan}
+use Rattle.forms.specs.Read.{judgeNumbers}
+use Rattle.forms.specs.declared.form.Form.the-variants.{Plan}
 use Rattle.forms.proofs.Walks.{no-sums}
 use borrow.Author.Needs.{needs}
 use Rattle.forms.proofs.judge.judge_plan.Statement.{statement}
 use Rattle.forms.proofs.judge.judge_plan.Tie as tie
-use Rattle.forms.proofs.judge.judge_plan.Reads as reads
-use Rattle.forms.proofs.judge.judge_plan.Lts as lts
-use Rattle.forms.proofs.judge.judge_numbers.Reads as judge-numbers-reads
 
--- src/judge.rt:68:5
 judge-numbers-requires : tie.Need-judge-numbers-requires
 judge-numbers-requires c κs = search needs
 
--- src/judge.rt:65:1
 returns : tie.Need-returns
 returns c = c .judge-numbers .ensures ∙ ap done (sym (no-sums (judgeNumbers Plan (c .before .before .args .list .now))))
 

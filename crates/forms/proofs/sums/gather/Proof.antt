@@ -1,22 +1,18 @@
+-- `forms::sums::gather` meets its contract. Assumes nothing.
 use Prim.Native.Nat.{ℕ, _≤_, _<_, _+_, _-_, _^_}
-use mathlib.Core.Path.{_≡_, refl, sym, ap, _∙_}
+use mathlib.Core.Path.{_≡_, sym, ap, _∙_}
 use mathlib.Core.List.{List}
 use native.Mathlib.Omega.{arith}
-use native.Mathlib.Nat.{lt-of-lt-of-le, le-refl}
-use lib.ListN.{length, getD, set, length-set}
-use Rattle.model.specs.Limits.{mostFlows, mostTunnels}
-use Rattle.model.specs.Net.{Net}
+use native.Mathlib.Nat.{lt-of-lt-of-le}
+use lib.ListN.{length, getD}
+use Rattle.model.specs.Limits.{mostFlows}
 use Rattle.lists.specs.Lists.{at, networkOf, tunnelAt}
 use Rattle.forms.specs.Good.{NetworkRanges}
 use Rattle.forms.specs.Sums.{Gathered}
-use Rattle.forms.proofs.Good.{Sizes, sizes}
 use Rattle.forms.proofs.Gathering.{gathered-none, gathered-more, gathered-fits}
 use borrow.Author.Needs.{needs}
 use Rattle.forms.proofs.sums.gather.Statement.{statement}
 use Rattle.forms.proofs.sums.gather.Tie as tie
-use Rattle.forms.proofs.sums.gather.Reads as reads
-use Rattle.forms.proofs.sums.gather.Lts as lts
-use Rattle.forms.proofs.sums.add.Reads as add-reads
 
 abbrev Inv-loop : tie.InvT-loop
 Inv-loop list old₀ new₀ links flows tunnels t₀ old new t =
@@ -29,8 +25,8 @@ Inv-loop list old₀ new₀ links flows tunnels t₀ old new t =
 abbrev μ-loop : tie.MeasureT-loop
 μ-loop list old₀ new₀ links flows tunnels t₀ old new t = at list 5 - t
 
-head : (c : tie.Start Inv-loop μ-loop) → Sizes (c .args .list .now)
-head c = sizes _ (c .pre .0)
+head : (c : tie.Start Inv-loop μ-loop) → NetworkRanges (c .args .list .now)
+head c = c .pre .0
 
 -- in a turn: the sizes, the tunnel's flow, and that the sums fit
 module _ (c : tie.In-loop Inv-loop μ-loop) where
@@ -44,7 +40,6 @@ module _ (c : tie.In-loop Inv-loop μ-loop) where
   t = c .before .loop .t
 
   flow-low : at list (tunnelAt list t) < mostFlows
-  unfolding networkOf
   flow-low = lt-of-lt-of-le (begin .pre .0 .flow t (c .loop-test .taken)) (begin .pre .0 .flows)
 
   old-fits : getD (c .before .loop .old) (at list (tunnelAt list t)) 0 + at list (tunnelAt list t + 2) < 2 ^ 64
@@ -61,102 +56,80 @@ module _ (c : tie.In-loop Inv-loop μ-loop) where
       gathered-fits (networkOf list) (networkOf list .new) t (c .before .loop .new) _ (c .before .loop .inv .news) flow-low (omega arith)
       (λ u k. begin .pre .0 .new u (omega arith))
 
--- src/sums.rt:28:17
 shared-slice-read-links : tie.Need-shared-slice-read-links Inv-loop μ-loop
 shared-slice-read-links c = let h = head (c .before .before .before .before) in omega arith
 
--- src/sums.rt:29:17
 shared-slice-read-flows : tie.Need-shared-slice-read-flows Inv-loop μ-loop
 shared-slice-read-flows c = search needs
 
--- src/sums.rt:30:19
 shared-slice-read-tunnels : tie.Need-shared-slice-read-tunnels Inv-loop μ-loop
 shared-slice-read-tunnels c = search needs
 
--- src/sums.rt:32:5
 loop-holds : tie.Need-loop-holds Inv-loop μ-loop
 loop-holds c =
     let s = c .before .before .before .before .before .before in
     record { within = search needs; olds = gathered-none _ _ _ (s .pre .1 .0); news = gathered-none _ _ _ (s .pre .1 .1) }
 
--- src/sums.rt:33:18
 add-at : tie.Need-add-at Inv-loop μ-loop
 add-at c = let h = head (begin c) in omega arith
 
--- src/sums.rt:33:30
 mul-at : tie.Need-mul-at Inv-loop μ-loop
 mul-at c = let h = head (begin c) in omega arith
 
--- src/sums.rt:33:18
 add-at-2 : tie.Need-add-at-2 Inv-loop μ-loop
 add-at-2 c = let h = head (begin c) in omega arith
 
--- src/sums.rt:33:42
 mul-at-2 : tie.Need-mul-at-2 Inv-loop μ-loop
 mul-at-2 c = let h = head (begin c) in omega arith
 
--- src/sums.rt:33:18
 add-at-3 : tie.Need-add-at-3 Inv-loop μ-loop
 add-at-3 c = let h = head (begin c) in omega arith
 
--- src/sums.rt:34:20
 mul-flow : tie.Need-mul-flow Inv-loop μ-loop
 mul-flow c = let h = head (begin c) in omega arith
 
--- src/sums.rt:34:20
 shared-slice-read-flow : tie.Need-shared-slice-read-flow Inv-loop μ-loop
 shared-slice-read-flow c = let h = head (begin (c .before)) in omega arith
 
--- src/sums.rt:35:29
 add-add : tie.Need-add-add Inv-loop μ-loop
 add-add c = let h = head (begin (c .before .before)) in omega arith
 
--- src/sums.rt:35:24
 mul-add : tie.Need-mul-add Inv-loop μ-loop
 mul-add c = let h = head (begin (c .before .before)) in omega arith
 
--- src/sums.rt:35:24
 shared-slice-read-add : tie.Need-shared-slice-read-add Inv-loop μ-loop
 shared-slice-read-add c = let h = head (begin (c .before .before .before)) in omega arith
 
--- src/sums.rt:35:9
 add-requires : tie.Need-add-requires Inv-loop μ-loop
 add-requires c κs =
     let i = c .before .before .before in
     (rw (i .before .loop .inv .olds .size) (flow-low i), old-fits i)
 
--- src/sums.rt:36:29
 add-add-2 : tie.Need-add-add-2 Inv-loop μ-loop
 add-add-2 c = let h = head (begin (c .before .before .before .before .before .before .before)) in omega arith
 
--- src/sums.rt:36:24
 mul-add-2 : tie.Need-mul-add-2 Inv-loop μ-loop
 mul-add-2 c = let h = head (begin (c .before .before .before .before .before .before .before)) in omega arith
 
--- src/sums.rt:36:24
 shared-slice-read-add-2 : tie.Need-shared-slice-read-add-2 Inv-loop μ-loop
 shared-slice-read-add-2 c = let h = head (begin (c .before .before .before .before .before .before .before .before)) in omega arith
 
--- src/sums.rt:36:9
 add-requires-2 : tie.Need-add-requires-2 Inv-loop μ-loop
 add-requires-2 c κs =
     let i = c .before .before .before .before .before .before .before .before in
     (rw (i .before .loop .inv .news .size) (flow-low i), new-fits i)
 
--- src/sums.rt:37:9
 add-t : tie.Need-add-t Inv-loop μ-loop
 add-t c =
     let i = c .before .before .before .before .before .before .before .before .before .before .before in
     let h = head (begin i) in
     omega (arith, i .loop-test .taken)
 
--- src/sums.rt:32:5
 loop-less : tie.Need-loop-less Inv-loop μ-loop
 loop-less c =
     let i = c .before .before .before .before .before .before .before .before .before .before .before in
     omega (arith, i .loop-test .taken)
 
--- src/sums.rt:32:5
 loop-again : tie.Need-loop-again Inv-loop μ-loop
 unfolding networkOf
 loop-again c =
@@ -168,15 +141,12 @@ loop-again c =
       news = rw (c .before .before .add2 .ensures) (gathered-more _ _ (t i) _ (flow-low i) (v .news));
     }
 
--- src/sums.rt:22:1
 same-length : tie.Need-same-length Inv-loop μ-loop
 same-length c = c .before .loop .inv .olds .size ∙ sym (ap length (c .before .before .before .before .before .before .before .before .pre .1 .0))
 
--- src/sums.rt:22:1
 same-length-2 : tie.Need-same-length-2 Inv-loop μ-loop
 same-length-2 c = c .before .loop .inv .news .size ∙ sym (ap length (c .before .before .before .before .before .before .before .before .pre .1 .1))
 
--- src/sums.rt:22:1
 returns : tie.Need-returns Inv-loop μ-loop
 unfolding networkOf
 returns c =

@@ -1,15 +1,14 @@
-use Prim.Native.Nat.{ℕ, _≤_, _<_, _+_, _-_}
-use mathlib.Core.Path.{_≡_, refl, sym, ap, _∙_}
+-- `readers::line::begins` meets its contract. Assumes nothing.
+use Prim.Native.Nat.{_≤_, _<_, _+_, _-_}
+use mathlib.Core.Path.{_≡_, sym, _∙_}
 use native.Mathlib.Omega.{arith}
 use native.Mathlib.Nat.{add-zero, add-assoc}
-use lib.ListN.{length, drop, getD, length-drop}
+use lib.ListN.{length, drop, length-drop}
 use Rattle.readers.specs.Line.{prefixed}
 use Rattle.readers.proofs.Lines.{prefix-short, prefix-other, prefix-same, prefix-end}
 use borrow.Author.Needs.{needs}
 use Rattle.readers.proofs.line.begins.Statement.{statement}
 use Rattle.readers.proofs.line.begins.Tie as tie
-use Rattle.readers.proofs.line.begins.Reads as reads
-use Rattle.readers.proofs.line.begins.Lts as lts
 
 abbrev Inv-loop : tie.InvT-loop
 Inv-loop text at key n i₀ i =
@@ -22,15 +21,12 @@ Inv-loop text at key n i₀ i =
 abbrev μ-loop : tie.MeasureT-loop
 μ-loop text at key n i₀ i = length key - i
 
--- src/line.rt:23:8
 sub-if1 : tie.Need-sub-if1 Inv-loop μ-loop
 sub-if1 c = search needs
 
--- src/line.rt:24:9
 returns : tie.Need-returns Inv-loop μ-loop
 returns c = sym (prefix-short _ _ (simp length-drop (c .if1 .taken)))
 
--- src/line.rt:27:5
 loop-holds : tie.Need-loop-holds Inv-loop μ-loop
 loop-holds c =
     record {
@@ -39,34 +35,27 @@ loop-holds c =
       rest = rw add-zero;
     }
 
--- src/line.rt:28:17
 add-if2 : tie.Need-add-if2 Inv-loop μ-loop
 add-if2 c = search needs
 
--- src/line.rt:28:12
 shared-slice-read-if2 : tie.Need-shared-slice-read-if2 Inv-loop μ-loop
 shared-slice-read-if2 c = search needs
 
--- src/line.rt:28:28
 shared-slice-read-if2-2 : tie.Need-shared-slice-read-if2-2 Inv-loop μ-loop
 shared-slice-read-if2-2 c = search needs
 
--- src/line.rt:29:13
 returns-2 : tie.Need-returns-2 Inv-loop μ-loop
 returns-2 c =
     let t = c .before .before .before in
     let below : t .before .before .before .args .at + t .before .loop .i < length (t .before .before .before .args .text .now) = omega (arith, t .loop-test .taken) in
     sym (t .before .loop .inv .rest ∙ prefix-other _ _ _ _ (t .loop-test .taken) below (c .if2 .taken))
 
--- src/line.rt:31:9
 add-i : tie.Need-add-i Inv-loop μ-loop
 add-i c = search needs
 
--- src/line.rt:27:5
 loop-less : tie.Need-loop-less Inv-loop μ-loop
 loop-less c = search needs
 
--- src/line.rt:27:5
 loop-again : tie.Need-loop-again Inv-loop μ-loop
 loop-again c =
     let t = c .before .before .before in
@@ -78,7 +67,6 @@ loop-again c =
       rest = t .before .loop .inv .rest ∙ rw (← add-assoc (a .at) (t .before .loop .i) 1) (prefix-same _ _ _ _ (t .loop-test .taken) below (c .if2 .left));
     }
 
--- src/line.rt:18:1
 returns-3 : tie.Need-returns-3 Inv-loop μ-loop
 returns-3 c = sym (c .before .loop .inv .rest ∙ prefix-end _ _ _ (c .loop-test .left))
 

@@ -1,52 +1,41 @@
+-- `readers::line::decimal` meets its contract. Assumes nothing.
 use borrow.Author.Tests.{eq-eqb, ne-eqb, lt-ltb, le-ltb}
-use native.Mathlib.Omega.{arith}
 use native.Mathlib.Nat.{le-trans, pow-le-pow-right}
 use lib.Dec.{lit≤}
 use Rattle.forms.specs.Line.{decimalOf}
 use borrow.Author.Needs.{needs}
 use Rattle.readers.proofs.line.decimal.Statement.{statement}
 use Rattle.readers.proofs.line.decimal.Tie as tie
-use Rattle.readers.proofs.line.decimal.Reads as reads
-use Rattle.readers.proofs.line.decimal.Lts as lts
-use Rattle.readers.proofs.line.number.Reads as number-reads
 
--- src/line.rt:94:9
 returns : tie.Need-returns
 unfolding decimalOf
 returns c = simp (eq-eqb _ _ (c .if1 .taken))
 
--- src/line.rt:97:9
 returns-2 : tie.Need-returns-2
 unfolding decimalOf
 returns-2 c = simp (ne-eqb _ _ (c .before .if1 .left), lt-ltb _ _ (c .if2 .taken))
 
--- src/line.rt:100:9
 number-requires : tie.Need-number-requires
 number-requires c κs = (search needs, rw (c .if3 .taken) (lit≤ tt))
 
--- src/line.rt:100:9
 returns-3 : tie.Need-returns-3
 unfolding decimalOf
 returns-3 c =
     rw (ne-eqb _ _ (c .before .before .before .if1 .left), le-ltb _ _ (c .before .before .if2 .left), eq-eqb _ _ (c .before .if3 .taken)) (c .number .ensures)
 
--- src/line.rt:102:8
 shared-slice-read-if4 : tie.Need-shared-slice-read-if4
 shared-slice-read-if4 c = search needs
 
--- src/line.rt:103:9
 returns-4 : tie.Need-returns-4
 unfolding decimalOf
 returns-4 c =
     let e = c .before .before in
     simp (ne-eqb _ _ (e .before .before .if1 .left), le-ltb _ _ (e .before .if2 .left), ne-eqb _ _ (e .if3 .left), eq-eqb _ _ (c .if4 .taken))
 
--- src/line.rt:105:5
 number-requires-2 : tie.Need-number-requires-2
 number-requires-2 c κs =
     (search needs, le-trans (pow-le-pow-right (lit≤ tt) (c .before .before .before .if2 .left)) (lit≤ tt))
 
--- src/line.rt:89:1
 returns-5 : tie.Need-returns-5
 unfolding decimalOf
 returns-5 c =

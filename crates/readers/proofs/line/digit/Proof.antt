@@ -1,50 +1,37 @@
+-- `readers::line::digit` meets its contract. Assumes nothing.
 use borrow.Author.Tests.{lt-ltb, le-ltb, le-leb, lt-leb}
-use borrow.Author.Tests.{le-leb, lt-leb}
-use lib.Dec.{leb}
-use mathlib.Core.Path.{_≡_}
-use mathlib.Core.Bool.{true, false}
 use Rattle.forms.specs.Line.{digitOf}
 use borrow.Author.Needs.{needs}
 use Rattle.readers.proofs.line.digit.Statement.{statement}
 use Rattle.readers.proofs.line.digit.Tie as tie
-use Rattle.readers.proofs.line.digit.Reads as reads
-use Rattle.readers.proofs.line.digit.Lts as lts
 
--- src/line.rt:61:9
 cast-result : tie.Need-cast-result
 cast-result c = search needs
 
--- src/line.rt:65:10
 sub-result : tie.Need-sub-result
 sub-result c = search needs
 
--- src/line.rt:65:9
 cast-result-2 : tie.Need-cast-result-2
 cast-result-2 c = search needs
 
--- src/line.rt:55:1
 returns : tie.Need-returns
 unfolding digitOf
 returns c = simp (lt-ltb _ _ (c .if1 .taken))
 
--- src/line.rt:55:1
 returns-2 : tie.Need-returns-2
 unfolding digitOf
 returns-2 c = simp (le-ltb _ _ (c .before .if1 .left), le-leb _ _ (c .if2 .taken))
 
--- src/line.rt:55:1
 returns-3 : tie.Need-returns-3
 unfolding digitOf
 returns-3 c = simp (le-ltb _ _ (c .before .before .if1 .left), lt-leb _ _ (c .before .if2 .left), lt-ltb _ _ (c .if3 .taken))
 
--- src/line.rt:55:1
 returns-4 : tie.Need-returns-4
 unfolding digitOf
 returns-4 c =
     let a = c .before in
     simp (le-ltb _ _ (a .before .before .if1 .left), lt-leb _ _ (a .before .if2 .left), le-ltb _ _ (a .if3 .left), le-leb _ _ (c .if4 .taken))
 
--- src/line.rt:55:1
 returns-5 : tie.Need-returns-5
 unfolding digitOf
 returns-5 c =

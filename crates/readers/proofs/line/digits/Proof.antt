@@ -1,17 +1,14 @@
-use Prim.Native.Nat.{ℕ, _≤_, _<_, _+_, _-_}
-use mathlib.Core.Path.{_≡_, refl, sym, ap, _∙_}
+-- `readers::line::digits` meets its contract. Assumes nothing.
+use Prim.Native.Nat.{_≤_, _<_, _+_, _-_}
+use mathlib.Core.Path.{_≡_, sym, _∙_}
 use mathlib.Core.Bool.{true}
 use native.Mathlib.Omega.{arith}
-use lib.ListN.{length, drop, take, length-drop}
+use lib.ListN.{length, drop, length-drop}
 use Rattle.readers.specs.Line.{prefixed, bytesBefore}
 use Rattle.readers.proofs.Lines.{prefix-fits, digits-closed, digits-open, value-other}
 use borrow.Author.Needs.{needs}
 use Rattle.readers.proofs.line.digits.Statement.{statement}
 use Rattle.readers.proofs.line.digits.Tie as tie
-use Rattle.readers.proofs.line.digits.Reads as reads
-use Rattle.readers.proofs.line.digits.Lts as lts
-use Rattle.readers.proofs.line.begins.Reads as begins-reads
-use Rattle.readers.proofs.line.feed.Reads as feed-reads
 
 -- where the key stands at `at`
 found : (c : tie.Then1) → prefixed (c .before .before .before .before .args .key .now) (drop (c .before .before .before .before .args .at) (c .before .before .before .before .args .text .now)) ≡ true
@@ -23,39 +20,30 @@ fits c =
     let h : length (s .args .key .now) ≤ length (s .args .text .now) - s .args .at = simp length-drop at (prefix-fits _ _ (found c)) in
     omega (arith, s .pre .0)
 
--- src/line.rt:59:8
 begins-requires : tie.Need-begins-requires
 begins-requires c κs = search needs
 
--- src/line.rt:60:20
 add-from : tie.Need-add-from
 add-from c = search needs
 
--- src/line.rt:61:13
 feed-requires : tie.Need-feed-requires
 feed-requires c κs = fits c
 
--- src/line.rt:63:13
 sub-result : tie.Need-sub-result
 sub-result c = search needs
 
--- src/line.rt:63:13
 part-result-start : tie.Need-part-result-start
 part-result-start c = search needs
 
--- src/line.rt:63:13
 part-result-end : tie.Need-part-result-end
 part-result-end c = search needs
 
--- src/line.rt:65:13
 slice-aggregate-result : tie.Need-slice-aggregate-result
 slice-aggregate-result c = search needs
 
--- src/line.rt:68:9
 slice-aggregate-result-2 : tie.Need-slice-aggregate-result-2
 slice-aggregate-result-2 c = search needs
 
--- src/line.rt:54:1
 returns : tie.Need-returns
 returns c =
     let t = c .before .before .before in
@@ -65,7 +53,6 @@ returns c =
     let h : bytesBefore (drop from (s .args .text .now)) < length (drop from (s .args .text .now)) = simp length-drop (omega (arith, c .before .before .feed .ensures .0, c .before .if2 .taken)) in
     rw e (sym (digits-closed _ _ _ (s .pre .1) (found t) h))
 
--- src/line.rt:54:1
 returns-2 : tie.Need-returns-2
 returns-2 c =
     let t = c .before .before .before in
@@ -74,7 +61,6 @@ returns-2 c =
     let h : length (drop from (s .args .text .now)) ≤ bytesBefore (drop from (s .args .text .now)) = simp length-drop (omega (arith, c .before .before .feed .ensures .0, c .before .if2 .left)) in
     sym (digits-open _ _ _ (s .pre .1) (found t) h)
 
--- src/line.rt:54:1
 returns-3 : tie.Need-returns-3
 returns-3 c =
     let s = c .before .before .before .before .before in

@@ -1,3 +1,4 @@
+-- `readers::line::feed` meets its contract. Assumes nothing.
 use Prim.Native.Nat.{_≤_, _+_, _-_}
 use mathlib.Core.Path.{_≡_, sym, _∙_}
 use lib.ListN.{length, drop}
@@ -6,8 +7,6 @@ use Rattle.readers.proofs.Lines.{feed-here, feed-later, feed-none}
 use borrow.Author.Needs.{needs}
 use Rattle.readers.proofs.line.feed.Statement.{statement}
 use Rattle.readers.proofs.line.feed.Tie as tie
-use Rattle.readers.proofs.line.feed.Reads as reads
-use Rattle.readers.proofs.line.feed.Lts as lts
 
 abbrev Inv-loop : tie.InvT-loop
 Inv-loop text from i₀ i = (i ≤ length text) × (from + bytesBefore (drop from text) ≡ i + bytesBefore (drop i text))
@@ -15,35 +14,28 @@ Inv-loop text from i₀ i = (i ≤ length text) × (from + bytesBefore (drop fro
 abbrev μ-loop : tie.MeasureT-loop
 μ-loop text from i₀ i = length text - i
 
--- src/line.rt:43:5
 loop-holds : tie.Need-loop-holds Inv-loop μ-loop
 loop-holds c = search needs
 
--- src/line.rt:44:12
 shared-slice-read-if1 : tie.Need-shared-slice-read-if1 Inv-loop μ-loop
 shared-slice-read-if1 c = search needs
 
--- src/line.rt:45:13
 returns : tie.Need-returns Inv-loop μ-loop
 returns c =
     let l = c .before .before .before in
     (sym (l .loop .inv .1 ∙ feed-here _ _ (c .before .before .loop-test .taken) (c .if1 .taken)), search needs)
 
--- src/line.rt:47:9
 add-i : tie.Need-add-i Inv-loop μ-loop
 add-i c = search needs
 
--- src/line.rt:43:5
 loop-less : tie.Need-loop-less Inv-loop μ-loop
 loop-less c = search needs
 
--- src/line.rt:43:5
 loop-again : tie.Need-loop-again Inv-loop μ-loop
 loop-again c =
     let l = c .before .before .before in
     (search needs, l .loop .inv .1 ∙ feed-later _ _ (c .before .before .loop-test .taken) (c .if1 .left))
 
--- src/line.rt:37:1
 returns-2 : tie.Need-returns-2 Inv-loop μ-loop
 returns-2 c = (sym (c .before .loop .inv .1 ∙ feed-none _ _ (c .loop-test .left)), search needs)
 

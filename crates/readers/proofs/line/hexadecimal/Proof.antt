@@ -1,25 +1,18 @@
+-- `readers::line::hexadecimal` meets its contract. Assumes nothing.
 use native.Mathlib.Nat.{le-refl}
-use mathlib.Core.Path.{_≡_, ap}
 use borrow.Author.Tests.{eq-eqb, ne-eqb}
-use native.Mathlib.Omega.{arith}
 use Rattle.forms.specs.Line.{hexOf}
 use borrow.Author.Needs.{needs}
 use Rattle.readers.proofs.line.hexadecimal.Statement.{statement}
 use Rattle.readers.proofs.line.hexadecimal.Tie as tie
-use Rattle.readers.proofs.line.hexadecimal.Reads as reads
-use Rattle.readers.proofs.line.hexadecimal.Lts as lts
-use Rattle.readers.proofs.line.number.Reads as number-reads
 
--- src/line.rt:112:9
 number-requires : tie.Need-number-requires
 number-requires c κs = (search needs, rw (c .if1 .taken) (le-refl _))
 
--- src/line.rt:108:1
 returns : tie.Need-returns
 unfolding hexOf
 returns c = rw (eq-eqb _ _ (c .before .if1 .taken)) (c .number .ensures)
 
--- src/line.rt:108:1
 returns-2 : tie.Need-returns-2
 unfolding hexOf
 returns-2 c = simp (ne-eqb _ _ (c .if1 .left))

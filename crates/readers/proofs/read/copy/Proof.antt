@@ -1,16 +1,14 @@
+-- `readers::read::copy` meets its contract. Assumes nothing.
 use mathlib.Core.List.{_++_}
 use lib.Seq.{take-length}
 use Rattle.readers.proofs.Lines.{copy-step}
-use Prim.Native.Nat.{ℕ, _≤_, _<_, _+_, _-_}
-use mathlib.Core.Path.{_≡_, refl, sym, ap, _∙_}
-use lib.ListN.{length, take, drop, set, length-set}
-use lib.ListN.{getD}
+use Prim.Native.Nat.{_≤_, _<_, _+_, _-_}
+use mathlib.Core.Path.{_≡_, _∙_}
+use lib.ListN.{length, take, drop, length-set}
 use native.Mathlib.Omega.{arith}
 use borrow.Author.Needs.{needs}
 use Rattle.readers.proofs.read.copy.Statement.{statement}
 use Rattle.readers.proofs.read.copy.Tie as tie
-use Rattle.readers.proofs.read.copy.Reads as reads
-use Rattle.readers.proofs.read.copy.Lts as lts
 
 abbrev Inv-loop : tie.InvT-loop
 Inv-loop src dst₀ i₀ dst i = (i ≤ length src) × ((length dst ≡ length dst₀) × (dst ≡ take i src ++ drop i dst₀))
@@ -21,35 +19,27 @@ abbrev μ-loop : tie.MeasureT-loop
 end : (c : tie.After-loop Inv-loop μ-loop) → c .before .loop .i ≡ length (c .before .before .args .src .now)
 end c = omega arith
 
--- src/read.rt:115:5
 loop-holds : tie.Need-loop-holds Inv-loop μ-loop
 loop-holds c = search needs
 
--- src/read.rt:116:18
 mul-dst : tie.Need-mul-dst Inv-loop μ-loop
 mul-dst c = search needs
 
--- src/read.rt:116:18
 shared-slice-read-dst : tie.Need-shared-slice-read-dst Inv-loop μ-loop
 shared-slice-read-dst c = search needs
 
--- src/read.rt:116:9
 mul-dst-2 : tie.Need-mul-dst-2 Inv-loop μ-loop
 mul-dst-2 c = search needs
 
--- src/read.rt:116:9
 slice-write-dst : tie.Need-slice-write-dst Inv-loop μ-loop
 slice-write-dst c = search needs
 
--- src/read.rt:117:9
 add-i : tie.Need-add-i Inv-loop μ-loop
 add-i c = search needs
 
--- src/read.rt:115:5
 loop-less : tie.Need-loop-less Inv-loop μ-loop
 loop-less c = search needs
 
--- src/read.rt:115:5
 loop-again : tie.Need-loop-again Inv-loop μ-loop
 loop-again c =
     let t = c .before in
@@ -62,11 +52,9 @@ loop-again c =
       ),
     )
 
--- src/read.rt:110:1
 same-length : tie.Need-same-length Inv-loop μ-loop
 same-length c = search needs
 
--- src/read.rt:110:1
 returns : tie.Need-returns Inv-loop μ-loop
 returns c = c .before .loop .inv .1 .1 ∙ rw (end c, take-length)
 

@@ -1,28 +1,22 @@
-use mathlib.Core.Path.{_≡_, sym, _∙_}
-use Rattle.readers.proofs.Reading.{give-none, give-all}
+-- `readers::read::give` meets its contract. Assumes nothing.
+use mathlib.Core.Path.{sym, _∙_}
+use Rattle.forms.proofs.Answers.{give-none, give-all}
 use borrow.Author.Needs.{needs}
 use Rattle.readers.proofs.read.give.Statement.{statement}
 use Rattle.readers.proofs.read.give.Tie as tie
-use Rattle.readers.proofs.read.give.Reads as reads
-use Rattle.readers.proofs.read.give.Lts as lts
-use Rattle.readers.proofs.read.copy.Reads as copy-reads
 
--- src/read.rt:116:9
 returns : tie.Need-returns
 returns c =
     let a = c .before .before .before .args in
     let p = give-none (a .list .now) (a .out .now) (c .if1 .taken) in
     (sym (p .0), sym (p .1))
 
--- src/read.rt:122:5
 copy-requires : tie.Need-copy-requires
 copy-requires c κs = search needs
 
--- src/read.rt:110:1
 same-length : tie.Need-same-length
 same-length c = search needs
 
--- src/read.rt:110:1
 returns-2 : tie.Need-returns-2
 returns-2 c =
     let e = c .before .before .before .before in

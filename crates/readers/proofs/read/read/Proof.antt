@@ -1,6 +1,7 @@
-use Rattle.lists.specs.declared.Answer.the-variants.{Refused}
-use Rattle.forms.specs.Form.{secondOf}
-use Rattle.readers.specs.Read.{stopOf}
+-- `readers::read::read` meets its contract. Assumes nothing.
+use Rattle.lists.specs.declared.Answer.the-variants.{Refused, Done}
+use Rattle.forms.specs.Form.{secondOf, Sound, fieldOf, admitsOf, allows, mostNumbers}
+use Rattle.readers.specs.Read.{stopOf, takenOf}
 use Prim.Native.Nat.{ℕ, _≤_, _<_, _+_, _-_}
 use mathlib.Core.Path.{_≡_, refl, sym, ap, _∙_}
 use mathlib.Core.Bool.{true}
@@ -10,27 +11,18 @@ use native.Mathlib.Numerals.{add-one}
 use lib.Dec.{T}
 use lib.ListN.{length, take, drop, set, length-set}
 use lib.Seq.{length-take-le, take-suc-set}
-use Rattle.model.specs.Outcome.{Outcome, good}
+use Rattle.model.specs.Outcome.{good}
 use Rattle.lists.specs.Answers.{done}
-use Rattle.lists.specs.declared.Answer.the-variants.{Done}
 use Rattle.forms.specs.Line.{lines, lineValue}
-use Rattle.forms.specs.Form.{Sound, fieldOf, admitsOf, allows, mostNumbers}
 use Rattle.forms.specs.Read.{walk, readLines}
 use Rattle.forms.specs.declared.form.Field.the-variants.{Line, End}
 use Rattle.forms.proofs.Forms.{room, sound-more, sound-none}
 use Rattle.forms.proofs.Walks.{allows-line}
-use Rattle.readers.specs.Read.{takenOf, Holds}
-use Rattle.readers.specs.declared.read.Taken.the-variants.{Number, Stop}
+use Rattle.readers.specs.declared.read.Taken.the-variants.{Number}
 use Rattle.readers.proofs.Reading.{walk-ended, walk-many, walk-number, walk-stop, number-facts, holds-refused}
 use borrow.Author.Needs.{needs}
 use Rattle.readers.proofs.read.read.Statement.{statement}
 use Rattle.readers.proofs.read.read.Tie as tie
-use Rattle.readers.proofs.read.read.Reads as reads
-use Rattle.readers.proofs.read.read.Lts as lts
-use Rattle.forms.proofs.form.field_after.Reads as field-after-reads
-use Rattle.readers.proofs.read.refusal.Reads as refusal-reads
-use Rattle.readers.proofs.read.stop.Reads as stop-reads
-use Rattle.readers.proofs.read.take_line.Reads as take-line-reads
 
 abbrev Inv-loop : tie.InvT-loop
 Inv-loop form keys text vals₀ line₀ at₀ i₀ vals line at i =
@@ -104,36 +96,28 @@ module _ (c : tie.After-taken Inv-loop μ-loop) where
   more : take (head asked .loop .i + 1) (set (head asked .loop .vals) (head asked .loop .i) v) ≡ so-far (head asked) ++ (v ∷ [])
   more = rw add-one (take-suc-set (head asked .loop .vals) (head asked .loop .i) v (omega (arith, free, full (head asked))))
 
--- src/read.rt:78:5
 loop-holds : tie.Need-loop-holds Inv-loop μ-loop
 unfolding readLines
 loop-holds c = record { length-kept = refl; within = search needs; few = search needs; counted = search needs; sound = sound-none _; rest = refl }
 
--- src/read.rt:79:45
 slice-reshare-prefix-field-after : tie.Need-slice-reshare-prefix-field-after Inv-loop μ-loop
 slice-reshare-prefix-field-after c = omega (arith, full c)
 
--- src/read.rt:79:45
 slice-aggregate-field-after : tie.Need-slice-aggregate-field-after Inv-loop μ-loop
 slice-aggregate-field-after c = sym (count (c .before))
 
--- src/read.rt:79:13
 field-after-requires : tie.Need-field-after-requires Inv-loop μ-loop
 field-after-requires c κs = c .before .loop .inv .sound
 
--- src/read.rt:80:25
 enum-known-field : tie.Need-enum-known-field Inv-loop μ-loop
 enum-known-field c = search needs
 
--- src/read.rt:81:22
 enum-told : tie.Need-enum-told Inv-loop μ-loop
 enum-told c = search needs
 
--- src/read.rt:82:17
 same-length : tie.Need-same-length Inv-loop μ-loop
 same-length c = c .before .before .before .before .before .loop .inv .length-kept
 
--- src/read.rt:82:17
 returns : tie.Need-returns Inv-loop μ-loop
 returns c =
     let e = c .before in
@@ -141,15 +125,12 @@ returns c =
     let w : readLines (begin h .args .form) (text h) ≡ good (so-far h) = h .loop .inv .rest ∙ walk-ended _ _ _ _ _ (is-end e) (c .if1 .taken) in
     (sym (ap done w ∙ ap Done (count h)), rw w (ap (λ (n : ℕ). take n (h .loop .vals)) (count h)))
 
--- src/read.rt:84:13
 refusal-requires : tie.Need-refusal-requires Inv-loop μ-loop
 refusal-requires c κs = search needs
 
--- src/read.rt:84:13
 same-length-2 : tie.Need-same-length-2 Inv-loop μ-loop
 same-length-2 c = c .before .before .before .before .before .before .loop .inv .length-kept
 
--- src/read.rt:84:13
 returns-2 : tie.Need-returns-2 Inv-loop μ-loop
 returns-2 c =
     let e = c .before .before in
@@ -158,33 +139,26 @@ returns-2 c =
     let d = ap done (h .loop .inv .rest ∙ walk-many _ _ _ _ _ (is-end e) below) in
     (c .refusal .ensures ∙ sym d, holds-refused (readLines (begin h .args .form) (text h)) _ _ _ _ d)
 
--- src/read.rt:86:13
 take-line-requires : tie.Need-take-line-requires Inv-loop μ-loop
 take-line-requires c κs =
     let h = c .before .before .before .before .before in
     (begin h .pre .0, h .loop .inv .within)
 
--- src/read.rt:87:27
 enum-known-taken : tie.Need-enum-known-taken Inv-loop μ-loop
 enum-known-taken c = search needs
 
--- src/read.rt:88:28
 enum-told-2 : tie.Need-enum-told-2 Inv-loop μ-loop
 enum-told-2 c = search needs
 
--- src/read.rt:88:28
 stop-requires : tie.Need-stop-requires Inv-loop μ-loop
 stop-requires c κs = search needs
 
--- src/read.rt:88:13
 refusal-requires-2 : tie.Need-refusal-requires-2 Inv-loop μ-loop
 refusal-requires-2 c κs = search needs
 
--- src/read.rt:88:13
 same-length-3 : tie.Need-same-length-3 Inv-loop μ-loop
 same-length-3 c = head (c .before .before .before .before) .loop .inv .length-kept
 
--- src/read.rt:88:13
 returns-3 : tie.Need-returns-3 Inv-loop μ-loop
 returns-3 c =
     let t = c .before .before .before .before in
@@ -194,30 +168,24 @@ returns-3 c =
     let m = c .before .stop .ensures ∙ ap stopOf (c .before .before .enum-told2 .given .1) in
     (c .refusal2 .ensures ∙ ap (λ (x : ℕ). Refused x (h .loop .line) (secondOf (begin h .args .form))) m ∙ sym d, holds-refused (readLines (begin h .args .form) (text h)) _ _ _ _ d)
 
--- src/read.rt:90:9
 mul-vals : tie.Need-mul-vals Inv-loop μ-loop
 mul-vals c = omega (arith, free (c .before))
 
--- src/read.rt:90:9
 slice-write-vals : tie.Need-slice-write-vals Inv-loop μ-loop
 slice-write-vals c = omega (arith, free (c .before), full (head (asked (c .before))))
 
--- src/read.rt:91:9
 add-i : tie.Need-add-i Inv-loop μ-loop
 add-i c = omega (arith, free (c .before))
 
--- src/read.rt:93:9
 add-line : tie.Need-add-line Inv-loop μ-loop
 add-line c =
     let t = c .before in
     let h = head (asked t) in
     omega (arith, known t .0, known t .1 .0, h .loop .inv .counted)
 
--- src/read.rt:78:5
 loop-less : tie.Need-loop-less Inv-loop μ-loop
 loop-less c = omega (arith, known (c .before) .0, known (c .before) .1 .0)
 
--- src/read.rt:78:5
 loop-again : tie.Need-loop-again Inv-loop μ-loop
 loop-again c =
     let t = c .before in

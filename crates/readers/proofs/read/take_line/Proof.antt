@@ -1,8 +1,9 @@
-use Prim.Native.Nat.{ℕ, _≤_, _<_, _+_, _-_}
-use mathlib.Core.Path.{_≡_, refl, sym, ap, _∙_}
+-- `readers::read::take_line` meets its contract. Assumes nothing.
+use Prim.Native.Nat.{ℕ, _≤_, _+_, _-_}
+use mathlib.Core.Path.{_≡_, sym, ap, _∙_}
 use mathlib.Core.Bool.{Bool, cond}
 use mathlib.Core.List.{List}
-use mathlib.Core.Option.{Option, none, some}
+use mathlib.Core.Option.{some}
 use native.Mathlib.Omega.{arith}
 use lib.ListN.{length, drop}
 use Rattle.forms.specs.Keys.{prefixOf}
@@ -17,13 +18,6 @@ use Rattle.readers.proofs.Reading.{value-none, value-some, taken-missin
 use borrow.Author.Needs.{needs}
 use Rattle.readers.proofs.read.take_line.Statement.{statement}
 use Rattle.readers.proofs.read.take_line.Tie as tie
-use Rattle.readers.proofs.read.take_line.Reads as reads
-use Rattle.readers.proofs.read.take_line.Lts as lts
-use Rattle.forms.proofs.form.admits.Reads as admits-reads
-use Rattle.forms.proofs.form.is_hex.Reads as is-hex-reads
-use Rattle.forms.proofs.form.key_part.Reads as key-part-reads
-use Rattle.readers.proofs.line.digits.Reads as digits-reads
-use Rattle.readers.proofs.line.parse.Reads as parse-reads
 
 -- what the digits come to is the value of the line
 module _ (c : tie.After-parse) where
@@ -68,63 +62,49 @@ module _ (c : tie.After-v) where
   within : begin parsed .args .at + lineLen (rest parsed) ≤ length (begin parsed .args .text .now)
   within = line-ends (begin parsed .args .text .now) (begin parsed .args .at) (omega (arith, more parsed, begin parsed .pre .1)) .1
 
--- src/read.rt:34:9
 returns : tie.Need-returns
 returns c = sym (taken-missing _ _ _ _ (c .if1 .taken))
 
--- src/read.rt:36:9
 key-part-requires : tie.Need-key-part-requires
 key-part-requires c κs = search needs
 
--- src/read.rt:37:9
 digits-requires : tie.Need-digits-requires
 digits-requires c κs = (c .before .before .before .before .pre .1, rw (c .key-part .ensures) (key-no-feed (c .before .before .before .before .args .key)))
 
--- src/read.rt:38:39
 is-hex-requires : tie.Need-is-hex-requires
 is-hex-requires c κs = search needs
 
--- src/read.rt:38:24
 parse-requires : tie.Need-parse-requires
 parse-requires c κs = search needs
 
--- src/read.rt:38:19
 enum-known-v : tie.Need-enum-known-v
 enum-known-v c = search needs
 
--- src/read.rt:39:9
 enum-told : tie.Need-enum-told
 enum-told c = search needs
 
--- src/read.rt:39:9
 returns-2 : tie.Need-returns-2
 returns-2 c =
     let p = c .before .before in
     sym (taken-malformed _ _ _ _ (more p) (value-none _ (value p ∙ c .enum-told .given .1)))
 
--- src/read.rt:41:8
 admits-requires : tie.Need-admits-requires
 admits-requires c κs = search needs
 
--- src/read.rt:42:20
 add-next : tie.Need-add-next
 add-next c = search needs
 
--- src/read.rt:42:20
 add-next-2 : tie.Need-add-next-2
 add-next-2 c = let v = c .before .before .before in omega (arith, next v, within v)
 
--- src/read.rt:42:20
 add-next-3 : tie.Need-add-next-3
 add-next-3 c = let v = c .before .before .before in omega (arith, next v, within v)
 
--- src/read.rt:28:1
 returns-3 : tie.Need-returns-3
 returns-3 c =
     let v = c .before .before .before in
     ap (λ (n : ℕ). Number (v .v .given .0 .0) n) (next v) ∙ sym (taken-number _ _ _ _ (more (parsed v)) _ (is v) (sym (c .before .admits .ensures) ∙ c .if2 .taken))
 
--- src/read.rt:28:1
 returns-4 : tie.Need-returns-4
 returns-4 c =
     let v = c .before .before .before in

@@ -1,0 +1,43 @@
+-- `writers::write::write_plan` meets its contract. Assumes nothing.
+use mathlib.Core.Path.{_≡_, sym, _∙_}
+use Rattle.model.specs.Outcome.{good}
+use Rattle.forms.specs.Form.{Sound}
+use Rattle.forms.specs.Read.{judgeList}
+use Rattle.forms.specs.Write.{render, writeText}
+use Rattle.forms.specs.declared.form.Form.the-variants.{Plan}
+use Rattle.forms.proofs.Answers.{refused-then, refused-room}
+use Rattle.writers.proofs.Writing.{judged-done}
+use borrow.Author.Needs.{needs}
+use Rattle.writers.proofs.write.write_plan.Statement.{statement}
+use Rattle.writers.proofs.write.write_plan.Tie as tie
+
+accepted : (c : tie.After-enum-told) → (judgeList Plan (c .before .before .before .before .before .args .list .now) ≡ good (c .before .before .before .before .before .args .list .now)) × Sound Plan (c .before .before .before .before .before .args .list .now)
+accepted c = judged-done Plan _ _ (sym (c .before .before .judge-plan .ensures) ∙ c .enum-told .given .1)
+
+judge-plan-requires : tie.Need-judge-plan-requires
+judge-plan-requires c κs = search needs
+
+enum-told : tie.Need-enum-told
+enum-told c = search needs
+
+returns : tie.Need-returns
+returns c =
+    let a = c .before .before .before .before .args in
+    refused-room (writeText Plan (a .list .now)) _ (a .out .now) (refused-then (judgeList Plan (a .list .now)) (λ g. good (render Plan g)) _ (c .before .judge-plan .ensures) (c .match .keys2)) (c .match .keys2)
+
+write-good-requires : tie.Need-write-good-requires
+write-good-requires c κs = accepted (c .before) .1
+
+same-length : tie.Need-same-length
+same-length c = search needs
+
+returns-2 : tie.Need-returns-2
+returns-2 c =
+    let w = c .before .before in
+    let a = accepted (w .before .before) .0 in
+    (rw a (w .write-good .ensures .0), rw a (w .write-good .ensures .1))
+
+pub write-plan-spec : {M : Type 1} → statement M
+write-plan-spec =
+    tie.close
+    (tie.spec judge-plan-requires enum-told returns write-good-requires same-length returns-2)

@@ -1,0 +1,2 @@
+// The writers of the two texts.
+pub mod write;
