@@ -157,3 +157,35 @@ module _ (N : Net) (q : ℕ) where
       ∙ getD-append-add (1 ∷ q ∷ q ∷ N .tunnels ∷ []) (evenRows N q (q - 1)) ((a - 1) * N .tunnels + t) 0
       ∙ rows-at N q (q - 1) (a - 1) t (omega arith) k
       ∙ ap (λ (i : ℕ). evenRow N q i t) e
+
+-- ---- how large its numbers are
+
+abbrev Most : ℕ → List ℕ → Type 0
+Most B l = (i : ℕ) → at l i ≤ B
+
+most-append : (B : ℕ) (xs ys : List ℕ) → Most B xs → Most B ys → Most B (xs ++ ys)
+most-append B [] ys h k i = k i
+most-append B (x ∷ xs) ys h k zero = h 0
+most-append B (x ∷ xs) ys h k (suc i) = most-append B xs ys (λ j. h (suc j)) k i
+
+most-one : (B x : ℕ) → x ≤ B → Most B (x ∷ [])
+most-one B x h zero = h
+most-one B x h (suc i) = omega arith
+
+listed-most : (B n : ℕ) (x : ℕ → ℕ) → ((t : ℕ) → t < n → x t ≤ B) → Most B (listed n x)
+unfolding listed
+listed-most B zero x h = λ i. omega arith
+listed-most B (suc n) x h = most-append B (listed n x) (x n ∷ []) (listed-most B n x (λ t k. h t (omega arith))) (most-one B (x n) (h n (omega arith)))
+
+pub rows-most : (B : ℕ) (N : Net) (q n : ℕ) → ((a t : ℕ) → a ≤ n → t < N .tunnels → evenRow N q a t ≤ B) → Most B (evenRows N q n)
+unfolding evenRows
+rows-most B N q zero h = λ i. omega arith
+rows-most B N q (suc n) h =
+    most-append B (evenRows N q n) (listed (N .tunnels) (evenRow N q (suc n)))
+    (rows-most B N q n (λ a t k. h a t (omega arith))) (listed-most B (N .tunnels) (evenRow N q (suc n)) (λ t k. h (suc n) t (omega arith) k))
+
+pub list-beyond : (N : Net) (q i : ℕ) → 4 ≤ i → at (evenList N q) i ≡ at (evenRows N q (q - 1)) (i - 4)
+unfolding evenList
+list-beyond N q i h =
+    let e : i ≡ 4 + (i - 4) = omega arith in
+    ap (λ (j : ℕ). at (evenList N q) j) e ∙ getD-append-add (1 ∷ q ∷ q ∷ N .tunnels ∷ []) (evenRows N q (q - 1)) (i - 4) 0

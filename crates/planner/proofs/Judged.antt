@@ -1,6 +1,7 @@
 -- What the judge's answer says of the planner's outcome.
 use Prim.Native.Nat.{ℕ, _+_, _≤_}
 use mathlib.Core.Path.{_≡_, refl, sym, ap, _∙_}
+use mathlib.Core.Logic.{⊎-elim}
 use mathlib.Core.Bool.{Bool, true, false, cond}
 use mathlib.Core.List.{List, [], _∷_, _++_}
 use mathlib.Core.Option.{Option, none, some}
@@ -8,8 +9,8 @@ use native.Mathlib.Omega.{arith}
 use Rattle.model.specs.Outcome.{Outcome, good, refused, number, noEvenPlan}
 use Rattle.model.specs.Rule.{Place, missedRate}
 use Rattle.lists.specs.Answers.{withRoom, done, plan, lent}
-use Rattle.lists.specs.Lists.{networkOf, GoodNetwork}
-use Rattle.lists.specs.declared.Answer.the-variants.{Refused}
+use Rattle.lists.specs.Lists.{networkOf}
+use Rattle.lists.specs.declared.Answer.{Answer}
 use Rattle.forms.specs.Form.{fieldOf, admitsOf}
 use Rattle.forms.specs.Read.{onField, onValue, walk, itself, judgeNumbers, unlessMissed, addUp, andThen, judgeNetwork}
 use Rattle.forms.specs.declared.form.Form.{Form}
@@ -17,30 +18,9 @@ use Rattle.forms.specs.declared.form.Form.the-variants.{Network}
 use Rattle.forms.specs.declared.form.Range.{Range}
 use Rattle.forms.specs.declared.form.Field.{Field}
 use Rattle.forms.specs.declared.form.Field.the-variants.{Line, End}
+use Rattle.forms.proofs.Answers.{NotDone}
 use Rattle.forms.proofs.Good.{good-network}
 use Rattle.planner.specs.Planned.{evenPlan, planned}
-
--- a list that is judged good is the list that is got, and its numbers are in their ranges and add up
-pub judged-network : (l g : List ℕ) → judgeNetwork l ≡ good g → (g ≡ l) × GoodNetwork l
-unfolding networkOf
-judged-network l g e =
-    let j = good-network l g e in
-    let r = j .1 .ranges in (
-      j .0,
-      record {
-        size = r .size;
-        links = r .links;
-        flows = r .flows;
-        tunnels = r .tunnels;
-        cap = r .cap;
-        rate = r .rate;
-        flow = r .flow;
-        via = λ t h. r .via t h .1;
-        old = r .old;
-        new = r .new;
-        valid = record { scratch = r .scratch; overrun = r .overrun; sums = j .1 .sums };
-      },
-    )
 
 pub planned-good : (l : List ℕ) → judgeNetwork l ≡ good l → planned l ≡ evenPlan (networkOf l)
 unfolding planned
@@ -48,15 +28,15 @@ planned-good l e = ap (λ o. andThen o (λ g. evenPlan (networkOf g))) e
 
 -- ---- where the judge refuses
 
-passed-on : (o : Outcome (List ℕ)) (next : List ℕ → Outcome (List ℕ)) (n p s room : ℕ) (out : List ℕ) → done o ≡ Refused n p s
-    → (done o ≡ plan (withRoom room (andThen o next))) × (out ≡ lent (withRoom room (andThen o next)) out)
-passed-on (good g) next n p s room out e = let z : _≡_ {A = ℕ} 0 1 = cc in absurd (omega arith)
-passed-on (refused c i j) next n p s room out e = (refl, refl)
+passed-on : (o : Outcome (List ℕ)) (next : List ℕ → Outcome (List ℕ)) (a : Answer) (room : ℕ) (out : List ℕ) → a ≡ done o → NotDone a
+    → (a ≡ plan (withRoom room (andThen o next))) × (out ≡ lent (withRoom room (andThen o next)) out)
+passed-on (good g) next a room out e t = absurd (⊎-elim (λ k. omega arith) (λ k. omega arith) (rw e at t))
+passed-on (refused c i j) next a room out e t = (e, refl)
 
-pub planned-refused : (l : List ℕ) (n p s room : ℕ) (out : List ℕ) → done (judgeNetwork l) ≡ Refused n p s
-    → (done (judgeNetwork l) ≡ plan (withRoom room (planned l))) × (out ≡ lent (withRoom room (planned l)) out)
+pub planned-refused : (l : List ℕ) (a : Answer) (room : ℕ) (out : List ℕ) → a ≡ done (judgeNetwork l) → NotDone a
+    → (a ≡ plan (withRoom room (planned l))) × (out ≡ lent (withRoom room (planned l)) out)
 unfolding planned
-planned-refused l n p s room out e = passed-on (judgeNetwork l) (λ g. evenPlan (networkOf g)) n p s room out e
+planned-refused l a room out e t = passed-on (judgeNetwork l) (λ g. evenPlan (networkOf g)) a room out e t
 
 -- ---- which refusals are the judge's own: 1 to 4
 
@@ -106,5 +86,5 @@ pub planned-nine : (l : List ℕ) (p s : ℕ) → planned l ≡ refused noEvenPl
 unfolding planned
 planned-nine l p s e =
     let n = nine-passed (judgeNetwork l) (λ g. evenPlan (networkOf g)) p s (judge-early l) e in
-    let j = judged-network l (n .0) (n .1) in
+    let j = good-network l (n .0) (n .1) in
     (n .1 ∙ ap good (j .0), sym (ap (λ g. evenPlan (networkOf g)) (j .0)) ∙ n .2)

@@ -23,13 +23,12 @@ use Rattle.model.proofs.Bounded as model
 use Rattle.lists.specs.Answers.{withRoom}
 use Rattle.lists.specs.Lists.{at, networkOf, planOf, GoodNetwork}
 use Rattle.forms.specs.Read.{andThen, judgeNetwork, judgePlan}
-use Rattle.forms.specs.Good as forms
-use Rattle.forms.proofs.Good.{plan-good}
+use Rattle.forms.proofs.Answers.{good-room}
+use Rattle.forms.proofs.Good.{good-network, plan-good}
 use Rattle.planner.specs.Planned.{evenList, stuck, byFewest, evenPlan, planned}
 use Rattle.planner.specs.Claim.{FewestSteps, NoneBelow, Safe, Claim}
-use Rattle.planner.proofs.EvenLists.{list-length, list-head, list-at}
-use Rattle.planner.proofs.Planned.{fewest-some}
-use Rattle.planner.proofs.Judged.{judged-network, planned-good, planned-nine}
+use Rattle.planner.proofs.EvenLists.{list-length, list-head, list-at, rows-most, list-beyond}
+use Rattle.planner.proofs.Judged.{planned-good, planned-nine}
 
 -- ---- the cases of the outcome
 
@@ -59,7 +58,7 @@ made : (l p : List ℕ) → planned l ≡ good p → Made l p
 unfolding planned evenPlan
 made l p e =
     let s = passed-good (judgeNetwork l) (λ g. evenPlan (networkOf g)) p e in
-    let j = judged-network l (s .0) (s .1) in
+    let j = good-network l (s .0) (s .1) in
     let f = by-fewest (networkOf l) (fewest (networkOf l)) p (sym (ap (λ g. evenPlan (networkOf g)) (j .0)) ∙ s .2) in
     record { judged = s .1 ∙ ap good (j .0); network = j .1; steps = f .0; fewest = f .1; list = f .2 }
 
@@ -73,12 +72,6 @@ below-fewest N q e r one less =
     let k : suc (r - 1) ≡ r = omega arith in
     ap (λ (i : ℕ). accepted N (even N i)) (sym k) ∙ only-none _ (suc (r - 1)) (first-none (λ i. tryEven N (suc i)) (s .0) (s .3) (r - 1) (omega (arith, t .1)))
 
-none-accepted : (N : Net) → fewest N ≡ none → (q : ℕ) → 1 ≤ q → q ≤ mostSteps → accepted N (even N q) ≡ false
-unfolding fewest tryEven
-none-accepted N e q one most =
-    let k : suc (q - 1) ≡ q = omega arith in
-    ap (λ (i : ℕ). accepted N (even N i)) (sym k) ∙ only-none _ (suc (q - 1)) (first-none (λ i. tryEven N (suc i)) mostSteps e (q - 1) (omega arith))
-
 accepted-none : (N : Net) → ((q : ℕ) → 1 ≤ q → q ≤ mostSteps → accepted N (even N q) ≡ false) → fewest N ≡ none
 unfolding fewest tryEven
 accepted-none N h = none-first (λ i. tryEven N (suc i)) mostSteps (λ i k. only-false _ (suc i) (h (suc i) (omega arith) k))
@@ -86,8 +79,8 @@ accepted-none N h = none-first (λ i. tryEven N (suc i)) mostSteps (λ i k. only
 pub fewest-steps : (l p : List ℕ) → planned l ≡ good p → FewestSteps (networkOf l) p
 fewest-steps l p e =
     let m = made l p e in
-    let f = fewest-some (networkOf l) (m .steps) (m .fewest) in
-    record { steps = m .steps; least = f .some-step; most = f .most; list = m .list; accepted = f .accepted; none-below = below-fewest (networkOf l) (m .steps) (m .fewest) }
+    let f = model.fewest-some (networkOf l) (m .steps) (m .fewest) in
+    record { steps = m .steps; least = f .0; most = f .1; list = m .list; accepted = f .2; none-below = below-fewest (networkOf l) (m .steps) (m .fewest) }
 
 -- ---- the list of an even plan is a plan
 
@@ -106,7 +99,8 @@ module _ (l : List ℕ) (g : GoodNetwork l) (q : ℕ) (one : 1 ≤ q) (most : q 
     steps = (one, most);
     tunnels = g .tunnels;
     size = list-length (networkOf l) q;
-    amount = λ a t ha hq ht. rw (list-at (networkOf l) q a t ha hq ht) (even-most q a _ _ (omega arith) (g .old t ht) (g .new t ht));
+    amounts = λ i four _. rw (list-beyond (networkOf l) q i four)
+        (rows-most (mostAmount * q) (networkOf l) q (q - 1) (λ a t ha ht. even-most q a _ _ (omega arith) (g .old t ht) (g .new t ht)) (i - 4));
   })
 
   even-same : Same (networkOf l) (planOf (evenList (networkOf l) q)) (even (networkOf l) q)
@@ -117,13 +111,13 @@ pub safe : (l p : List ℕ) → planned l ≡ good p → Safe l p
 safe l p e =
     let m = made l p e in
     let N = networkOf l in
-    let f = fewest-some N (m .steps) (m .fewest) in
-    let a = accepted-both N (even N (m .steps)) .0 (f .accepted) in
-    let s = even-same l (m .network) (m .steps) (f .some-step) (f .most) in
+    let f = model.fewest-some N (m .steps) (m .fewest) in
+    let a = accepted-both N (even N (m .steps)) .0 (f .2) in
+    let s = even-same l (m .network) (m .steps) (f .0) (f .1) in
     let none-over = overload-same N _ _ s ∙ a .1 in
     rw (m .list) (record {
       network = m .judged;
-      judged = even-judged l (m .network) (m .steps) (f .some-step) (f .most);
+      judged = even-judged l (m .network) (m .steps) (f .0) (f .1);
       tunnels = list-head N (m .steps) .3;
       rows = row-missed-same N _ _ s ∙ a .0;
       overload = none-over;
@@ -137,7 +131,7 @@ pub stuck-somewhere : (N : Net) → missedRate N ≡ none → fewest N ≡ none 
 unfolding stuckAt
 stuck-somewhere N r e =
     ⊎-elim
-    (λ z. absurd (true≢false (sym (accepted-both N (even N mostSteps) .1 (even-adds-up N mostSteps r, z)) ∙ none-accepted N e mostSteps (omega arith) (omega arith))))
+    (λ z. absurd (true≢false (sym (accepted-both N (even N mostSteps) .1 (even-adds-up N mostSteps r, z)) ∙ model.fewest-none N e mostSteps (omega arith) (omega arith))))
     (λ s. s)
     (option-cases (firstOverload N (even N mostSteps)))
 
@@ -147,7 +141,7 @@ unfolding evenPlan byFewest stuck
 nine l j h =
     let N = networkOf l in
     let e = accepted-none N h in
-    let s = stuck-somewhere N (judged-network l l j .1 .valid .sums) e in
+    let s = stuck-somewhere N (good-network l l j .1 .valid .sums) e in
     (s .0, s .1, planned-good l j ∙ ap (byFewest N) e ∙ ap stuck (s .1))
 
 nine-by-fewest : (N : Net) (o : Option ℕ) (p s : ℕ) → byFewest N o ≡ refused noEvenPlan p s → o ≡ none
@@ -160,7 +154,7 @@ pub nine-only : (l : List ℕ) (place second : ℕ) → planned l ≡ refused no
 unfolding evenPlan
 nine-only l place second e =
     let n = planned-nine l place second e in
-    (n .0, none-accepted (networkOf l) (nine-by-fewest (networkOf l) (fewest (networkOf l)) place second (n .1)))
+    (n .0, model.fewest-none (networkOf l) (nine-by-fewest (networkOf l) (fewest (networkOf l)) place second (n .1)))
 
 -- ---- a network that keeps its scratch
 
@@ -170,13 +164,13 @@ pub bounded : (l : List ℕ) → judgeNetwork l ≡ good l → keepsScratch (net
 unfolding evenPlan byFewest
 bounded l j k =
     let N = networkOf l in
-    let b = model.bounded N (judged-network l l j .1 .valid) k in
+    let b = model.bounded N (good-network l l j .1 .valid) k in
     let p : List ℕ = evenList N (b .0) in
     let e : planned l ≡ good p = planned-good l j ∙ ap (byFewest N) (b .1) in (
       p,
       e,
-      λ room h. ap (withRoom room) e ∙ ap (λ (t : Bool). cond t (good p) (refused noRoom (length p) 0)) (le-leb (length p) room h),
-      rw (list-head N (b .0) .2) (b .2),
+      λ room h. ap (withRoom room) e ∙ good-room room p h,
+      rw (list-head N (b .0) .2) (b .3),
     )
 
 pub claim : Claim

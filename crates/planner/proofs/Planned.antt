@@ -31,18 +31,6 @@ pub answered-none : (o : Option ℕ) → answered o ≡ NoPlan → o ≡ none
 answered-none none e = refl
 answered-none (some p) e = let z : _≡_ {A = ℕ} 0 1 = cc in absurd (omega arith)
 
-pub record Fewest (N : Net) (q : ℕ) : Type 0 where
-  pub some-step : 1 ≤ q
-  pub most : q ≤ mostSteps
-  pub accepted : accepted N (even N q) ≡ true
-
-pub fewest-some : (N : Net) (q : ℕ) → fewest N ≡ some q → Fewest N q
-unfolding fewest tryEven
-fewest-some N q e =
-    let s = first-some (λ i. tryEven N (suc i)) mostSteps q e in
-    let t = only-some _ (suc (s .0)) q (s .2) in
-    record { some-step = omega (arith, t .1); most = omega (arith, s .1, t .1); accepted = rw (← t .1) (t .0) }
-
 -- ---- the outcome, with the room that is lent
 
 module _ (N : Net) (out : List ℕ) where

@@ -45,13 +45,8 @@ pub fn make_plan(network: &[u64], out: &mut [u64]) -> Answer
     ensures { λ _. ⌜ now (out .exit) ≡ lent (withRoom (length (now (out .entry))) (planned (now (network .entry)))) (now (out .entry)) ⌝ }
 {
     let judged = judge::judge_network(network);
-    match judged {
-        Answer::Done(_) => plan_good(network, out),
-        Answer::Plan(_) => judged,
-        Answer::Refused {
-            number: _,
-            place: _,
-            second: _,
-        } => judged,
-    }
+    let Answer::Done(_) = judged else {
+        return judged;
+    };
+    plan_good(network, out)
 }

@@ -6,10 +6,11 @@ use native.Mathlib.Omega.{arith}
 use native.Mathlib.Nat.{mul-le-mul}
 use borrow.Author.Needs.{needs}
 use Rattle.model.specs.Even.{fewest}
+use Rattle.model.proofs.Bounded.{fewest-some}
 use Rattle.lists.specs.Lists.{at, networkOf}
 use Rattle.lists.specs.declared.Answer.the-variants.{Plan, Refused}
 use Rattle.planner.proofs.EvenLists.{list-length}
-use Rattle.planner.proofs.Planned.{answered-some, answered-none, fewest-some, no-plan, room-short, room-enough}
+use Rattle.planner.proofs.Planned.{answered-some, answered-none, no-plan, room-short, room-enough}
 use Rattle.planner.proofs.plan_good.Statement.{statement}
 use Rattle.planner.proofs.plan_good.Tie as tie
 
@@ -62,11 +63,11 @@ found c = answered-some _ _ (sym (c .before .before .before .fewest-steps .ensur
 small : (c : tie.After-known-told)
     → (c .before .fewest .given .0 .0 - 1) * at (c .before .before .before .before .before .before .before .before .before .before .before .before .before .args .network .now) 5 ≤ 5000
 small c =
-    let k : c .before .fewest .given .0 .0 - 1 ≤ 50 = omega (arith, fewest-some _ _ (found c) .most) in
+    let k : c .before .fewest .given .0 .0 - 1 ≤ 50 = omega (arith, fewest-some _ _ (found c) .1) in
     omega (arith, mul-le-mul k (c .before .before .before .before .before .before .before .before .before .before .before .before .before .pre .tunnels))
 
 sub-size : tie.Need-sub-size
-sub-size c = fewest-some _ _ (found (c .before)) .some-step
+sub-size c = fewest-some _ _ (found (c .before)) .0
 
 mul-size : tie.Need-mul-size
 mul-size c = record { fits = omega (arith, small (c .before)) }
@@ -89,7 +90,7 @@ write-plan-requires c κs =
     let s = c .before .before .before .before .before .before .before .before .before .before .before .before .before .before .before .before in
     let N = networkOf (s .args .network .now) in
     let f = fewest-some _ _ (found (c .before .before .before)) in
-    (s .pre, (f .some-step, f .most, omega (arith, list-length N (c .before .before .before .before .fewest .given .0 .0), c .before .if1 .left)))
+    (s .pre, (f .0, f .1, omega (arith, list-length N (c .before .before .before .before .fewest .given .0 .0), c .before .if1 .left)))
 
 same-length : tie.Need-same-length
 same-length c = search needs
