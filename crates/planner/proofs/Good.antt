@@ -1,13 +1,12 @@
 -- What a good list says of the network that it is seen as.
-use Prim.Native.Nat.{ℕ, _+_, _≤_, _<_}
-use mathlib.Core.Path.{_≡_, ap}
-use mathlib.Core.Bool.{true, false, not}
+use Prim.Native.Nat.{ℕ, _≤_, _<_}
+use mathlib.Core.Path.{_≡_}
+use mathlib.Core.Bool.{true, false}
 use mathlib.Core.List.{List}
 use borrow.Author.Tests.{le-leb, lt-leb}
 use Rattle.model.specs.Scan.{Bound}
 use Rattle.model.specs.Rule.{counts}
 use Rattle.lists.specs.Lists.{at, flowAt, tunnelAt, networkOf, GoodNetwork}
-use Rattle.planner.specs.Tables.{unprotected}
 use Rattle.planner.proofs.Tables.{InRange}
 
 pub good-range : (l : List ℕ) → GoodNetwork l → InRange (networkOf l)

@@ -1,22 +1,20 @@
 -- The claim of the planner's outcome holds.
-use Prim.Native.Nat.{ℕ, suc, _+_, _-_, _*_, _≤_, _<_}
-use mathlib.Core.Path.{_≡_, refl, sym, ap, subst, _∙_}
+use Prim.Native.Nat.{ℕ, suc, _+_, _-_, _*_, _≤_}
+use mathlib.Core.Path.{_≡_, refl, sym, ap, _∙_}
 use mathlib.Core.Logic.{⊎-elim}
-use mathlib.Core.Bool.{Bool, true, false, cond, true≢false}
+use mathlib.Core.Bool.{true, false, true≢false}
 use mathlib.Core.List.{List}
-use mathlib.Core.Option.{Option, none, some, Option·some-ne-none}
+use mathlib.Core.Option.{Option, none, some}
 use native.Mathlib.Omega.{arith}
 use native.Mathlib.Nat.{mul-le-mul-left}
 use lib.ListN.{length}
-use borrow.Author.Tests.{le-leb}
 use Rattle.model.specs.Limits.{mostSteps, mostAmount}
-use Rattle.model.specs.Outcome.{Outcome, good, refused, Cause, number, noEvenPlan, noRoom}
-use Rattle.model.specs.Search.{first}
-use Rattle.model.specs.Net.{Net, Plan}
-use Rattle.model.specs.Scan.{Bound, Overload, step}
-use Rattle.model.specs.Rule.{missedRate, missedRow, firstOverload, accepted}
+use Rattle.model.specs.Outcome.{Outcome, good, refused, noEvenPlan}
+use Rattle.model.specs.Net.{Net}
+use Rattle.model.specs.Scan.{Overload, step}
+use Rattle.model.specs.Rule.{missedRate, firstOverload, accepted}
 use Rattle.model.specs.Even.{evenRow, even, tryEven, fewest, stuckAt, keepsScratch, stepBound}
-use Rattle.model.proofs.Searches.{bool-cases, option-cases, only-some, only-none, first-some, first-none, none-first, only-false}
+use Rattle.model.proofs.Searches.{option-cases, only-some, only-none, first-some, first-none, none-first, only-false}
 use Rattle.model.proofs.Choices as choices
 use Rattle.model.proofs.Rows.{Same, row-missed-same, overload-same, accepted-both, even-at, even-adds-up}
 use Rattle.model.proofs.Bounded as model

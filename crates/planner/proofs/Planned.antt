@@ -1,22 +1,17 @@
 -- The planner's outcome, case by case.
-use Prim.Native.Nat.{ℕ, suc, _+_, _-_, _*_, _≤_, _<_}
-use mathlib.Core.Path.{_≡_, refl, sym, ap, _∙_}
-use mathlib.Core.Bool.{Bool, true, cond}
-use mathlib.Core.List.{List, _++_}
+use Prim.Native.Nat.{ℕ, _-_, _≤_, _<_}
+use mathlib.Core.Path.{_≡_, refl, ap, _∙_}
+use mathlib.Core.Bool.{Bool, cond}
+use mathlib.Core.List.{List}
 use mathlib.Core.Option.{Option, none, some}
 use native.Mathlib.Omega.{arith}
-use lib.Dec.{leb}
-use lib.ListN.{length, drop}
+use lib.ListN.{length}
 use borrow.Author.Tests.{le-leb, lt-leb}
-use Rattle.model.specs.Limits.{mostSteps}
 use Rattle.model.specs.Outcome.{Outcome, good, refused, noRoom}
 use Rattle.model.specs.Net.{Net}
 use Rattle.model.specs.Scan.{Overload}
-use Rattle.model.specs.Rule.{accepted}
-use Rattle.model.specs.Even.{even, tryEven, fewest, stuckAt}
-use Rattle.model.proofs.Searches.{only-some, first-some}
+use Rattle.model.specs.Even.{fewest, stuckAt}
 use Rattle.lists.specs.Answers.{withRoom, plan, lent}
-use Rattle.lists.specs.declared.Answer.the-variants.{Plan, Refused}
 use Rattle.planner.specs.Planned.{evenList, stuck, byFewest, evenPlan}
 use Rattle.planner.specs.Search.{answered}
 use Rattle.planner.specs.declared.steps.Fewest.the-variants.{Steps, NoPlan}

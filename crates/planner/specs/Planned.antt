@@ -23,7 +23,7 @@ evenRows N q (suc n) = evenRows N q n ++ listed (N .tunnels) (evenRow N q (suc n
 unfoldable pub evenList : Net → ℕ → List ℕ
 evenList N q = (1 ∷ q ∷ q ∷ N .tunnels ∷ []) ++ evenRows N q (q - 1)
 
--- "no even plan of 1 to 50 steps is accepted | 9 | where the 50-step plan first overloads: step; link". It overloads somewhere: `stuck-somewhere` in proofs/Planned.antt
+-- "no even plan of 1 to 50 steps is accepted | 9 | where the 50-step plan first overloads: step; link". It overloads somewhere: `nine` of Claim.antt
 unfoldable pub stuck : Option Overload → Outcome (List ℕ)
 stuck none = refused noEvenPlan 0 0
 stuck (some o) = refused noEvenPlan (step o) (o .link)

@@ -1,4 +1,4 @@
--- `planner::rows::write_plan` meets its contract.
+-- `planner::rows::write_plan` meets its contract: the output has the list's head and the rows written, and then what it had.
 use Prim.Native.Nat.{ℕ, _+_, _-_, _*_, _≤_}
 use mathlib.Core.Path.{_≡_, sym, ap, _∙_}
 use mathlib.Core.List.{List, [], _∷_, _++_}

@@ -1,4 +1,4 @@
--- `planner::steps::end_load` meets its contract.
+-- `planner::steps::end_load` meets its contract: what is computed fits 64 bits, and is the definition.
 use Prim.Native.Nat.{ℕ, _+_, _-_, _*_, _≤_}
 use mathlib.Core.Path.{ap}
 use native.Mathlib.Omega.{arith}

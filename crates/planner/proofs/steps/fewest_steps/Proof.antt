@@ -1,4 +1,4 @@
--- `planner::steps::fewest_steps` meets its contract.
+-- `planner::steps::fewest_steps` meets its contract: no even plan of the steps tried is accepted.
 use Prim.Native.Nat.{_-_, _≤_}
 use mathlib.Core.Path.{_≡_, sym, ap, subst, _∙_}
 use native.Mathlib.Omega.{arith}

@@ -1,4 +1,4 @@
--- `planner::steps::first_overload` meets its contract.
+-- `planner::steps::first_overload` meets its contract: no step passed overloads a link, nor does the present one a link passed.
 use Prim.Native.Nat.{ℕ, _-_, _≤_}
 use mathlib.Core.Path.{_≡_, refl, sym, ap₂, subst, _∙_}
 use native.Mathlib.Omega.{arith}

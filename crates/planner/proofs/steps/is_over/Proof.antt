@@ -1,4 +1,4 @@
--- `planner::steps::is_over` meets its contract.
+-- `planner::steps::is_over` meets its contract: the two comparisons are the two bounds of the rule.
 use Prim.Native.Nat.{ℕ, _+_, _*_}
 use mathlib.Core.Path.{ap, _∙_}
 use native.Mathlib.Omega.{arith}

@@ -1,4 +1,4 @@
--- `planner::steps::step_load` meets its contract.
+-- `planner::steps::step_load` meets its contract: what is computed fits 64 bits, and is the definition.
 use Prim.Native.Nat.{_+_, _-_, _*_, _≤_}
 use native.Mathlib.Omega.{arith}
 use native.Mathlib.Numerals.{add-one}

@@ -1,4 +1,4 @@
--- `planner::sums::add_link` meets its contract.
+-- `planner::sums::add_link` meets its contract: three stores, each of which leaves the numbers of the other parts.
 use Prim.Native.Nat.{_+_}
 use native.Mathlib.Omega.{arith}
 use borrow.Author.Needs.{needs}

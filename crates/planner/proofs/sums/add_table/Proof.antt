@@ -1,6 +1,6 @@
--- `planner::sums::add_table` meets its contract.
+-- `planner::sums::add_table` meets its contract: the numbers below i are joined, the others are as they were.
 use Prim.Native.Nat.{ℕ, _-_, _≤_, _<_}
-use mathlib.Core.Path.{_≡_, sym, subst, _∙_}
+use mathlib.Core.Path.{_≡_, subst}
 use native.Mathlib.Omega.{arith}
 use borrow.Author.Needs.{needs}
 use Rattle.model.specs.Limits.{mostTunnels}

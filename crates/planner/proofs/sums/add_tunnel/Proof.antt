@@ -1,6 +1,5 @@
 -- `planner::sums::add_tunnel` meets its contract: the links below one are passed, and what is left of the set falls.
 use native.Mathlib.Omega.{arith}
-use native.Mathlib.Nat.{pos-of-ne-zero}
 use lib.Count.{trailing-le}
 use borrow.Author.Needs.{needs}
 use Rattle.planner.proofs.Digits.{next-within, next-less}

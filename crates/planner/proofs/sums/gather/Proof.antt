@@ -1,4 +1,4 @@
--- `planner::sums::gather` meets its contract.
+-- `planner::sums::gather` meets its contract: the two tables of `split`, joined, are that of all classes.
 use borrow.Author.Needs.{needs}
 use native.Mathlib.Nat.{le-refl}
 use Rattle.planner.proofs.Tables.{table-room, tables-join}

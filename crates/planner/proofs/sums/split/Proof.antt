@@ -1,15 +1,14 @@
--- `planner::sums::split` meets its contract.
-use Prim.Native.Nat.{ℕ, _+_, _-_, _≤_}
-use mathlib.Core.Path.{_≡_, sym, ap, subst, _∙_}
+-- `planner::sums::split` meets its contract: each table has those of the tunnels passed that it is for.
+use Prim.Native.Nat.{ℕ, _+_, _-_, _≤_, _<_}
+use mathlib.Core.Path.{_≡_, ap, subst}
 use mathlib.Core.Logic.{⊎-elim}
 use mathlib.Core.Bool.{not}
 use native.Mathlib.Omega.{arith}
-use lib.ListN.{length, length-replicate}
 use borrow.Author.Needs.{needs}
 use Rattle.model.specs.Scan.{Bound}
 use Rattle.model.specs.Rule.{counts}
-use Rattle.lists.specs.Lists.{at, networkOf}
-use Rattle.planner.specs.Tables.{tableSize, Table, unprotected}
+use Rattle.lists.specs.Lists.{at, tunnelAt, networkOf}
+use Rattle.planner.specs.Tables.{Table, unprotected}
 use Rattle.planner.proofs.Tables.{table-zero, table-take, table-skip, table-room}
 use Rattle.planner.proofs.Good.{good-range, is-protected, not-protected}
 use Rattle.planner.proofs.sums.split.Statement.{statement}
@@ -88,25 +87,22 @@ mul-new c = search needs
 shared-slice-read-new : tie.Need-shared-slice-read-new Inv-loop μ-loop
 shared-slice-read-new c = search needs
 
+-- the tunnel's flow is one of the network's
+flow-low : (c : tie.In-loop Inv-loop μ-loop)
+    → at (c .before .before .before .before .before .before .before .before .args .network .now) (tunnelAt (c .before .before .before .before .before .before .before .before .args .network .now) (c .before .loop .t)) < at (c .before .before .before .before .before .before .before .before .args .network .now) 4
+flow-low c = c .before .before .before .before .before .before .before .before .pre .0 .flow (c .before .loop .t) (c .loop-test .taken)
+
 mul-if1 : tie.Need-mul-if1 Inv-loop μ-loop
-mul-if1 c =
-    let i = c .before .before .before .before .before in
-    omega (arith, i .before .before .before .before .before .before .before .pre .0 .flow (i .loop .t) (c .before .before .before .before .loop-test .taken))
+mul-if1 c = omega (arith, flow-low (c .before .before .before .before))
 
 add-if1 : tie.Need-add-if1 Inv-loop μ-loop
-add-if1 c =
-    let i = c .before .before .before .before .before in
-    omega (arith, i .before .before .before .before .before .before .before .pre .0 .flow (i .loop .t) (c .before .before .before .before .loop-test .taken))
+add-if1 c = omega (arith, flow-low (c .before .before .before .before))
 
 mul-if1-2 : tie.Need-mul-if1-2 Inv-loop μ-loop
-mul-if1-2 c =
-    let i = c .before .before .before .before .before in
-    omega (arith, i .before .before .before .before .before .before .before .pre .0 .flow (i .loop .t) (c .before .before .before .before .loop-test .taken))
+mul-if1-2 c = omega (arith, flow-low (c .before .before .before .before))
 
 shared-slice-read-if1 : tie.Need-shared-slice-read-if1 Inv-loop μ-loop
-shared-slice-read-if1 c =
-    let i = c .before .before .before .before .before .before in
-    omega (arith, i .before .before .before .before .before .before .before .pre .0 .flow (i .loop .t) (c .before .before .before .before .before .loop-test .taken))
+shared-slice-read-if1 c = omega (arith, flow-low (c .before .before .before .before .before))
 
 add-tunnel-requires : tie.Need-add-tunnel-requires Inv-loop μ-loop
 unfolding networkOf
