@@ -106,6 +106,7 @@ module _ (l : List ℕ) (g : GoodNetwork l) (q : ℕ) (one : 1 ≤ q) (most : q 
   even-same = record { parts = refl; steps = refl; at = λ a t ha hq ht. list-at (networkOf l) q a t ha hq ht }
 
 pub safe : (l p : List ℕ) → planned l ≡ good p → Safe l p
+unfolding networkOf
 safe l p e =
     let m = made l p e in
     let N = networkOf l in

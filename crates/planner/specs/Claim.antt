@@ -33,7 +33,7 @@ pub record FewestSteps (N : Net) (p : List ℕ) : Type 0 where
 pub record Safe (l p : List ℕ) : Type 0 where
   pub network : judgeNetwork l ≡ good l
   pub judged : judgePlan p ≡ good p
-  pub tunnels : at p 3 ≡ networkOf l .tunnels
+  pub tunnels : at p 3 ≡ at l 5
   -- "In every row a flow's amounts add up to parts × rate"
   pub rows : missedRow (networkOf l) (planOf p) ≡ none
   pub overload : firstOverload (networkOf l) (planOf p) ≡ none

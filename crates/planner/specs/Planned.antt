@@ -28,7 +28,7 @@ unfoldable pub stuck : Option Overload → Outcome (List ℕ)
 stuck none = refused noEvenPlan 0 0
 stuck (some o) = refused noEvenPlan (step o) (o .link)
 
--- the even plan of fewest steps, or refusal 9
+-- "The planner fills a plan list": the even plan of fewest steps, or refusal 9
 unfoldable pub byFewest : Net → Option ℕ → Outcome (List ℕ)
 byFewest N none = stuck (stuckAt N)
 byFewest N (some q) = good (evenList N q)
@@ -36,6 +36,6 @@ byFewest N (some q) = good (evenList N q)
 unfoldable pub evenPlan : Net → Outcome (List ℕ)
 evenPlan N = byFewest N (fewest N)
 
--- the planner's whole outcome: the network's list is judged first, and its refusal passed on
+-- the planner's whole outcome. "Writers, planner and checker take lists and judge them by the same rules": the judge's refusal is passed on
 unfoldable pub planned : List ℕ → Outcome (List ℕ)
 planned l = andThen (judgeNetwork l) (λ g. evenPlan (networkOf g))

@@ -1,4 +1,6 @@
-// The fewest even steps, and where the plan of 50 steps overloads first, by the three sums.
+// The fewest even steps, and where the plan of 50 steps overloads first, by the three sums. No plan is built for it: with O, N and M the sums of the old
+// amounts, the new ones and the larger of the two, the worst load of a link in step a of q is (q - a) * O + (a - 1) * N + M. It goes up or down with a, so
+// its largest stands in the first step or in the last.
 ghost use mathlib.Core.Path.{_≡_};
 ghost use Prim.Native.Nat.{_≤_, _<_};
 ghost use Rattle.model.specs.Limits.{mostLinks, mostTunnels, mostSteps};
