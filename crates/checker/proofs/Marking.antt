@@ -18,7 +18,7 @@ pub marks-none : (m : ℕ → Bool) (xs : List ℕ) → xs ≡ marksOf m 0 ++ dr
 unfolding marksOf
 marks-none m xs = refl
 
-marks-length : (m : ℕ → Bool) (n : ℕ) → length (marksOf m n) ≡ n
+pub marks-length : (m : ℕ → Bool) (n : ℕ) → length (marksOf m n) ≡ n
 unfolding marksOf
 marks-length m zero = refl
 marks-length m (suc n) = length-append (marksOf m n) (cond (m n) 1 0 ∷ []) ∙ omega (arith, marks-length m n)

@@ -1,0 +1,89 @@
+-- The judges and the tests before the steps refuse by no overload: 7 and 8 come from the steps alone.
+use Prim.Native.Nat.{ℕ, _+_, _<_}
+use mathlib.Core.Path.{_≡_, refl}
+use mathlib.Core.Logic.{_⊎_, inl, inr, ⊎-elim}
+use mathlib.Core.Bool.{Bool, true, false, cond}
+use mathlib.Core.List.{List, [], _∷_, _++_}
+use mathlib.Core.Option.{Option, none, some}
+use native.Mathlib.Omega.{arith}
+use lib.Dec.{eqb, leb}
+use Rattle.model.specs.Outcome.{Outcome, good, refused, andThen, Cause, number}
+use Rattle.model.specs.Scan.{Bound, Overload, cause}
+use Rattle.model.specs.Rule as rule
+use Rattle.lists.specs.Lists.{at, networkOf, planOf}
+use Rattle.forms.specs.Form.{fieldOf, admitsOf, secondOf}
+use Rattle.forms.specs.Read.{walk, onField, onValue, itself, judgeNumbers, addUp, unlessMissed, judgeNetwork, judgePlan}
+use Rattle.forms.specs.declared.form.Form.{Form}
+use Rattle.forms.specs.declared.form.Form.the-variants.{Network, Plan}
+use Rattle.forms.specs.declared.form.Range.{Range}
+use Rattle.forms.specs.declared.form.Field.{Field}
+use Rattle.forms.specs.declared.form.Field.the-variants.{Line, End}
+use Rattle.checker.specs.Check as check
+
+-- an outcome that is no refusal by 7 or 8
+abbrev pub NotOver : {A : Type 0} → Outcome A → Type 0
+NotOver (good a) = Unit {0}
+NotOver (refused c place second) = (number c < 7) ⊎ (8 < number c)
+
+-- what holds in each case holds of the whole
+field-all : {A : Type 0} (f : Field) (o : Outcome A) (g : ℕ → Range → Outcome A) → NotOver o → ((k : ℕ) (r : Range) → NotOver (g k r)) → NotOver (onField f o g)
+field-all End o g h k = h
+field-all (Line key r) o g h k = k key r
+
+value-all : {A : Type 0} (v : Option ℕ) (o : Outcome A) (g : ℕ → Outcome A) → NotOver o → ((k : ℕ) → NotOver (g k)) → NotOver (onValue v o g)
+value-all none o g h k = h
+value-all (some v) o g h k = k v
+
+cond-all : {A : Type 0} (b : Bool) (o w : Outcome A) → NotOver o → NotOver w → NotOver (cond b o w)
+cond-all true o w h k = h
+cond-all false o w h k = k
+
+then-all : {A B : Type 0} (o : Outcome A) (next : A → Outcome B) → NotOver o → ((a : A) → NotOver (next a)) → NotOver (andThen o next)
+then-all (good a) next h k = k a
+then-all (refused c place second) next h k = h
+
+walk-all : (form : Form) (n : ℕ) (done xs : List ℕ) → NotOver (walk itself form n done xs)
+unfolding walk
+walk-all form n done [] = field-all (fieldOf form done) (good done) (λ k r. refused Cause.missing n (secondOf form)) tt (λ k r. inl (omega arith))
+walk-all form n done (x ∷ xs) =
+    field-all (fieldOf form done) (refused Cause.missing n (secondOf form))
+    (λ k r. cond (admitsOf r x) (walk itself form (n + 1) (done ++ (x ∷ [])) xs) (refused Cause.outOfRange n (secondOf form)))
+    (inl (omega arith))
+    (λ k r. cond-all (admitsOf r x) (walk itself form (n + 1) (done ++ (x ∷ [])) xs) (refused Cause.outOfRange n (secondOf form)) (walk-all form (n + 1) (done ++ (x ∷ [])) xs) (inl (omega arith)))
+
+missed-all : (l : List ℕ) (q : Option rule.Place) → NotOver (unlessMissed l q)
+missed-all l none = tt
+missed-all l (some q) = inl (omega arith)
+
+judged-network : (l : List ℕ) → NotOver (judgeNetwork l)
+unfolding judgeNumbers addUp
+judged-network l = then-all (judgeNumbers Network l) (addUp Network) (walk-all Network 1 [] l) (λ g. missed-all g (rule.missedRate (networkOf g)))
+
+judged-plan : (l : List ℕ) → NotOver (judgePlan l)
+unfolding judgeNumbers addUp
+judged-plan l = then-all (judgeNumbers Plan l) (addUp Plan) (walk-all Plan 1 [] l) (λ g. tt)
+
+rows-all : (q : Option rule.Place) (o : Outcome (Option Overload)) → NotOver o → NotOver (check.unlessMissed q o)
+rows-all none o h = h
+rows-all (some q) o h = inl (omega arith)
+
+weighed : (n p : List ℕ) (room : ℕ) → NotOver (check.weigh n p room)
+weighed n p room =
+    cond-all (eqb (at p 3) (at n 5)) (check.unlessMissed (rule.missedRow (networkOf n) (planOf p)) (check.weighSteps n p room)) (refused Cause.otherTunnels 4 1)
+    (rows-all (rule.missedRow (networkOf n) (planOf p)) (check.weighSteps n p room) (cond-all (leb (at n 5) room) (good (rule.firstOverload (networkOf n) (planOf p))) (refused Cause.noRoom (at n 5) 0) tt (inr (omega arith))))
+    (inl (omega arith))
+
+pub verdict-all : (n p : List ℕ) (room : ℕ) → NotOver (check.verdict n p room)
+verdict-all n p room =
+    then-all (judgeNetwork n) (λ m. check.weighPlan m p room) (judged-network n) (λ m. then-all (judgePlan p) (λ q. check.weigh m q room) (judged-plan p) (λ q. weighed m q room))
+
+-- so a refusal by 7 or 8 is an overload
+pub over-number : (b : Bound) (k : ℕ) → k ≡ number (cause b) → (k < 7) ⊎ (8 < k) → ⊥
+over-number Bound.protected k e h = ⊎-elim (λ w. omega arith) (λ w. omega arith) h
+over-number Bound.total k e h = ⊎-elim (λ w. omega arith) (λ w. omega arith) h
+
+pub same-bound : (b w : Bound) → number (cause b) ≡ number (cause w) → b ≡ w
+same-bound Bound.protected Bound.protected e = refl
+same-bound Bound.protected Bound.total e = absurd (omega arith)
+same-bound Bound.total Bound.protected e = absurd (omega arith)
+same-bound Bound.total Bound.total e = refl

@@ -1,0 +1,3 @@
+pub mod Causes
+pub mod Main
+pub mod Edges

@@ -1,0 +1,157 @@
+-- Demand 3 holds.
+use Prim.Native.Nat.{ℕ, zero, suc, _+_, _-_, _≤_, _<_}
+use mathlib.Core.Path.{_≡_, refl, sym, ap, ap₂, _∙_, subst}
+use mathlib.Core.Bool.{Bool, true, false, cond}
+use mathlib.Core.Logic.{⊎-elim}
+use mathlib.Core.List.{List, [], _∷_, _++_, append-assoc}
+use mathlib.Core.Option.{Option, none, some}
+use native.Mathlib.Omega.{arith}
+use native.Mathlib.Nat.{eq-or-lt-of-le}
+use lib.Dec.{eqb, leb}
+use lib.ListN.{length, getD, take, drop}
+use lib.Seq.{take-append-seam, getD-at}
+use borrow.Author.Tests.{le-leb}
+use Rattle.model.specs.Outcome.{Outcome, good, refused, Cause, number}
+use Rattle.model.specs.Net.{Net, Plan, row}
+use Rattle.model.specs.Scan.{Bound, Overload, cause, step}
+use Rattle.model.specs.Rule.{Choice, Shows, earlier, later, onLink, load, counts, shown, rowShown, overloads, exceeds, mark, marked, stepCount, missedRow}
+use Rattle.model.specs.Even.{keepsScratch, ceilDiv, stepBound}
+use Rattle.model.proofs.Sums.{sum-cong}
+use Rattle.lists.specs.Lists.{at, networkOf, planOf}
+use Rattle.lists.specs.Answers.{withRoom, plan, lent}
+use Rattle.lists.specs.declared.Answer.{Answer}
+use Rattle.lists.specs.declared.Answer.the-variants.{Done, Plan as Planned, Refused}
+use Rattle.forms.specs.Read.{readText, judgeList, judgeNetwork, judgePlan}
+use Rattle.forms.specs.declared.form.Form.{Form}
+use Rattle.forms.proofs.Round.{file-form}
+use Rattle.model.proofs.Outcomes.{good-same}
+use Rattle.checker.proofs.Marking.{marks-length}
+use Rattle.planner.specs.Planned.{planned}
+use Rattle.planner.proofs.Main as planner
+use Rattle.checker.specs.Check.{verdict, checked, marksOf, marksAfter}
+use Rattle.checker.proofs.Main.{checker}
+use Rattle.product.proofs.Causes.{NotOver, verdict-all, over-number, same-bound}
+use Rattle.product.specs.Demand3.{Network, PlanOf, as-list, as-text, NoOverload, byMarks, Demand3}
+
+-- ---- what an answer tells of an outcome
+
+room-planned : (o : Outcome (List ℕ)) (room k : ℕ) → plan (withRoom room o) ≡ Planned k → (q : List ℕ) × (o ≡ good q) × (withRoom room o ≡ good q) × (length q ≡ k)
+room-planned (good q) room k e = go (leb (length q) room) refl e
+  where
+    go : (b : Bool) → leb (length q) room ≡ b → plan (cond b (good q) (refused Cause.noRoom (length q) 0)) ≡ Planned k
+        → (p : List ℕ) × (good q ≡ good p) × (cond (leb (length q) room) (good q) (refused Cause.noRoom (length q) 0) ≡ good p) × (length p ≡ k)
+    go true t e = (q, refl, simp t, cc)
+    go false t e = let z : _≡_ {A = ℕ} 0 1 = cc in absurd (omega arith)
+room-planned (refused c place second) room k e = let z : _≡_ {A = ℕ} 0 1 = cc in absurd (omega arith)
+
+same-front : (p q : List ℕ) (out : List ℕ) → length q ≡ length p → q ++ drop (length q) out ≡ p ++ drop (length p) out → q ≡ p
+same-front p q out e h = sym (take-append-seam q (drop (length q) out)) ∙ ap₂ (λ (n : ℕ) (l : List ℕ). take n l) e h ∙ take-append-seam p (drop (length p) out)
+
+done-none : (n : List ℕ) (o : Outcome (Option Overload)) (k : ℕ) → checked n o ≡ Done k → o ≡ good none
+done-none n (good none) k e = refl
+done-none n (good (some w)) k e = let z : _≡_ {A = ℕ} 0 1 = cc in absurd (omega arith)
+done-none n (refused c place second) k e = let z : _≡_ {A = ℕ} 0 1 = cc in absurd (omega arith)
+
+-- only an overload is a refusal by 7 or 8
+record Over (o : Outcome (Option Overload)) (b : Bound) (a l : ℕ) : Type 0 where
+  overload : Overload
+  found : o ≡ good (some overload)
+  bound : overload .bound ≡ b
+  from : suc (overload .from) ≡ a
+  link : overload .link ≡ l
+
+over : (n : List ℕ) (o : Outcome (Option Overload)) (b : Bound) (a l : ℕ) → NotOver o → checked n o ≡ Refused (number (cause b)) a l → Over o b a l
+over n (good none) b a l h e = let z : _≡_ {A = ℕ} 0 1 = cc in absurd (omega arith)
+over n (good (some w)) b a l h e =
+    let k : number (cause (w .bound)) ≡ number (cause b) = cc in
+    record { overload = w; found = refl; bound = same-bound (w .bound) b k; from = cc; link = cc }
+over n (refused c place second) b a l h e = let k : number c ≡ number (cause b) = cc in absurd (over-number b (number c) k h)
+
+-- ---- the choice by the bytes of the marks is the marked choice, at the tunnels that there are
+
+bit : (b : Bool) → eqb (cond b 1 0) 1 ≡ b
+bit true = refl
+bit false = refl
+
+mark-at : (m : ℕ → Bool) (n t : ℕ) (rest : List ℕ) → t < n → eqb (getD (marksOf m n ++ rest) t 0) 1 ≡ m t
+unfolding marksOf
+mark-at m zero t rest h = absurd (omega arith)
+mark-at m (suc n) t rest h =
+    rw (append-assoc (marksOf m n) (cond (m n) 1 0 ∷ []) rest)
+    (⊎-elim
+    (λ (e : t ≡ n). rw e (ap (λ (k : ℕ). eqb k 1) (getD-at (marksOf m n) (cond (m n) 1 0) rest 0 n (marks-length m n)) ∙ bit (m n)))
+    (λ (k : t < n). mark-at m n t (cond (m n) 1 0 ∷ rest) k)
+    (eq-or-lt-of-le {n = t} {m = n} (omega arith)))
+
+shows-same : (N : Net) (P : Plan) (o : Overload) (marks : List ℕ) → ((t : ℕ) → t < N .tunnels → eqb (getD marks t 0) 1 ≡ mark N P o t)
+    → overloads N P (o .from) (o .link) (λ t. cond (eqb (getD marks t 0) 1) later earlier) (o .bound) ≡ overloads N P (o .from) (o .link) (marked N P o) (o .bound)
+unfolding overloads load shown marked
+shows-same N P o marks h =
+    ap (exceeds N (o .bound) (P .parts) (o .link))
+    (sum-cong (N .tunnels) (counts N (o .bound)) (λ t k _. ap (λ (b : Bool). onLink N (o .link) (row N P (rowShown (o .from) (cond b later earlier))) t) (h t k)))
+
+-- what is shown of an overload, in the terms of its answer
+shown-at : (n p marks : List ℕ) (b : Bound) (a l : ℕ) (o : Over (verdict n p (length marks)) b a l)
+    → (o .overload .from < stepCount (networkOf n) (planOf p)) × (o .overload .link < networkOf n .links)
+    × (overloads (networkOf n) (planOf p) (o .overload .from) (o .overload .link) (marked (networkOf n) (planOf p) (o .overload)) (o .overload .bound) ≡ true)
+    → (1 ≤ a) × (a - 1 < stepCount (networkOf n) (planOf p)) × (l < networkOf n .links)
+    × (overloads (networkOf n) (planOf p) (a - 1) l (byMarks n p (a - 1) (marksAfter n p (verdict n p (length marks)) marks)) b ≡ true)
+unfolding networkOf
+shown-at n p marks b a l o s =
+    let w = o .overload in
+    let row : a - 1 ≡ w .from = omega (arith, o .from) in
+    let ms : List ℕ = marksAfter n p (verdict n p (length marks)) marks in
+    let em : ms ≡ marksOf (mark (networkOf n) (planOf p) w) (at n 5) ++ drop (at n 5) marks = ap (λ (v : Outcome (Option Overload)). marksAfter n p v marks) (o .found) in
+    let same = shows-same (networkOf n) (planOf p) w ms (λ t h. ap (λ (xs : List ℕ). eqb (getD xs t 0) 1) em ∙ mark-at (mark (networkOf n) (planOf p) w) (at n 5) t _ h) in (
+      omega (arith, o .from),
+      omega (arith, s .0, row),
+      omega (arith, s .1, o .link),
+      rw (row, ← o .link, ← o .bound) (same ∙ s .2),
+    )
+
+-- ---- lists and texts
+
+-- what a reader takes is judged good
+taken : (form : Form) (text l : List ℕ) → readText form text ≡ good l → judgeList form l ≡ good l
+taken form text l e =
+    let f = file-form form .follows text l e in
+    let same : f .list ≡ l = good-same _ _ (sym (file-form form .read text f) ∙ e) in
+    subst (λ (m : List ℕ). judgeList form m ≡ good m) same (f .judged)
+
+valid-network : (n : List ℕ) → Network n → judgeNetwork n ≡ good n
+valid-network n (as-list e) = e
+valid-network n (as-text text e) = taken Form.Network text n e
+
+valid-plan : (p : List ℕ) → PlanOf p → judgePlan p ≡ good p
+valid-plan p (as-list e) = e
+valid-plan p (as-text text e) = taken Form.Plan text p e
+
+-- a plan that the planner comes to is answered and written, given the room
+returned : (n p out : List ℕ) → planned n ≡ good p → length p ≤ length out
+    → (plan (withRoom (length out) (planned n)) ≡ Planned (length p)) × (lent (withRoom (length out) (planned n)) out ≡ p ++ drop (length p) out)
+returned n p out e h = (simp (e, le-leb (length p) (length out) h), simp (e, le-leb (length p) (length out) h))
+
+bounded : (n : List ℕ) → Network n → keepsScratch (networkOf n) ≡ true
+    → (p : List ℕ) × (at p 2 ≤ stepBound (networkOf n .scratch) (networkOf n .overrun))
+    × ((out : List ℕ) → length p ≤ length out
+    → (plan (withRoom (length out) (planned n)) ≡ Planned (length p)) × (lent (withRoom (length out) (planned n)) out ≡ p ++ drop (length p) out))
+bounded n v k = let b = planner.claim .bounded n (valid-network n v) k in (b .0, b .3, λ out h. returned n (b .0) out (b .1) h)
+
+pub demand3 : Demand3
+unfolding stepBound
+demand3 = record {
+  planner = λ n out p e h.
+      let r = room-planned (planned n) (length out) (length p) e in
+      let q : r .0 ≡ p = same-front p (r .0) out (r .3) (sym (ap (λ (o : Outcome (List ℕ)). lent o out) (r .2)) ∙ h) in
+      planner.claim .safe n p (r .1 ∙ ap good q) .choices;
+  checker = λ n p marks k e. checker .safe n p (length marks) (done-none n (verdict n p (length marks)) k e);
+  marked = λ n p marks b a l e.
+      let o = over n (verdict n p (length marks)) b a l (verdict-all n p (length marks)) e in
+      let s = checker .shown n p (length marks) (o .overload) (o .found) in
+      shown-at n p marks b a l o s;
+  found = λ n p marks vn vp et er hr i l hi hl c b w.
+      let f = checker .found n p (length marks) (record { network = valid-network n vn; plan = valid-plan p vp; tunnels = et; rows = er; room = hr }) i l hi hl c b w in
+      (f .0 .bound, step (f .0), f .0 .link, ap (checked n) (f .1));
+  bounded = λ n v k z. let r = bounded n v k in (r .0, subst (λ (m : ℕ). at (r .0) 2 ≤ stepBound (networkOf n .scratch) m) z (r .1), r .2);
+  bounded-overrun = bounded;
+}
