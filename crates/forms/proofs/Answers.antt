@@ -14,7 +14,7 @@ use Rattle.lists.specs.declared.Answer.the-variants.{Done, Refused}
 use Rattle.lists.proofs.Answer.{the-type}
 use denote.Enum.Declared.{tagOf}
 use mathlib.Core.Logic.{_⊎_, ⊎-elim}
-use Rattle.forms.specs.Read.{andThen}
+use Rattle.model.specs.Outcome.{andThen}
 
 -- ---- what an answer tells of an outcome
 

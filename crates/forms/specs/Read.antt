@@ -3,7 +3,7 @@ use Prim.Native.Nat.{ℕ, _+_}
 use mathlib.Core.Bool.{cond}
 use mathlib.Core.List.{List, [], _∷_, _++_}
 use mathlib.Core.Option.{Option, none, some}
-use Rattle.model.specs.Outcome.{Outcome, good, refused, malformed, outOfRange, missing, missedRate}
+use Rattle.model.specs.Outcome.{Outcome, good, refused, andThen, malformed, outOfRange, missing, missedRate}
 use Rattle.model.specs.Rule as rule
 use Rattle.lists.specs.Lists.{networkOf}
 use Rattle.forms.specs.Line.{lines, lineValue}
@@ -53,11 +53,6 @@ unlessMissed l (some p) = refused missedRate (p .place) (p .second)
 unfoldable pub addUp : Form → List ℕ → Outcome (List ℕ)
 addUp Network l = unlessMissed l (rule.missedRate (networkOf l))
 addUp Plan l = good l
-
--- what comes after, where nothing is refused
-abbrev pub andThen : Outcome (List ℕ) → (List ℕ → Outcome (List ℕ)) → Outcome (List ℕ)
-andThen (good l) next = next l
-andThen (refused c place second) next = refused c place second
 
 -- ---- what a text is read as, and what a list is judged to be
 

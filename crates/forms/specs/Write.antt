@@ -6,7 +6,8 @@ use lib.Dec.{ltb}
 use Rattle.model.specs.Outcome.{Outcome, good}
 use Rattle.forms.specs.Keys.{prefixOf}
 use Rattle.forms.specs.Form.{fieldOf, isHex}
-use Rattle.forms.specs.Read.{judgeList, andThen}
+use Rattle.model.specs.Outcome.{andThen}
+use Rattle.forms.specs.Read.{judgeList}
 use Rattle.forms.specs.declared.form.Form.{Form}
 use Rattle.forms.specs.declared.form.Form.the-variants.{Network, Plan}
 use Rattle.forms.specs.declared.form.Range.{Range}

@@ -1,4 +1,9 @@
-// The types that all operations share: the network type, whose constants are the limits, and the answers.
+// The types that all operations share: the network type, whose constants are the limits and whose value says where a
+// network's numbers stand in its list, and the answers.
+ghost use mathlib.Core.Path.{_≡_};
+ghost use Prim.Native.Nat.{_+_, _*_, _≤_};
+ghost use lib.ListN.{length};
+ghost use Rattle.lists.specs.Lists.{at};
 
 // How many links, flows and tunnels a network has.
 pub struct Network {
@@ -23,6 +28,34 @@ impl Network {
     pub const SHARE_LOW: u64 = 20;
 
     pub const SHARE_HIGH: u64 = 500;
+
+    // The sizes of the network that a list holds.
+    pub fn of(list: &[u64]) -> Network
+        requires { ⌜ 6 ≤ length (now list) ⌝ }
+        ensures { λ r. ⌜ (r .links ≡ at (now (list .entry)) 3) × (r .flows ≡ at (now (list .entry)) 4) × (r .tunnels ≡ at (now (list .entry)) 5) ⌝ }
+    {
+        Network {
+            links: list[3] as usize,
+            flows: list[4] as usize,
+            tunnels: list[5] as usize,
+        }
+    }
+
+    // Where the lines of flow 0 begin; each flow has 2.
+    pub fn flows_at(self) -> usize
+        requires { ⌜ self .links ≤ 64 ⌝ }
+        ensures { λ r. ⌜ r ≡ 6 + self .links ⌝ }
+    {
+        6 + self.links
+    }
+
+    // Where the lines of tunnel 0 begin; each tunnel has 4.
+    pub fn tunnels_at(self) -> usize
+        requires { ⌜ (self .links ≤ 64) × (self .flows ≤ 32) ⌝ }
+        ensures { λ r. ⌜ r ≡ 6 + self .links + 2 * self .flows ⌝ }
+    {
+        6 + self.links + 2 * self.flows
+    }
 }
 
 // Done and a plan carry the length written.

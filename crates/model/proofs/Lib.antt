@@ -1,5 +1,6 @@
 pub mod Sums
 pub mod Searches
+pub mod Outcomes
 pub mod Scans
 pub mod Choices
 pub mod Rows

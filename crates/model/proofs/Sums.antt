@@ -66,3 +66,10 @@ pub sum-bound : (n : ℕ) (p : ℕ → Bool) (x : ℕ → ℕ) (B : ℕ) → ((t
 unfolding sumOver
 sum-bound zero p x B h = omega arith
 sum-bound (suc n) p x B h = omega (arith, sum-bound n p x B (λ t k. h t (omega arith)), cond-bound (p n) (h n (omega arith)))
+
+-- the summands that two tests pick, where a third picks those of both
+pub sum-both : (n : ℕ) (p q r : ℕ → Bool) (x : ℕ → ℕ) → ((t u : ℕ) → cond (p t) u 0 + cond (q t) u 0 ≡ cond (r t) u 0)
+    → sumOver n p x + sumOver n q x ≡ sumOver n r x
+unfolding sumOver
+sum-both zero p q r x h = refl
+sum-both (suc n) p q r x h = omega (arith, sum-both n p q r x h, h n (x n))

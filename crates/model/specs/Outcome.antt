@@ -21,3 +21,8 @@ number noRoom = 10
 pub data Outcome (A : Type 0) : Type 0 where
   good : A → Outcome A
   refused : Cause → ℕ → ℕ → Outcome A
+
+-- what comes after, where nothing is refused
+abbrev pub andThen : {A B : Type 0} → Outcome A → (A → Outcome B) → Outcome B
+andThen (good a) next = next a
+andThen (refused c place second) next = refused c place second

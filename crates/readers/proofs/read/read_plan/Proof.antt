@@ -5,7 +5,8 @@ use mathlib.Core.List.{List}
 use lib.ListN.{length, take}
 use lib.Seq.{length-take-le}
 use Rattle.model.specs.Outcome.{good}
-use Rattle.forms.specs.Read.{addUp, readLines, andThen}
+use Rattle.model.specs.Outcome.{andThen}
+use Rattle.forms.specs.Read.{addUp, readLines}
 use Rattle.forms.specs.declared.form.Form.the-variants.{Plan}
 use Rattle.forms.proofs.Answers.{refused-then, refused-room}
 use Rattle.readers.proofs.Reading.{lines-read}

@@ -1,0 +1,7 @@
+pub mod Laws
+pub mod Good
+pub mod Overloads
+pub mod Totals
+pub mod Marking
+pub mod Checking
+pub mod Main

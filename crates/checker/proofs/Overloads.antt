@@ -1,0 +1,99 @@
+-- What the loads of a step's columns say of the rule.
+use Prim.Native.Nat.{ℕ, zero, suc, _+_, _*_, _/_, _%_, _^_, _≤_, _<_, max}
+use mathlib.Core.Path.{_≡_, refl, sym, ap, ap₂, _∙_}
+use mathlib.Core.Logic.{_≢_, ⊎-elim}
+use mathlib.Core.Bool.{Bool, true, false, cond}
+use mathlib.Core.List.{List}
+use mathlib.Core.Option.{Option, none, some}
+use native.Mathlib.Omega.{arith}
+use native.Mathlib.Nat.{max-le, mul-le-mul}
+use lib.Dec.{eqb}
+use borrow.Author.Tests.{lt-ltb, le-ltb}
+use lib.ListN.{getD}
+use Rattle.model.specs.Sum.{sumOver}
+use Rattle.model.specs.Search.{onlyIf, orElse, first}
+use Rattle.model.specs.Net.{Net, Plan, row}
+use Rattle.model.specs.Scan.{Bound, Overload, test, testLink, testStep, scan}
+use Rattle.model.specs.Rule.{crosses, onLink, counts, load, exceeds, worst, worstOver}
+use Rattle.model.proofs.Rows.{row-cases}
+use Rattle.lists.specs.Lists.{at, networkOf, planOf}
+use Rattle.checker.specs.Columns.{Holds, Small, linkSum, counted}
+use Rattle.checker.specs.Check.{Checkable, overNumber, overBy, foundOf}
+use Rattle.checker.specs.declared.steps.Found.the-variants.{At}
+use Rattle.checker.proofs.Good.{row-small}
+
+-- sums are equal where their terms are
+sum-terms : (n : ℕ) (p q : ℕ → Bool) (x y : ℕ → ℕ) → ((t : ℕ) → t < n → cond (p t) (x t) 0 ≡ cond (q t) (y t) 0) → sumOver n p x ≡ sumOver n q y
+unfolding sumOver
+sum-terms zero p q x y h = refl
+sum-terms (suc n) p q x y h = ap₂ _+_ (sum-terms n p q x y (λ t k. h t (omega arith))) (h n (omega arith))
+
+counted-on : (c k : Bool) (u v : ℕ) → cond c (cond k (max u v) 0) 0 ≡ cond k (max (cond c u 0) (cond c v 0)) 0
+counted-on true true u v = refl
+counted-on true false u v = refl
+counted-on false true u v = refl
+counted-on false false u v = refl
+
+module _ (N : Net) (P : Plan) (i l : ℕ) where
+  -- the load of a step's column is the load of the worst amounts
+  pub load-sum : (b : Bound) (vias xs : List ℕ) (n : ℕ) → n ≡ N .tunnels → Holds vias n (N .via) → Holds xs n (counted N P i b)
+      → linkSum vias xs n l ≡ load N b (worst N P i l)
+  unfolding linkSum load worst onLink crosses counted
+  load-sum b vias xs n e hv hx =
+      sum-terms n _ (counts N b) _ _ (λ t h.
+      ap₂ (λ (v x : ℕ). cond (eqb (v / 2 ^ l % 2) 1) x 0) (hv .each t h) (hx .each t h)
+      ∙ counted-on (eqb (N .via t / 2 ^ l % 2) 1) (counts N b t) (row N P i t) (row N P (suc i) t))
+      ∙ ap (λ (m : ℕ). sumOver m (counts N b) (worst N P i l)) e
+
+  -- the refusal that a link meets in a step, or 0
+  abbrev pub overIn : ℕ
+  overIn = overBy N (P .parts) l (load N Bound.protected (worst N P i l)) (load N Bound.total (worst N P i l))
+
+  pub over-none : overIn ≡ 0 → testLink (worstOver N P) i l ≡ none
+  unfolding overBy testLink test worstOver onlyIf orElse
+  over-none e = none-of (exceeds N Bound.protected (P .parts) l (load N Bound.protected (worst N P i l))) (exceeds N Bound.total (P .parts) l (load N Bound.total (worst N P i l))) e
+    where
+      none-of : (p t : Bool) → overNumber p t ≡ 0
+          → orElse {A = Overload} (onlyIf p (record { bound = Bound.protected; from = i; link = l })) (onlyIf t (record { bound = Bound.total; from = i; link = l })) ≡ none
+      none-of true t e = absurd (omega arith)
+      none-of false true e = absurd (omega arith)
+      none-of false false e = refl
+
+  pub over-some : overIn ≢ 0 → (o : Overload) × (testLink (worstOver N P) i l ≡ some o) × (foundOf (some o) ≡ At overIn i l)
+  unfolding overBy testLink test worstOver onlyIf orElse
+  over-some e = some-of (exceeds N Bound.protected (P .parts) l (load N Bound.protected (worst N P i l))) (exceeds N Bound.total (P .parts) l (load N Bound.total (worst N P i l))) e
+    where
+      some-of : (p t : Bool) → overNumber p t ≢ 0
+          → (o : Overload)
+          × (orElse {A = Overload} (onlyIf p (record { bound = Bound.protected; from = i; link = l })) (onlyIf t (record { bound = Bound.total; from = i; link = l })) ≡ some o)
+          × (foundOf (some o) ≡ At (overNumber p t) i l)
+      some-of true t e = (record { bound = Bound.protected; from = i; link = l }, refl, refl)
+      some-of false true e = (record { bound = Bound.total; from = i; link = l }, refl, refl)
+      some-of false false e = absurd (e refl)
+
+-- ---- the tests of the two bounds
+
+module _ (N : Net) (parts l p a : ℕ) where
+  pub over-7 : (r : ℕ) → r ≡ p → parts * N .cap l < r → 7 ≡ overBy N parts l p a
+  unfolding overBy exceeds
+  over-7 r e h = simp (lt-ltb (parts * N .cap l) p (rw (← e) h))
+
+  pub over-8 : (r s : ℕ) → r ≡ p → s ≡ a → r ≤ parts * N .cap l → (1000 + N .overrun) * (parts * N .cap l) < 1000 * s → 8 ≡ overBy N parts l p a
+  unfolding overBy exceeds
+  over-8 r s e f h k = simp (le-ltb (parts * N .cap l) p (rw (← e) h), lt-ltb ((1000 + N .overrun) * (parts * N .cap l)) (1000 * a) (rw (← f) k))
+
+  pub over-0 : (r s : ℕ) → r ≡ p → s ≡ a → r ≤ parts * N .cap l → 1000 * s ≤ (1000 + N .overrun) * (parts * N .cap l) → 0 ≡ overBy N parts l p a
+  unfolding overBy exceeds
+  over-0 r s e f h k = simp (le-ltb (parts * N .cap l) p (rw (← e) h), le-ltb ((1000 + N .overrun) * (parts * N .cap l)) (1000 * a) (rw (← f) k))
+
+-- the amounts of a step are small
+pub counted-small : (l p : List ℕ) → Checkable l p → (i : ℕ) (b : Bound) (xs : List ℕ) → i < at p 2
+    → Holds xs (at l 5) (counted (networkOf l) (planOf p) i b) → Small xs (at l 5)
+unfolding counted
+counted-small l p k i b xs h hx = record {
+  each = λ t ht. rw (hx .each t ht) (small-if (counts (networkOf l) b t) _ (max-le (row-small l p k i t (omega arith) ht) (row-small l p k (suc i) t h ht)));
+}
+  where
+    small-if : (c : Bool) (m : ℕ) → m ≤ 500000000 → cond c m 0 ≤ 500000000
+    small-if true m h = h
+    small-if false m h = omega arith

@@ -1,0 +1,58 @@
+use Rattle.checker.proofs.Checking.{network-stops, network-refused}
+use Rattle.checker.proofs.Checking.{judged-network, network-then}
+use borrow.Author.Needs.{needs}
+use Rattle.checker.proofs.check.check_plan.Statement.{statement}
+use Rattle.checker.proofs.check.check_plan.Tie as tie
+use Rattle.checker.proofs.check.check_plan.Reads as reads
+use Rattle.checker.proofs.check.check_plan.Lts as lts
+use Rattle.checker.proofs.check.check_good.Reads as check-good-reads
+use Rattle.forms.proofs.judge.judge_network.Reads as judge-network-reads
+
+judge-network-requires : tie.Need-judge-network-requires
+judge-network-requires c κs = search needs
+
+enum-told : tie.Need-enum-told
+enum-told c = search needs
+
+check-good-requires : tie.Need-check-good-requires
+check-good-requires c κs = let j = c .before .before .before in judged-network _ _ _ (j .judge-network .ensures) (c .before .enum-told .given .1)
+
+enum-told-2 : tie.Need-enum-told-2
+enum-told-2 c = search needs
+
+enum-told-3 : tie.Need-enum-told-3
+enum-told-3 c = search needs
+
+same-length : tie.Need-same-length
+same-length c = search needs
+
+returns : tie.Need-returns
+returns c =
+    let t = c .before .before .before .before in
+    let j = t .before .before in
+    let d = j .before .before .before .before in
+    network-then (d .args .network .now) (d .args .plan .now) (d .args .marks .now) _ _ _ _ (j .judge-network .ensures) (t .enum-told .given .1) (c .before .before .check-good .ensures)
+
+returns-2 : tie.Need-returns-2
+returns-2 c =
+    let d = c .before .before .before .before .before .before in
+    network-stops (d .args .network .now) (d .args .plan .now) (d .args .marks .now) _ _ (c .before .before .judge-network .ensures) (c .enum-told2 .given .1)
+
+returns-3 : tie.Need-returns-3
+returns-3 c =
+    let d = c .before .before .before .before .before .before in
+    network-refused (d .args .network .now) (d .args .plan .now) (d .args .marks .now) _ _ _ _ (c .before .before .judge-network .ensures) (c .enum-told3 .given .1)
+
+pub check-plan-spec : {M : Type 1} → statement M
+check-plan-spec =
+    tie.close
+    (tie.spec
+    judge-network-requires
+    enum-told
+    check-good-requires
+    enum-told-2
+    enum-told-3
+    same-length
+    returns
+    returns-2
+    returns-3)

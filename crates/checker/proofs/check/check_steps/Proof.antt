@@ -1,0 +1,79 @@
+use Rattle.checker.proofs.Checking.{none-gives}
+use mathlib.Core.Path.{refl, sym, ap, _∙_}
+use native.Mathlib.Omega.{arith}
+use Rattle.model.specs.Outcome.{good}
+use Rattle.lists.specs.Lists.{networkOf, planOf}
+use Rattle.checker.proofs.Checking.{gives-eq, found-none, found-some, found-in, found-gives}
+use borrow.Author.Needs.{needs}
+use Rattle.checker.proofs.check.check_steps.Statement.{statement}
+use Rattle.checker.proofs.check.check_steps.Tie as tie
+use Rattle.checker.proofs.check.check_steps.Reads as reads
+use Rattle.checker.proofs.check.check_steps.Lts as lts
+use Rattle.checker.proofs.marks.clear.Reads as clear-reads
+use Rattle.checker.proofs.marks.mark.Reads as mark-reads
+use Rattle.checker.proofs.steps.first_overload.Reads as first-overload-reads
+
+first-overload-requires : tie.Need-first-overload-requires
+first-overload-requires c κs = search needs
+
+enum-told : tie.Need-enum-told
+enum-told c = search needs
+
+shared-slice-read-n : tie.Need-shared-slice-read-n
+shared-slice-read-n c = search needs
+
+clear-requires : tie.Need-clear-requires
+clear-requires c κs = search needs
+
+enum-known-found : tie.Need-enum-known-found
+enum-known-found c = search needs
+
+mark-requires : tie.Need-mark-requires
+unfolding networkOf planOf
+mark-requires c κs =
+    let f = c .before .before in
+    let o = f .before .before in
+    let d = o .before .before .before .before in
+    let s = found-in (networkOf (d .args .network .now)) (planOf (d .args .plan .now)) _ _ _ (found-some _ _ _ _ (sym (f .found .given .1) ∙ o .first-overload .ensures)) in
+    (d .pre .0, s .0, s .1, d .pre .1)
+
+add-t18 : tie.Need-add-t18
+unfolding networkOf planOf
+add-t18 c =
+    let f = c .before .before .before .before .before in
+    let o = f .before .before in
+    let d = o .before .before .before .before in
+    omega (arith, d .pre .0 .plan .steps, found-in (networkOf (d .args .network .now)) (planOf (d .args .plan .now)) _ _ _ (found-some _ _ _ _ (sym (f .found .given .1) ∙ o .first-overload .ensures)) .0)
+
+same-length : tie.Need-same-length
+same-length c = search needs
+
+returns : tie.Need-returns
+returns c =
+    let o = c .before .before .before .before .before .before .before in
+    none-gives _ _ _ _ (found-none _ (sym (c .before .before .before .before .before .enum-told .given .1) ∙ o .first-overload .ensures)) (c .before .before .clear .ensures)
+
+same-length-2 : tie.Need-same-length-2
+same-length-2 c = search needs
+
+returns-2 : tie.Need-returns-2
+returns-2 c =
+    let f = c .before .before .before .before .before in
+    let o = f .before .before in
+    found-gives _ _ _ _ _ _ _ (found-some _ _ _ _ (sym (f .found .given .1) ∙ o .first-overload .ensures)) (c .before .before .mark .ensures)
+
+pub check-steps-spec : {M : Type 1} → statement M
+check-steps-spec =
+    tie.close
+    (tie.spec
+    first-overload-requires
+    enum-told
+    shared-slice-read-n
+    clear-requires
+    enum-known-found
+    mark-requires
+    add-t18
+    same-length
+    returns
+    same-length-2
+    returns-2)

@@ -1,0 +1,15 @@
+use borrow.Author.Tests.{le-leb, lt-leb}
+use borrow.Author.Needs.{needs}
+use Rattle.checker.proofs.columns.protected.Statement.{statement}
+use Rattle.checker.proofs.columns.protected.Tie as tie
+use Rattle.checker.proofs.columns.protected.Reads as reads
+use Rattle.checker.proofs.columns.protected.Lts as lts
+
+returns : tie.Need-returns
+returns c = simp (le-leb _ _ (c .if1 .taken))
+
+returns-2 : tie.Need-returns-2
+returns-2 c = simp (lt-leb _ _ (c .if1 .left))
+
+pub protected-spec : {M : Type 1} → statement M
+protected-spec = tie.close (tie.spec returns returns-2)

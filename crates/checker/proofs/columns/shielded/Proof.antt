@@ -1,0 +1,82 @@
+use Prim.Native.Nat.{ℕ, _≤_, _<_, _-_, _+_, _*_, max}
+use mathlib.Core.Path.{_≡_, refl, sym, ap, _∙_}
+use mathlib.Core.Bool.{cond}
+use lib.Dec.{leb}
+use lib.ListN.{length, getD, length-set}
+use native.Mathlib.Omega.{arith}
+use Rattle.checker.specs.Columns.{Holds, Small, linkSum}
+use Rattle.checker.proofs.Laws.{holds-none, holds-more, holds-at, link-none, link-more, link-small}
+use borrow.Author.Needs.{needs}
+use Rattle.checker.proofs.columns.shielded.Statement.{statement}
+use Rattle.checker.proofs.columns.shielded.Tie as tie
+use Rattle.checker.proofs.columns.shielded.Reads as reads
+use Rattle.checker.proofs.columns.shielded.Lts as lts
+use Rattle.checker.proofs.columns.protected.Reads as protected-reads
+
+abbrev Inv-loop : tie.InvT-loop
+Inv-loop a classes n out₀ t₀ out t = (t ≤ n) × (length out ≡ length out₀) × Holds out t (λ k. cond (leb (getD classes k 0) 1) (getD a k 0) 0)
+
+abbrev μ-loop : tie.MeasureT-loop
+μ-loop a classes n out₀ t₀ out t = n - t
+
+loop-holds : tie.Need-loop-holds Inv-loop μ-loop
+loop-holds c = (omega arith, refl, holds-none _ _)
+
+mul-protected : tie.Need-mul-protected Inv-loop μ-loop
+mul-protected c = search needs
+
+shared-slice-read-protected : tie.Need-shared-slice-read-protected Inv-loop μ-loop
+shared-slice-read-protected c = search needs
+
+mul-protected-2 : tie.Need-mul-protected-2 Inv-loop μ-loop
+mul-protected-2 c = search needs
+
+shared-slice-read-protected-2 : tie.Need-shared-slice-read-protected-2 Inv-loop μ-loop
+shared-slice-read-protected-2 c = search needs
+
+protected-requires : tie.Need-protected-requires Inv-loop μ-loop
+protected-requires c κs = search needs
+
+mul-out : tie.Need-mul-out Inv-loop μ-loop
+mul-out c = search needs
+
+slice-write-out : tie.Need-slice-write-out Inv-loop μ-loop
+slice-write-out c = search needs
+
+add-t : tie.Need-add-t Inv-loop μ-loop
+add-t c = search needs
+
+loop-less : tie.Need-loop-less Inv-loop μ-loop
+loop-less c = search needs
+
+loop-again : tie.Need-loop-again Inv-loop μ-loop
+loop-again c =
+    let l = c .before .before .before .before in
+    let h : l .loop .t < length (l .loop .out) = omega arith in
+    (omega arith, simp length-set (l .loop .inv .1), holds-more _ _ _ _ h (c .protected .ensures) (l .loop .inv .2))
+
+same-length : tie.Need-same-length Inv-loop μ-loop
+same-length c = search needs
+
+returns : tie.Need-returns Inv-loop μ-loop
+returns c = holds-at _ _ _ _ (c .before .loop .inv .2) (omega arith)
+
+pub shielded-spec : {M : Type 1} → statement M
+shielded-spec =
+    tie.close
+    (tie.spec
+    Inv-loop
+    μ-loop
+    loop-holds
+    mul-protected
+    shared-slice-read-protected
+    mul-protected-2
+    shared-slice-read-protected-2
+    protected-requires
+    mul-out
+    slice-write-out
+    add-t
+    loop-less
+    loop-again
+    same-length
+    returns)

@@ -1,0 +1,87 @@
+use Prim.Native.Nat.{_≤_, _-_, _/_, _%_, _^_}
+use mathlib.Core.Path.{_≡_, refl}
+use mathlib.Core.Bool.{_&&_}
+use mathlib.Core.List.{_++_}
+use native.Mathlib.Omega.{arith}
+use lib.Dec.{eqb, ltb}
+use lib.ListN.{length, getD, drop, length-set}
+use Rattle.checker.specs.Check.{marksOf}
+use Rattle.checker.proofs.Marking.{marks-none, marks-more, marks-at}
+use borrow.Author.Needs.{needs}
+use Rattle.checker.proofs.marks.put.Statement.{statement}
+use Rattle.checker.proofs.marks.put.Tie as tie
+use Rattle.checker.proofs.marks.put.Reads as reads
+use Rattle.checker.proofs.marks.put.Lts as lts
+use Rattle.checker.proofs.marks.rises.Reads as rises-reads
+
+abbrev Inv-loop : tie.InvT-loop
+Inv-loop vias earlier later n l marks₀ t₀ marks t =
+    (t ≤ n) × (length marks ≡ length marks₀) × (marks ≡ marksOf (λ k. eqb (getD vias k 0 / 2 ^ l % 2) 1 && ltb (getD earlier k 0) (getD later k 0)) t ++ drop t marks₀)
+
+abbrev μ-loop : tie.MeasureT-loop
+μ-loop vias earlier later n l marks₀ t₀ marks t = n - t
+
+loop-holds : tie.Need-loop-holds Inv-loop μ-loop
+loop-holds c = (omega arith, refl, marks-none _ _)
+
+mul-rises : tie.Need-mul-rises Inv-loop μ-loop
+mul-rises c = search needs
+
+shared-slice-read-rises : tie.Need-shared-slice-read-rises Inv-loop μ-loop
+shared-slice-read-rises c = search needs
+
+mul-rises-2 : tie.Need-mul-rises-2 Inv-loop μ-loop
+mul-rises-2 c = search needs
+
+shared-slice-read-rises-2 : tie.Need-shared-slice-read-rises-2 Inv-loop μ-loop
+shared-slice-read-rises-2 c = search needs
+
+mul-rises-3 : tie.Need-mul-rises-3 Inv-loop μ-loop
+mul-rises-3 c = search needs
+
+shared-slice-read-rises-3 : tie.Need-shared-slice-read-rises-3 Inv-loop μ-loop
+shared-slice-read-rises-3 c = search needs
+
+rises-requires : tie.Need-rises-requires Inv-loop μ-loop
+rises-requires c κs = search needs
+
+slice-write-marks : tie.Need-slice-write-marks Inv-loop μ-loop
+slice-write-marks c = search needs
+
+add-t : tie.Need-add-t Inv-loop μ-loop
+add-t c = search needs
+
+loop-less : tie.Need-loop-less Inv-loop μ-loop
+loop-less c = search needs
+
+loop-again : tie.Need-loop-again Inv-loop μ-loop
+loop-again c =
+    let l = c .before .before .before .before .before in
+    (omega arith, simp length-set (l .loop .inv .1), marks-more _ _ _ _ _ (omega arith) (c .rises .ensures) (l .loop .inv .2))
+
+same-length : tie.Need-same-length Inv-loop μ-loop
+same-length c = search needs
+
+returns : tie.Need-returns Inv-loop μ-loop
+returns c = marks-at _ _ _ _ _ (omega arith) (c .before .loop .inv .2)
+
+pub put-spec : {M : Type 1} → statement M
+put-spec =
+    tie.close
+    (tie.spec
+    Inv-loop
+    μ-loop
+    loop-holds
+    mul-rises
+    shared-slice-read-rises
+    mul-rises-2
+    shared-slice-read-rises-2
+    mul-rises-3
+    shared-slice-read-rises-3
+    rises-requires
+    slice-write-marks
+    add-t
+    loop-less
+    loop-again
+    same-length
+    returns)

@@ -1,0 +1,43 @@
+-- What is claimed of the checker's outcome, for all lists and any room for the marks.
+use Prim.Native.Nat.{ℕ, _≤_, _<_}
+use mathlib.Core.Path.{_≡_}
+use mathlib.Core.Logic.{_↔_}
+use mathlib.Core.Bool.{true, false}
+use mathlib.Core.List.{List}
+use mathlib.Core.Option.{none, some}
+use Rattle.model.specs.Outcome.{good}
+use Rattle.model.specs.Scan.{Bound, Overload}
+use Rattle.model.specs.Rule.{Choice, overloads, worstOver, stepCount, missedRow, marked}
+use Rattle.lists.specs.Lists.{at, networkOf, planOf}
+use Rattle.forms.specs.Read.{judgeNetwork, judgePlan}
+use Rattle.checker.specs.Check.{verdict}
+
+-- "With valid texts or lists, equal `tunnels`, rows that add up and room for the marks"
+pub record Reaches (n p : List ℕ) (lent : ℕ) : Type 0 where
+  pub network : judgeNetwork n ≡ good n
+  pub plan : judgePlan p ≡ good p
+  pub tunnels : at p 3 ≡ at n 5
+  pub rows : missedRow (networkOf n) (planOf p) ≡ none
+  pub room : at n 5 ≤ lent
+
+-- "every step meets the worst-load rule on every link"
+abbrev pub MeetsRule : List ℕ → List ℕ → Type 0
+MeetsRule n p =
+    (i l : ℕ) → i < stepCount (networkOf n) (planOf p) → l < networkOf n .links → (b : Bound) → worstOver (networkOf n) (planOf p) i l b ≡ false
+
+pub record Checker : Type 0 where
+  -- done exactly when all of this holds
+  pub done : (n p : List ℕ) (room : ℕ) → (verdict n p room ≡ good none) ↔ (Reaches n p room × MeetsRule n p)
+  -- "the checker answers done": "no choice in any step overloads a link"
+  pub safe : (n p : List ℕ) (room : ℕ) → verdict n p room ≡ good none
+      → (i l : ℕ) → i < stepCount (networkOf n) (planOf p) → l < networkOf n .links
+      → (c : Choice (networkOf n) (planOf p) i) (b : Bound) → overloads (networkOf n) (planOf p) i l c b ≡ false
+  -- "After 7 or 8": the marked choice "breaks that number's bound on the named link"
+  pub shown : (n p : List ℕ) (room : ℕ) (o : Overload) → verdict n p room ≡ good (some o)
+      → (o .from < stepCount (networkOf n) (planOf p)) × (o .link < networkOf n .links)
+      × (overloads (networkOf n) (planOf p) (o .from) (o .link) (marked (networkOf n) (planOf p) o) (o .bound) ≡ true)
+  -- "a plan that some choice overloads always meets 7 or 8 from the checker"
+  pub found : (n p : List ℕ) (room : ℕ) → Reaches n p room
+      → (i l : ℕ) → i < stepCount (networkOf n) (planOf p) → l < networkOf n .links
+      → (c : Choice (networkOf n) (planOf p) i) (b : Bound) → overloads (networkOf n) (planOf p) i l c b ≡ true
+      → (o : Overload) × (verdict n p room ≡ good (some o))

@@ -1,0 +1,61 @@
+// The marks: one byte for each tunnel.
+ghost use mathlib.Core.Path.{_≡_};
+ghost use mathlib.Core.Bool.{_&&_, cond, false};
+ghost use mathlib.Core.List.{_++_};
+ghost use Prim.Native.Nat.{_/_, _%_, _^_, _≤_, _<_};
+ghost use lib.Dec.{eqb, ltb};
+ghost use lib.ListN.{length, getD, drop};
+ghost use Rattle.lists.specs.Lists.{at, networkOf, planOf};
+ghost use Rattle.checker.specs.Check.{Checkable, marksOf, marksAt};
+use crate::rows;
+
+// Whether a tunnel crosses link l and its amount rises.
+fn rises(via: u64, l: u64, earlier: u64, later: u64) -> u8
+    requires { ⌜ l < 64 ⌝ }
+    ensures { λ r. ⌜ r ≡ cond (eqb (via / 2 ^ l % 2) 1 && ltb earlier later) 1 0 ⌝ }
+{
+    if (via >> l) & 1 == 1 {
+        if earlier < later {
+            return 1;
+        }
+        return 0;
+    }
+    0
+}
+
+fn put(vias: &[u64], earlier: &[u64], later: &[u64], n: usize, l: u64, marks: &mut [u8])
+    requires { ⌜ (n ≤ length (now vias)) × (n ≤ length (now earlier)) × (n ≤ length (now later)) × (n ≤ length (now marks)) × (l < 64) ⌝ }
+    ensures { λ _. ⌜ now (marks .exit) ≡ marksOf (λ t. eqb (getD (now (vias .entry)) t 0 / 2 ^ l % 2) 1 && ltb (getD (now (earlier .entry)) t 0) (getD (now (later .entry)) t 0)) n ++ drop n (now (marks .entry)) ⌝ }
+{
+    let mut t = 0;
+    while t < n {
+        marks[t] = rises(vias[t], l, earlier[t], later[t]);
+        t += 1;
+    }
+}
+
+// Marks the tunnels that cross link l and rise in the step from row i.
+pub(crate) fn mark(network: &[u64], plan: &[u64], i: usize, l: usize, marks: &mut [u8])
+    requires { ⌜ Checkable (now network) (now plan) × (i < at (now plan) 2) × (l < at (now network) 3) × (at (now network) 5 ≤ length (now marks)) ⌝ }
+    ensures { λ _. ⌜ now (marks .exit) ≡ marksAt (networkOf (now (network .entry))) (planOf (now (plan .entry))) i l (at (now (network .entry)) 5) ++ drop (at (now (network .entry)) 5) (now (marks .entry)) ⌝ }
+{
+    let n = network[5] as usize;
+    let mut vias = [0u64; 96];
+    let mut earlier = [0u64; 96];
+    let mut later = [0u64; 96];
+    rows::line(network, 1, &mut vias);
+    rows::row(network, plan, i, &mut earlier);
+    rows::row(network, plan, i + 1, &mut later);
+    put(&vias, &earlier, &later, n, l as u64, marks);
+}
+
+pub(crate) fn clear(n: usize, marks: &mut [u8])
+    requires { ⌜ n ≤ length (now marks) ⌝ }
+    ensures { λ _. ⌜ now (marks .exit) ≡ marksOf (λ t. false) n ++ drop n (now (marks .entry)) ⌝ }
+{
+    let mut t = 0;
+    while t < n {
+        marks[t] = 0;
+        t += 1;
+    }
+}

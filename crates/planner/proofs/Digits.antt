@@ -1,0 +1,161 @@
+-- The digits of a number up to its lowest set digit: what `trailing_zeros` and `n & (n - 1)` tell.
+use Prim.Native.Nat.{ℕ, zero, suc, _+_, _-_, _*_, _/_, _%_, _^_, _≤_, _<_}
+use mathlib.Core.Path.{_≡_, refl, sym, ap, ap₂, _∙_}
+use mathlib.Core.Logic.{_≢_}
+use mathlib.Core.Bool.{true, false}
+use native.Mathlib.Omega.{arith}
+use native.Mathlib.Nat.{add-zero, mul-assoc, div-one, div-eq-of-lt, div-mul-le-self, div-add-mod', mod-lt, mod-self, zero-div, le-of-eq, lt-of-le-of-lt, lt-of-lt-of-le, lt-of-not-le}
+use native.Mathlib.Numerals.{add-one, one-add}
+use lib.Dec.{eqb}
+use lib.Pow.{pow-pos, pow-mono, pow-lt, pow-add, shl-shr, shr-shr, shr-lt, split, mod-pow-add}
+use lib.Bits.{bitAnd, and-block, and-self, and-mask, and-le-r, shifted-even}
+use lib.Count.{trailingZeros, under}
+use borrow.Author.Tests.{eq-eqb}
+use Rattle.planner.specs.Tables.{inSet}
+
+le-of-not-lt : {a b : ℕ} → ¬ (b < a) → a ≤ b
+le-of-not-lt h = omega arith
+
+-- digit i + 1 of a number is digit i of its half
+digit-suc : (n i : ℕ) → n / 2 / 2 ^ i ≡ n / 2 ^ suc i
+digit-suc n i = shr-shr n 1 i ∙ ap (λ (e : ℕ). n / 2 ^ e) (one-add i)
+
+-- the digits below the lowest set one are 0
+pub below-lowest : (k n j : ℕ) → j < trailingZeros k n → n / 2 ^ j % 2 ≡ 0
+unfolding trailingZeros
+below-lowest zero n j h = absurd (omega arith)
+below-lowest (suc k) n j h = go (n % 2) refl (below-lowest k (n / 2)) j h
+  where
+    go : (d : ℕ) → n % 2 ≡ d → ((i : ℕ) → i < trailingZeros k (n / 2) → n / 2 / 2 ^ i % 2 ≡ 0) → (j : ℕ) → j < under d (trailingZeros k (n / 2)) → n / 2 ^ j % 2 ≡ 0
+    go zero e rest zero h = ap (λ (m : ℕ). m % 2) (div-one n) ∙ e
+    go zero e rest (suc i) h = ap (λ (m : ℕ). m % 2) (sym (digit-suc n i)) ∙ rest i (omega arith)
+    go (suc d) e rest j h = absurd (omega arith)
+
+-- and it is set
+pub at-lowest : (k n : ℕ) → n ≢ 0 → n < 2 ^ k → n / 2 ^ trailingZeros k n % 2 ≡ 1
+unfolding trailingZeros
+at-lowest zero n z h = absurd (z (omega arith))
+at-lowest (suc k) n z h = go (n % 2) refl (at-lowest k (n / 2))
+  where
+    go : (d : ℕ) → n % 2 ≡ d → (n / 2 ≢ 0 → n / 2 < 2 ^ k → n / 2 / 2 ^ trailingZeros k (n / 2) % 2 ≡ 1) → n / 2 ^ under d (trailingZeros k (n / 2)) % 2 ≡ 1
+    go zero e rest =
+        let low : n < 2 ^ (k + 1) = rw add-one h in
+        ap (λ (m : ℕ). m % 2) (sym (digit-suc n (trailingZeros k (n / 2)))) ∙ rest (λ y. z (omega (arith, div-add-mod' n 2))) (shr-lt k 1 low)
+    go (suc d) e rest = ap (λ (m : ℕ). m % 2) (div-one n) ∙ omega (arith, mod-lt n {m = 2} (omega arith))
+
+-- a number whose lowest z digits are 0
+low-zero : (n z : ℕ) → ((j : ℕ) → j < z → n / 2 ^ j % 2 ≡ 0) → n % 2 ^ z ≡ 0
+low-zero n zero h = omega arith
+low-zero n (suc z) h =
+    ap (λ (e : ℕ). n % 2 ^ e) (sym (one-add z))
+    ∙ mod-pow-add n 1 z
+    ∙ ap₂ (λ (d r : ℕ). d * 2 ^ z + r) (h z (omega arith)) (low-zero n z (λ j k. h j (omega arith)))
+    ∙ omega arith
+
+-- its lowest set digit, at z, is cleared by `n & (n - 1)`
+cleared : (n z : ℕ) → n / 2 ^ z % 2 ≡ 1 → n % 2 ^ z ≡ 0 → bitAnd n (n - 1) ≡ n / 2 ^ suc z * 2 ^ suc z
+cleared n z one low =
+    let a : ℕ = n / 2 ^ suc z in
+    let p : ℕ = 2 ^ z in
+    let pos : 0 < p = pow-pos z in
+    let lt : p < 2 ^ suc z = pow-lt (omega arith) in
+    let lt′ : p - 1 < 2 ^ suc z = omega arith in
+    let tail : n % 2 ^ suc z ≡ p =
+    ap (λ (e : ℕ). n % 2 ^ e) (sym (one-add z)) ∙ mod-pow-add n 1 z ∙ ap₂ (λ (d r : ℕ). d * p + r) one low ∙ omega arith in
+    let whole : n ≡ a * 2 ^ suc z + p = omega (arith, split n (suc z)) in
+    let less : n - 1 ≡ a * 2 ^ suc z + (p - 1) = omega arith in
+    ap₂ bitAnd whole less
+    ∙ and-block (suc z) a a p (p - 1) lt lt′
+    ∙ ap₂ (λ (x y : ℕ). x * 2 ^ suc z + y) (and-self a) (and-mask p z ∙ mod-self p)
+    ∙ add-zero _
+
+-- where nothing is left after l digits, the digits from l on are 0
+pub digits-gone : (n l j : ℕ) → n / 2 ^ l ≡ 0 → l ≤ j → n / 2 ^ j % 2 ≡ 0
+digits-gone n l j e h =
+    let k : l + (j - l) ≡ j = omega arith in
+    ap (λ (i : ℕ). n / 2 ^ i % 2) (sym k) ∙ ap (λ (m : ℕ). m % 2) (sym (shr-shr n l (j - l)))
+    ∙ ap (λ (m : ℕ). m / 2 ^ (j - l) % 2) e ∙ ap (λ (m : ℕ). m % 2) (zero-div (2 ^ (j - l)))
+
+-- a digit that is set is one of those that there are
+set-within : (n k j : ℕ) → n < 2 ^ k → n / 2 ^ j % 2 ≡ 1 → j < k
+set-within n k j h e = lt-of-not-le (λ g. absurd (gone g))
+  where
+    gone : k ≤ j → ⊥
+    gone g =
+        let w : n / 2 ^ j % 2 ≡ 0 = ap (λ (m : ℕ). m % 2) (div-eq-of-lt (lt-of-lt-of-le h (pow-mono g))) in omega arith
+
+-- ---- a number without its lowest l digits, which are 0 instead
+
+pub none-left : (n l : ℕ) → n / 2 ^ l * 2 ^ l ≡ 0 → n / 2 ^ l ≡ 0
+none-left n l e = sym (shl-shr (n / 2 ^ l) l) ∙ ap (λ (m : ℕ). m / 2 ^ l) e ∙ zero-div (2 ^ l)
+
+left-below : (a l j : ℕ) → j < l → a * 2 ^ l / 2 ^ j % 2 ≡ 0
+left-below a l j h =
+    let k : suc (l - suc j) + j ≡ l = omega arith in
+    let m : ℕ = l - suc j in
+    ap (λ (i : ℕ). a * 2 ^ i / 2 ^ j % 2) (sym k)
+    ∙ ap (λ (x : ℕ). a * x / 2 ^ j % 2) (pow-add 2 (suc m) j)
+    ∙ ap (λ (x : ℕ). x / 2 ^ j % 2) (sym (mul-assoc a (2 ^ suc m) (2 ^ j)))
+    ∙ ap (λ (x : ℕ). x % 2) (shl-shr (a * 2 ^ suc m) j)
+    ∙ shifted-even a m
+
+left-above : (n l j : ℕ) → l ≤ j → n / 2 ^ l * 2 ^ l / 2 ^ j ≡ n / 2 ^ j
+left-above n l j h =
+    let k : l + (j - l) ≡ j = omega arith in
+    ap (λ (i : ℕ). n / 2 ^ l * 2 ^ l / 2 ^ i) (sym k)
+    ∙ sym (shr-shr (n / 2 ^ l * 2 ^ l) l (j - l))
+    ∙ ap (λ (m : ℕ). m / 2 ^ (j - l)) (shl-shr (n / 2 ^ l) l)
+    ∙ shr-shr n l (j - l)
+    ∙ ap (λ (i : ℕ). n / 2 ^ i) k
+
+-- on to the lowest digit that is left
+module _ (n l left : ℕ) (fits : n < 2 ^ 64) (e : left ≡ n / 2 ^ l * 2 ^ l) (some : left ≢ 0) where
+  left-fits : left < 2 ^ 64
+  left-fits = lt-of-le-of-lt (le-of-eq e) (lt-of-le-of-lt (div-mul-le-self n (2 ^ l)) fits)
+
+  next : ℕ
+  next = trailingZeros 64 left
+
+  next-one : left / 2 ^ next % 2 ≡ 1
+  unfolding next
+  next-one = at-lowest 64 left some left-fits
+
+  next-zero : (j : ℕ) → j < next → left / 2 ^ j % 2 ≡ 0
+  unfolding next
+  next-zero j h = below-lowest 64 left j h
+
+  from : l ≤ next
+  from = le-of-not-lt (λ h. absurd (clash (ap (λ (m : ℕ). m / 2 ^ next % 2) e ∙ left-below (n / 2 ^ l) l next h)))
+    where
+      clash : left / 2 ^ next % 2 ≡ 0 → ⊥
+      clash z = omega (arith, next-one)
+
+  digit-kept : (j : ℕ) → l ≤ j → n / 2 ^ j % 2 ≡ left / 2 ^ j % 2
+  digit-kept j h = ap (λ (m : ℕ). m % 2) (sym (ap (λ (m : ℕ). m / 2 ^ j) e ∙ left-above n l j h))
+
+  pub next-from : l ≤ trailingZeros 64 left
+  unfolding next
+  next-from = from
+
+  pub next-set : inSet n (trailingZeros 64 left) ≡ true
+  unfolding next
+  next-set = eq-eqb _ 1 (digit-kept next from ∙ next-one)
+
+  pub next-below : (j : ℕ) → l ≤ j → j < trailingZeros 64 left → inSet n j ≡ false
+  unfolding next
+  next-below j h k = ap (λ (d : ℕ). eqb d 1) (digit-kept j h ∙ next-zero j k)
+
+  pub next-within : trailingZeros 64 left < 64
+  unfolding next
+  next-within = set-within left 64 next left-fits next-one
+
+  pub next-left : bitAnd left (left - 1) ≡ n / 2 ^ (trailingZeros 64 left + 1) * 2 ^ (trailingZeros 64 left + 1)
+  unfolding next
+  next-left =
+      let up : l ≤ suc next = omega (arith, from) in
+      cleared left next next-one (low-zero left next next-zero)
+      ∙ ap (λ (m : ℕ). m * 2 ^ suc next) (ap (λ (m : ℕ). m / 2 ^ suc next) e ∙ left-above n l (suc next) up)
+      ∙ ap (λ (i : ℕ). n / 2 ^ i * 2 ^ i) (sym (add-one next))
+
+  pub next-less : bitAnd left (left - 1) < left
+  next-less = omega (arith, and-le-r left (left - 1))

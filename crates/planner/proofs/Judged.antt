@@ -1,0 +1,91 @@
+-- What the judge's answer says of the planner's outcome.
+use Prim.Native.Nat.{ℕ, _+_, _≤_}
+use mathlib.Core.Path.{_≡_, refl, sym, ap, _∙_}
+use mathlib.Core.Logic.{⊎-elim}
+use mathlib.Core.Bool.{Bool, true, false, cond}
+use mathlib.Core.List.{List, [], _∷_, _++_}
+use mathlib.Core.Option.{Option, none, some}
+use native.Mathlib.Omega.{arith}
+use Rattle.model.specs.Outcome.{Outcome, good, refused, number, noEvenPlan}
+use Rattle.model.specs.Rule.{Place, missedRate}
+use Rattle.lists.specs.Answers.{withRoom, done, plan, lent}
+use Rattle.lists.specs.Lists.{networkOf}
+use Rattle.lists.specs.declared.Answer.{Answer}
+use Rattle.forms.specs.Form.{fieldOf, admitsOf}
+use Rattle.model.specs.Outcome.{andThen}
+use Rattle.forms.specs.Read.{onField, onValue, walk, itself, judgeNumbers, unlessMissed, addUp, judgeNetwork}
+use Rattle.forms.specs.declared.form.Form.{Form}
+use Rattle.forms.specs.declared.form.Form.the-variants.{Network}
+use Rattle.forms.specs.declared.form.Range.{Range}
+use Rattle.forms.specs.declared.form.Field.{Field}
+use Rattle.forms.specs.declared.form.Field.the-variants.{Line, End}
+use Rattle.forms.proofs.Answers.{NotDone}
+use Rattle.forms.proofs.Good.{good-network}
+use Rattle.planner.specs.Planned.{evenPlan, planned}
+
+pub planned-good : (l : List ℕ) → judgeNetwork l ≡ good l → planned l ≡ evenPlan (networkOf l)
+unfolding planned
+planned-good l e = ap (λ o. andThen o (λ g. evenPlan (networkOf g))) e
+
+-- ---- where the judge refuses
+
+passed-on : (o : Outcome (List ℕ)) (next : List ℕ → Outcome (List ℕ)) (a : Answer) (room : ℕ) (out : List ℕ) → a ≡ done o → NotDone a
+    → (a ≡ plan (withRoom room (andThen o next))) × (out ≡ lent (withRoom room (andThen o next)) out)
+passed-on (good g) next a room out e t = absurd (⊎-elim (λ k. omega arith) (λ k. omega arith) (rw e at t))
+passed-on (refused c i j) next a room out e t = (e, refl)
+
+pub planned-refused : (l : List ℕ) (a : Answer) (room : ℕ) (out : List ℕ) → a ≡ done (judgeNetwork l) → NotDone a
+    → (a ≡ plan (withRoom room (planned l))) × (out ≡ lent (withRoom room (planned l)) out)
+unfolding planned
+planned-refused l a room out e t = passed-on (judgeNetwork l) (λ g. evenPlan (networkOf g)) a room out e t
+
+-- ---- which refusals are the judge's own: 1 to 4
+
+abbrev Early : Outcome (List ℕ) → Type 0
+Early (good l) = Unit {0}
+Early (refused c p s) = number c ≤ 4
+
+field-early : (f : Field) (a : Outcome (List ℕ)) (g : ℕ → Range → Outcome (List ℕ)) → Early a → ((k : ℕ) (r : Range) → Early (g k r)) → Early (onField f a g)
+field-early End a g h k = h
+field-early (Line n r) a g h k = k n r
+
+value-early : (o : Option ℕ) (a : Outcome (List ℕ)) (g : ℕ → Outcome (List ℕ)) → Early a → ((v : ℕ) → Early (g v)) → Early (onValue o a g)
+value-early none a g h k = h
+value-early (some v) a g h k = k v
+
+cond-early : (b : Bool) (x y : Outcome (List ℕ)) → Early x → Early y → Early (cond b x y)
+cond-early true x y h k = h
+cond-early false x y h k = k
+
+walk-early : {X : Type 0} (value : ℕ → Range → X → Option ℕ) (form : Form) (n : ℕ) (before : List ℕ) (xs : List X) → Early (walk value form n before xs)
+unfolding walk
+walk-early value form n before [] = field-early (fieldOf form before) _ _ tt (λ k r. omega arith)
+walk-early value form n before (x ∷ xs) =
+    field-early (fieldOf form before) _ _ (omega arith) (λ k r.
+    value-early (value k r x) _ _ (omega arith) (λ v.
+    cond-early (admitsOf r v) _ _ (walk-early value form (n + 1) (before ++ (v ∷ [])) xs) (omega arith)))
+
+missed-early : (l : List ℕ) (o : Option Place) → Early (unlessMissed l o)
+missed-early l none = tt
+missed-early l (some p) = omega arith
+
+then-early : (o : Outcome (List ℕ)) (next : List ℕ → Outcome (List ℕ)) → Early o → ((l : List ℕ) → Early (next l)) → Early (andThen o next)
+then-early (good l) next h k = k l
+then-early (refused c p s) next h k = h
+
+judge-early : (l : List ℕ) → Early (judgeNetwork l)
+unfolding judgeNumbers addUp
+judge-early l = then-early (judgeNumbers Network l) (addUp Network) (walk-early itself Network 1 [] l) (λ g. missed-early g (missedRate (networkOf g)))
+
+-- so 9 is the planner's
+nine-passed : (o : Outcome (List ℕ)) (next : List ℕ → Outcome (List ℕ)) (p s : ℕ) → Early o → andThen o next ≡ refused noEvenPlan p s
+    → (g : List ℕ) × (o ≡ good g) × (next g ≡ refused noEvenPlan p s)
+nine-passed (good g) next p s h e = (g, refl, e)
+nine-passed (refused c i j) next p s h e = let z : c ≡ noEvenPlan = cc in absurd (omega (arith, ap number z))
+
+pub planned-nine : (l : List ℕ) (p s : ℕ) → planned l ≡ refused noEvenPlan p s → (judgeNetwork l ≡ good l) × (evenPlan (networkOf l) ≡ refused noEvenPlan p s)
+unfolding planned
+planned-nine l p s e =
+    let n = nine-passed (judgeNetwork l) (λ g. evenPlan (networkOf g)) p s (judge-early l) e in
+    let j = good-network l (n .0) (n .1) in
+    (n .1 ∙ ap good (j .0), sym (ap (λ g. evenPlan (networkOf g)) (j .0)) ∙ n .2)

@@ -1,0 +1,8 @@
+pub mod Digits
+pub mod Tables
+pub mod Good
+pub mod Searching
+pub mod EvenLists
+pub mod Planned
+pub mod Judged
+pub mod Main

@@ -1,0 +1,177 @@
+-- The claim of the planner's outcome holds.
+use Prim.Native.Nat.{ℕ, suc, _+_, _-_, _*_, _≤_}
+use mathlib.Core.Path.{_≡_, refl, sym, ap, _∙_}
+use mathlib.Core.Logic.{⊎-elim}
+use mathlib.Core.Bool.{true, false, true≢false}
+use mathlib.Core.List.{List}
+use mathlib.Core.Option.{Option, none, some}
+use native.Mathlib.Omega.{arith}
+use native.Mathlib.Nat.{mul-le-mul-left}
+use lib.ListN.{length}
+use Rattle.model.specs.Limits.{mostSteps, mostAmount}
+use Rattle.model.specs.Outcome.{Outcome, good, refused, noEvenPlan}
+use Rattle.model.specs.Net.{Net}
+use Rattle.model.specs.Scan.{Overload, step}
+use Rattle.model.specs.Rule.{missedRate, firstOverload, accepted}
+use Rattle.model.specs.Even.{evenRow, even, tryEven, fewest, stuckAt, keepsScratch, stepBound}
+use Rattle.model.proofs.Searches.{option-cases, only-some, only-none, first-some, first-none, none-first, only-false}
+use Rattle.model.proofs.Choices as choices
+use Rattle.model.proofs.Rows.{Same, row-missed-same, overload-same, accepted-both, even-at, even-adds-up}
+use Rattle.model.proofs.Bounded as model
+use Rattle.lists.specs.Answers.{withRoom}
+use Rattle.lists.specs.Lists.{at, networkOf, planOf, GoodNetwork}
+use Rattle.model.specs.Outcome.{andThen}
+use Rattle.forms.specs.Read.{judgeNetwork, judgePlan}
+use Rattle.forms.proofs.Answers.{good-room}
+use Rattle.forms.proofs.Good.{good-network, plan-good}
+use Rattle.planner.specs.Planned.{evenList, stuck, byFewest, evenPlan, planned}
+use Rattle.planner.specs.Claim.{FewestSteps, NoneBelow, Safe, Claim}
+use Rattle.planner.proofs.EvenLists.{list-length, list-head, list-at, rows-most, list-beyond}
+use Rattle.planner.proofs.Judged.{planned-good, planned-nine}
+
+-- ---- the cases of the outcome
+
+stuck-no-plan : (o : Option Overload) (p : List ℕ) → stuck o ≡ good p → ⊥
+unfolding stuck
+stuck-no-plan none p e = let z : _≡_ {A = ℕ} 0 1 = cc in omega arith
+stuck-no-plan (some o) p e = let z : _≡_ {A = ℕ} 0 1 = cc in omega arith
+
+by-fewest : (N : Net) (o : Option ℕ) (p : List ℕ) → byFewest N o ≡ good p → (q : ℕ) × (o ≡ some q) × (p ≡ evenList N q)
+unfolding byFewest
+by-fewest N none p e = absurd (stuck-no-plan (stuckAt N) p e)
+by-fewest N (some q) p e = (q, refl, cc)
+
+passed-good : (o : Outcome (List ℕ)) (next : List ℕ → Outcome (List ℕ)) (p : List ℕ) → andThen o next ≡ good p → (g : List ℕ) × (o ≡ good g) × (next g ≡ good p)
+passed-good (good g) next p e = (g, refl, e)
+passed-good (refused c i j) next p e = let z : _≡_ {A = ℕ} 0 1 = cc in absurd (omega arith)
+
+-- a plan: the network is judged good, and the plan's list is that of the fewest steps
+record Made (l p : List ℕ) : Type 0 where
+  judged : judgeNetwork l ≡ good l
+  network : GoodNetwork l
+  steps : ℕ
+  fewest : fewest (networkOf l) ≡ some steps
+  list : p ≡ evenList (networkOf l) steps
+
+made : (l p : List ℕ) → planned l ≡ good p → Made l p
+unfolding planned evenPlan
+made l p e =
+    let s = passed-good (judgeNetwork l) (λ g. evenPlan (networkOf g)) p e in
+    let j = good-network l (s .0) (s .1) in
+    let f = by-fewest (networkOf l) (fewest (networkOf l)) p (sym (ap (λ g. evenPlan (networkOf g)) (j .0)) ∙ s .2) in
+    record { judged = s .1 ∙ ap good (j .0); network = j .1; steps = f .0; fewest = f .1; list = f .2 }
+
+-- ---- the fewest steps
+
+below-fewest : (N : Net) (q : ℕ) → fewest N ≡ some q → NoneBelow N q
+unfolding fewest tryEven
+below-fewest N q e r one less =
+    let s = first-some (λ i. tryEven N (suc i)) mostSteps q e in
+    let t = only-some _ (suc (s .0)) q (s .2) in
+    let k : suc (r - 1) ≡ r = omega arith in
+    ap (λ (i : ℕ). accepted N (even N i)) (sym k) ∙ only-none _ (suc (r - 1)) (first-none (λ i. tryEven N (suc i)) (s .0) (s .3) (r - 1) (omega (arith, t .1)))
+
+accepted-none : (N : Net) → ((q : ℕ) → 1 ≤ q → q ≤ mostSteps → accepted N (even N q) ≡ false) → fewest N ≡ none
+unfolding fewest tryEven
+accepted-none N h = none-first (λ i. tryEven N (suc i)) mostSteps (λ i k. only-false _ (suc i) (h (suc i) (omega arith) k))
+
+pub fewest-steps : (l p : List ℕ) → planned l ≡ good p → FewestSteps (networkOf l) p
+fewest-steps l p e =
+    let m = made l p e in
+    let f = model.fewest-some (networkOf l) (m .steps) (m .fewest) in
+    record { steps = m .steps; least = f .0; most = f .1; list = m .list; accepted = f .2; none-below = below-fewest (networkOf l) (m .steps) (m .fewest) }
+
+-- ---- the list of an even plan is a plan
+
+-- each number is at most parts times the largest amount
+even-most : (q a o n : ℕ) → a ≤ q → o ≤ mostAmount → n ≤ mostAmount → q * o + a * n - a * o ≤ mostAmount * q
+even-most q a o n h ho hn =
+    let e : (q - a) + a ≡ q = omega arith in
+    omega (arith, even-at q a o n h, mul-le-mul-left (q - a) ho, mul-le-mul-left a hn)
+
+module _ (l : List ℕ) (g : GoodNetwork l) (q : ℕ) (one : 1 ≤ q) (most : q ≤ mostSteps) where
+  even-judged : judgePlan (evenList (networkOf l) q) ≡ good (evenList (networkOf l) q)
+  unfolding planOf networkOf evenRow evenList
+  even-judged = plan-good (evenList (networkOf l) q) (record {
+    edition = refl;
+    parts = (one, most);
+    steps = (one, most);
+    tunnels = g .tunnels;
+    size = list-length (networkOf l) q;
+    amounts = λ i four _. rw (list-beyond (networkOf l) q i four)
+        (rows-most (mostAmount * q) (networkOf l) q (q - 1) (λ a t ha ht. even-most q a _ _ (omega arith) (g .old t ht) (g .new t ht)) (i - 4));
+  })
+
+  even-same : Same (networkOf l) (planOf (evenList (networkOf l) q)) (even (networkOf l) q)
+  unfolding planOf even evenList
+  even-same = record { parts = refl; steps = refl; at = λ a t ha hq ht. list-at (networkOf l) q a t ha hq ht }
+
+pub safe : (l p : List ℕ) → planned l ≡ good p → Safe l p
+unfolding networkOf
+safe l p e =
+    let m = made l p e in
+    let N = networkOf l in
+    let f = model.fewest-some N (m .steps) (m .fewest) in
+    let a = accepted-both N (even N (m .steps)) .0 (f .2) in
+    let s = even-same l (m .network) (m .steps) (f .0) (f .1) in
+    let none-over = overload-same N _ _ s ∙ a .1 in
+    rw (m .list) (record {
+      network = m .judged;
+      judged = even-judged l (m .network) (m .steps) (f .0) (f .1);
+      tunnels = list-head N (m .steps) .3;
+      rows = row-missed-same N _ _ s ∙ a .0;
+      overload = none-over;
+      choices = choices.safe N _ none-over;
+    })
+
+-- ---- refusal 9
+
+-- where no even plan is accepted, that of 50 steps overloads somewhere, since its rows add up
+pub stuck-somewhere : (N : Net) → missedRate N ≡ none → fewest N ≡ none → (o : Overload) × (stuckAt N ≡ some o)
+unfolding stuckAt
+stuck-somewhere N r e =
+    ⊎-elim
+    (λ z. absurd (true≢false (sym (accepted-both N (even N mostSteps) .1 (even-adds-up N mostSteps r, z)) ∙ model.fewest-none N e mostSteps (omega arith) (omega arith))))
+    (λ s. s)
+    (option-cases (firstOverload N (even N mostSteps)))
+
+pub nine : (l : List ℕ) → judgeNetwork l ≡ good l → ((q : ℕ) → 1 ≤ q → q ≤ mostSteps → accepted (networkOf l) (even (networkOf l) q) ≡ false)
+    → (o : Overload) × (stuckAt (networkOf l) ≡ some o) × (planned l ≡ refused noEvenPlan (step o) (o .link))
+unfolding evenPlan byFewest stuck
+nine l j h =
+    let N = networkOf l in
+    let e = accepted-none N h in
+    let s = stuck-somewhere N (good-network l l j .1 .valid .sums) e in
+    (s .0, s .1, planned-good l j ∙ ap (byFewest N) e ∙ ap stuck (s .1))
+
+nine-by-fewest : (N : Net) (o : Option ℕ) (p s : ℕ) → byFewest N o ≡ refused noEvenPlan p s → o ≡ none
+unfolding byFewest
+nine-by-fewest N none p s e = refl
+nine-by-fewest N (some q) p s e = let z : _≡_ {A = ℕ} 0 1 = cc in absurd (omega arith)
+
+pub nine-only : (l : List ℕ) (place second : ℕ) → planned l ≡ refused noEvenPlan place second
+    → (judgeNetwork l ≡ good l) × ((q : ℕ) → 1 ≤ q → q ≤ mostSteps → accepted (networkOf l) (even (networkOf l) q) ≡ false)
+unfolding evenPlan
+nine-only l place second e =
+    let n = planned-nine l place second e in
+    (n .0, model.fewest-none (networkOf l) (nine-by-fewest (networkOf l) (fewest (networkOf l)) place second (n .1)))
+
+-- ---- a network that keeps its scratch
+
+pub bounded : (l : List ℕ) → judgeNetwork l ≡ good l → keepsScratch (networkOf l) ≡ true
+    → (p : List ℕ) × (planned l ≡ good p) × ((room : ℕ) → length p ≤ room → withRoom room (planned l) ≡ good p)
+    × (at p 2 ≤ stepBound (networkOf l .scratch) (networkOf l .overrun))
+unfolding evenPlan byFewest
+bounded l j k =
+    let N = networkOf l in
+    let b = model.bounded N (good-network l l j .1 .valid) k in
+    let p : List ℕ = evenList N (b .0) in
+    let e : planned l ≡ good p = planned-good l j ∙ ap (byFewest N) (b .1) in (
+      p,
+      e,
+      λ room h. ap (withRoom room) e ∙ good-room room p h,
+      rw (list-head N (b .0) .2) (b .3),
+    )
+
+pub claim : Claim
+claim = record { safe = safe; fewest = fewest-steps; nine = nine; nine-only = nine-only; bounded = bounded }

@@ -1,0 +1,62 @@
+-- The planner's outcome, case by case.
+use Prim.Native.Nat.{ℕ, _-_, _≤_, _<_}
+use mathlib.Core.Path.{_≡_, refl, ap, _∙_}
+use mathlib.Core.Bool.{Bool, cond}
+use mathlib.Core.List.{List}
+use mathlib.Core.Option.{Option, none, some}
+use native.Mathlib.Omega.{arith}
+use lib.ListN.{length}
+use borrow.Author.Tests.{le-leb, lt-leb}
+use Rattle.model.specs.Outcome.{Outcome, good, refused, noRoom}
+use Rattle.model.specs.Net.{Net}
+use Rattle.model.specs.Scan.{Overload}
+use Rattle.model.specs.Even.{fewest, stuckAt}
+use Rattle.lists.specs.Answers.{withRoom, plan, lent}
+use Rattle.planner.specs.Planned.{evenList, stuck, byFewest, evenPlan}
+use Rattle.planner.specs.Search.{answered}
+use Rattle.planner.specs.declared.steps.Fewest.the-variants.{Steps, NoPlan}
+
+-- ---- what the search answers
+
+pub answered-some : (o : Option ℕ) (q : ℕ) → answered o ≡ Steps q → o ≡ some q
+answered-some none q e = let z : _≡_ {A = ℕ} 0 1 = cc in absurd (omega arith)
+answered-some (some p) q e = cc
+
+pub answered-none : (o : Option ℕ) → answered o ≡ NoPlan → o ≡ none
+answered-none none e = refl
+answered-none (some p) e = let z : _≡_ {A = ℕ} 0 1 = cc in absurd (omega arith)
+
+-- ---- the outcome, with the room that is lent
+
+module _ (N : Net) (out : List ℕ) where
+  -- the outcome's answer and output, at once
+  abbrev pub Comes : Outcome (List ℕ) → Type 0
+  Comes o = (plan (withRoom (length out) (evenPlan N)) ≡ plan o) × (lent (withRoom (length out) (evenPlan N)) out ≡ lent o out)
+
+  comes : (o : Outcome (List ℕ)) → withRoom (length out) (evenPlan N) ≡ o → Comes o
+  comes o e = (ap plan e, ap (λ p. lent p out) e)
+
+  stuck-lent : (o : Option Overload) → (withRoom (length out) (stuck o) ≡ stuck o) × (lent (stuck o) out ≡ out)
+  unfolding stuck
+  stuck-lent none = (refl, refl)
+  stuck-lent (some o) = (refl, refl)
+
+  pub no-plan : fewest N ≡ none → (plan (withRoom (length out) (evenPlan N)) ≡ plan (stuck (stuckAt N))) × (lent (withRoom (length out) (evenPlan N)) out ≡ out)
+  unfolding evenPlan byFewest
+  no-plan e =
+      let s = stuck-lent (stuckAt N) in
+      let k = comes _ (ap (λ o. withRoom (length out) (byFewest N o)) e ∙ s .0) in
+      (k .0, k .1 ∙ s .1)
+
+  module _ (q : ℕ) (e : fewest N ≡ some q) where
+    pub room-short : length out < length (evenList N q) → Comes (refused noRoom (length (evenList N q)) 0)
+    unfolding evenPlan byFewest
+    room-short h =
+        comes _ (ap (λ o. withRoom (length out) (byFewest N o)) e
+        ∙ ap (λ (b : Bool). cond b (good (evenList N q)) (refused noRoom (length (evenList N q)) 0)) (lt-leb _ _ h))
+
+    pub room-enough : length (evenList N q) ≤ length out → Comes (good (evenList N q))
+    unfolding evenPlan byFewest
+    room-enough h =
+        comes _ (ap (λ o. withRoom (length out) (byFewest N o)) e
+        ∙ ap (λ (b : Bool). cond b (good (evenList N q)) (refused noRoom (length (evenList N q)) 0)) (le-leb _ _ h))

@@ -1,0 +1,179 @@
+-- What the planner's comparisons tell, by the three sums, of the rule: when an even plan is accepted, which steps are fewest, and where the plan of 50 steps overloads.
+use Prim.Native.Nat.{ℕ, suc, _+_, _-_, _*_, _≤_, _<_, max}
+use mathlib.Core.Path.{_≡_, refl, sym, ap, ap₂, _∙_}
+use mathlib.Core.Logic.{⊎-elim}
+use mathlib.Core.Bool.{Bool, true, false, _||_, true≢false}
+use mathlib.Core.Option.{none, some}
+use mathlib.Core.List.{List}
+use native.Mathlib.Omega.{arith}
+use native.Mathlib.Nat.{le-refl, mul-le-mul}
+use native.Mathlib.Numerals.{add-one}
+use lib.Dec.{ltb}
+use borrow.Author.Tests.{lt-ltb, le-ltb}
+use Rattle.model.specs.Limits.{mostLinks, mostTunnels, mostSteps, mostAmount, mostShare}
+use Rattle.model.specs.Search.{first}
+use Rattle.model.specs.Net.{Net}
+use Rattle.model.specs.Scan.{Bound, testLink, testStep}
+use Rattle.model.specs.Rule.{load, exceeds, missedRate, stepCount, worstOver, firstOverload, accepted}
+use Rattle.model.specs.Even.{even, tryEven, fewest, stuckAt}
+use Rattle.model.specs.ThreeSums.{oldLoad, newLoad, peakLoad, stepLoad, endLoad}
+use Rattle.model.proofs.Searches.{bool-cases, only-true, only-false, first-on, first-at}
+use Rattle.model.proofs.Scans.{link-protected, link-total, link-neither, scan-at, scan-end}
+use Rattle.model.proofs.Choices.{factor, room}
+use Rattle.model.proofs.Evens.{even-load, even-accepted}
+use Rattle.lists.specs.Answers.{plan}
+use Rattle.lists.specs.Lists.{at, networkOf}
+use Rattle.lists.specs.declared.Answer.the-variants.{Refused}
+use Rattle.planner.specs.Tables.{Part, Room, onPart, Loads, Ready, stepSum, endSum}
+use Rattle.planner.specs.Planned.{stuck}
+use Rattle.planner.specs.Search.{isOver}
+use Rattle.planner.proofs.Tables.{table-room}
+use Rattle.planner.proofs.Good.{good-range}
+
+-- ---- an even plan
+
+not-accepted : (N : Net) → missedRate N ≡ none → (q : ℕ) → 0 < q → (l : ℕ) → l < N .links → (b : Bound)
+    → q * room N b l < factor b * endLoad N b q l → accepted N (even N q) ≡ false
+not-accepted N e q h l hl b k =
+    ⊎-elim (λ a. absurd (omega (arith, even-accepted N e q h .0 a l hl b))) (λ f. f) (bool-cases (accepted N (even N q)))
+
+-- the sums of a table are the loads
+sum-end : (N : Net) (b : Bound) (s : List ℕ) → Loads N b s → (q l : ℕ) → l < mostLinks → endSum s q l ≡ endLoad N b q l
+unfolding endLoad oldLoad newLoad peakLoad load onPart
+sum-end N b s T q l h =
+    ap₂ (λ (m k : ℕ). (q - 1) * m + k) (ap₂ max (T .each Part.old l h) (T .each Part.new l h)) (T .each Part.peak l h)
+
+sum-step : (N : Net) (b : Bound) (s : List ℕ) → Loads N b s → (q i l : ℕ) → l < mostLinks → stepSum s q i l ≡ stepLoad N b q i l
+unfolding stepLoad oldLoad newLoad peakLoad load onPart
+sum-step N b s T q i l h =
+    ap₂ (λ (m k : ℕ). m + k) (ap₂ (λ (o n : ℕ). (q - suc i) * o + i * n) (T .each Part.old l h) (T .each Part.new l h)) (T .each Part.peak l h)
+
+-- what is known where the code looks at link k, in plans of q steps
+pub record AtLink (l p a : List ℕ) (q k : ℕ) : Type 0 where
+  pub ready : Ready l p a
+  pub least : 1 ≤ q
+  pub most : q ≤ mostSteps
+  pub link : k < at l 3
+
+module _ {l p a : List ℕ} {q k : ℕ} (h : AtLink l p a q k) where
+  -- all that is computed there fits 64 bits
+  pub link-low : k < mostLinks
+  link-low = omega (arith, h .ready .good .links)
+
+  pub protected-room : Room mostTunnels p
+  protected-room = table-room _ _ _ _ (h .ready .protected) (le-refl _) (good-range l (h .ready .good))
+
+  pub all-room : Room mostTunnels a
+  all-room = table-room _ _ _ _ (h .ready .all) (le-refl _) (good-range l (h .ready .good))
+
+  pub overrun-most : at l 2 ≤ mostShare
+  unfolding networkOf
+  overrun-most = ⊎-elim (λ z. omega arith) (λ b. omega arith) (h .ready .good .valid .overrun)
+
+  pub cap-room : q * at l (6 + k) ≤ mostSteps * mostAmount
+  cap-room = mul-le-mul (h .most) (h .ready .good .cap k (h .link))
+
+  pub overrun-room : (1000 + at l 2) * (q * at l (6 + k)) ≤ (1000 + mostShare) * (mostSteps * mostAmount)
+  overrun-room = let o : 1000 + at l 2 ≤ 1000 + mostShare = omega (arith, overrun-most) in mul-le-mul o cap-room
+
+  -- the two comparisons decide for the link
+  protected-sum : endSum p q k ≡ endLoad (networkOf l) Bound.protected q k
+  protected-sum = sum-end (networkOf l) Bound.protected p (h .ready .protected) q k link-low
+
+  all-sum : 1000 * endSum a q k ≡ 1000 * endLoad (networkOf l) Bound.total q k
+  all-sum = ap (λ (w : ℕ). 1000 * w) (sum-end (networkOf l) Bound.total a (h .ready .all) q k link-low)
+
+  pub over-protected : q * at l (6 + k) < endSum p q k → accepted (networkOf l) (even (networkOf l) q) ≡ false
+  unfolding networkOf factor room
+  over-protected o = not-accepted (networkOf l) (h .ready .good .valid .sums) q (h .least) k (h .link) Bound.protected (omega (arith, protected-sum))
+
+  pub over-total : (1000 + at l 2) * (q * at l (6 + k)) < 1000 * endSum a q k → accepted (networkOf l) (even (networkOf l) q) ≡ false
+  unfolding networkOf factor room
+  over-total o = not-accepted (networkOf l) (h .ready .good .valid .sums) q (h .least) k (h .link) Bound.total (omega (arith, all-sum))
+
+  pub kept-both : endSum p q k ≤ q * at l (6 + k) → 1000 * endSum a q k ≤ (1000 + at l 2) * (q * at l (6 + k))
+      → (b : Bound) → factor b * endLoad (networkOf l) b q k ≤ q * room (networkOf l) b k
+  unfolding networkOf factor room
+  kept-both i j Bound.protected = omega (arith, protected-sum)
+  kept-both i j Bound.total = omega (arith, all-sum)
+
+-- ---- the fewest steps
+
+abbrev pub untried : Net → ℕ → Type 0
+untried N i = first i (λ k. tryEven N (suc k)) ≡ none
+
+pub fewest-at : (N : Net) (i : ℕ) → untried N i → accepted N (even N (i + 1)) ≡ true → i < mostSteps → fewest N ≡ some (i + 1)
+unfolding fewest tryEven
+fewest-at N i e h k =
+    rw (add-one i) (first-at (λ k. tryEven N (suc k)) i mostSteps (suc i) e (only-true _ (suc i) (rw (add-one i) at h)) k)
+
+pub fewest-on : (N : Net) (i : ℕ) → untried N i → accepted N (even N (i + 1)) ≡ false → untried N (i + 1)
+unfolding tryEven
+fewest-on N i e h = first-on (λ k. tryEven N (suc k)) i e (only-false _ (suc i) (rw (add-one i) at h))
+
+pub fewest-none : (N : Net) → untried N mostSteps → fewest N ≡ none
+unfolding fewest
+fewest-none N e = e
+
+-- ---- where the plan of 50 steps overloads
+
+worst-step : (N : Net) (b : Bound) (s : List ℕ) → Loads N b s → (i l : ℕ) → i < mostSteps → l < mostLinks
+    → worstOver N (even N mostSteps) i l b ≡ exceeds N b mostSteps l (stepSum s mostSteps i l)
+unfolding worstOver even
+worst-step N b s T i l hi hl = ap (exceeds N b mostSteps l) (even-load N b l mostSteps i hi ∙ sym (sum-step N b s T mostSteps i l hl))
+
+module _ {l p a : List ℕ} {k : ℕ} (h : AtLink l p a mostSteps k) (i : ℕ) (hi : i < mostSteps) where
+  protected-over : worstOver (networkOf l) (even (networkOf l) mostSteps) i k Bound.protected ≡ ltb (mostSteps * at l (6 + k)) (stepSum p mostSteps i k)
+  unfolding networkOf exceeds
+  protected-over = worst-step (networkOf l) Bound.protected p (h .ready .protected) i k hi (link-low h)
+
+  total-over : worstOver (networkOf l) (even (networkOf l) mostSteps) i k Bound.total
+      ≡ ltb ((1000 + at l 2) * (mostSteps * at l (6 + k))) (1000 * stepSum a mostSteps i k)
+  unfolding networkOf exceeds
+  total-over = worst-step (networkOf l) Bound.total a (h .ready .all) i k hi (link-low h)
+
+  pub is-over-first : mostSteps * at l (6 + k) < stepSum p mostSteps i k → true ≡ isOver (networkOf l) i k
+  is-over-first o = sym (ap (λ (b : Bool). b || worstOver (networkOf l) (even (networkOf l) mostSteps) i k Bound.total) (protected-over ∙ lt-ltb _ _ o))
+
+  pub is-over-second : stepSum p mostSteps i k ≤ mostSteps * at l (6 + k)
+      → ltb ((1000 + at l 2) * (mostSteps * at l (6 + k))) (1000 * stepSum a mostSteps i k) ≡ isOver (networkOf l) i k
+  is-over-second o = sym (ap₂ _||_ (protected-over ∙ le-ltb _ _ o) total-over)
+
+-- what one link tells of the search for the first overload
+or-false : (b c : Bool) → (b || c) ≡ false → (b ≡ false) × (c ≡ false)
+or-false true c e = absurd (true≢false e)
+or-false false c e = (refl, e)
+
+module _ (N : Net) where
+  bad : ℕ → ℕ → Bound → Bool
+  bad = worstOver N (even N mostSteps)
+
+  -- no overload before the step from row i, and in it none before link l
+  abbrev pub stepsKept : ℕ → Type 0
+  stepsKept i = first i (testStep (N .links) (worstOver N (even N mostSteps))) ≡ none
+
+  abbrev pub linksKept : ℕ → ℕ → Type 0
+  linksKept i l = first l (testLink (worstOver N (even N mostSteps)) i) ≡ none
+
+  pub links-on : (i l : ℕ) → linksKept i l → isOver N i l ≡ false → linksKept i (l + 1)
+  unfolding bad
+  links-on i l e h = let s = or-false _ _ h in first-on (testLink bad i) l e (link-neither mostSteps (N .links) bad i l (s .0) (s .1))
+
+  found-at : (i l : ℕ) → isOver N i l ≡ true → (b : Bound) × (testLink bad i l ≡ some (record { bound = b; from = i; link = l }))
+  unfolding bad
+  found-at i l h =
+      ⊎-elim
+      (λ e. (Bound.protected, link-protected mostSteps (N .links) bad i l e))
+      (λ e. (Bound.total, link-total mostSteps (N .links) bad i l e (sym (ap (λ (b : Bool). b || bad i l Bound.total) e) ∙ h)))
+      (bool-cases (bad i l Bound.protected))
+
+  pub stuck-here : (i l : ℕ) → stepsKept i → linksKept i l → isOver N i l ≡ true → i < mostSteps → l < N .links → Refused 9 (i + 1) l ≡ plan (stuck (stuckAt N))
+  unfolding stuckAt firstOverload stepCount even stuck bad
+  stuck-here i l ei el h hi hl =
+      let f = found-at i l h in
+      ap (λ (n : ℕ). Refused 9 n l) (add-one i)
+      ∙ sym (ap (λ o. plan (stuck o)) (scan-at mostSteps (N .links) bad i l _ ei el (f .1) hi hl))
+
+  pub stuck-nowhere : stepsKept mostSteps → Refused 9 0 0 ≡ plan (stuck (stuckAt N))
+  unfolding stuckAt firstOverload stepCount even stuck
+  stuck-nowhere e = sym (ap (λ o. plan (stuck o)) (scan-end mostSteps (N .links) (worstOver N (even N mostSteps)) e))

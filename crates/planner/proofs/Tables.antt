@@ -1,0 +1,307 @@
+-- The laws of the tables of sums.
+use Prim.Native.Nat.{ℕ, suc, _+_, _-_, _*_, _/_, _^_, _≤_, _<_, max}
+use mathlib.Core.Path.{_≡_, refl, sym, ap, subst, _∙_}
+use mathlib.Core.Logic.{_≢_, ⊎-elim}
+use mathlib.Core.Bool.{Bool, true, false, cond, not, _&&_}
+use mathlib.Core.List.{List}
+use native.Mathlib.Omega.{arith}
+use native.Mathlib.Decide.{decLt}
+use native.Mathlib.Nat.{add-zero, mul-one, div-one, mul-le-mul, mul-le-mul-right}
+use lib.Dec.{eqb, ltb}
+use lib.Bits.{bitAnd}
+use lib.Count.{trailingZeros}
+use lib.ListN.{length, getD, set, replicate, length-set, length-replicate, getD-replicate}
+use lib.Seq.{getD-set-same, getD-set-other}
+use borrow.Author.Tests.{eq-eqb, ne-eqb, eqb-true, eqb-false, lt-ltb, le-ltb}
+use Rattle.model.specs.Limits.{mostLinks, mostTunnels, mostSteps, mostAmount}
+use Rattle.lists.specs.Lists.{at}
+use Rattle.model.specs.Sum.{sumOver}
+use Rattle.model.specs.Net.{Net}
+use Rattle.model.specs.Scan.{Bound}
+use Rattle.model.specs.Rule.{crosses, onLink, counts}
+use Rattle.model.proofs.Sums.{sum-zero, sum-take, sum-skip, sum-bound, sum-both}
+use Rattle.model.proofs.Searches.{bool-cases}
+use Rattle.planner.proofs.Digits.{digits-gone, none-left, next-from, next-set, next-below, next-left}
+use Rattle.planner.specs.Tables.{Part, tableSize, sumAt, amount, Room, Added, inSet, onPart, Table, unprotected, Loads, Joined, stepSum, endSum}
+
+-- ---- one link
+
+-- a store that adds x to the number at i
+store-at : (s : List ℕ) (i x j : ℕ) → i < length s → getD (set s i (getD s i 0 + x)) j 0 ≡ getD s j 0 + cond (eqb j i) x 0
+store-at s i x j h =
+    ⊎-elim
+    (λ e. let same : j ≡ i = eqb-true j i e in rw e (rw same (getD-set-same s i (getD s i 0 + x) 0 h)))
+    (λ e. rw e (getD-set-other s i j (getD s i 0 + x) 0 (eqb-false j i e) ∙ sym (add-zero _)))
+    (bool-cases (eqb j i))
+
+-- a store leaves the length and all other numbers
+pub stored-other : (s s₁ : List ℕ) (i x j : ℕ) → s₁ ≡ set s i x → (j ≡ i → ⊥) → (length s₁ ≡ length s) × (getD s₁ j 0 ≡ getD s j 0)
+stored-other s s₁ i x j e h = (ap length e ∙ length-set s i x, ap (λ (l : List ℕ). getD l j 0) e ∙ getD-set-other s i j x 0 h)
+
+eqb-shift : (k a b : ℕ) → eqb (k + a) (k + b) ≡ eqb a b
+eqb-shift k a b =
+    ⊎-elim
+    (λ e. let same : a ≡ b = eqb-true a b e in eq-eqb (k + a) (k + b) (omega arith) ∙ sym e)
+    (λ e. ne-eqb (k + a) (k + b) (λ q. eqb-false a b e (omega arith)) ∙ sym e)
+    (bool-cases (eqb a b))
+
+module _ (s s₁ s₂ s₃ : List ℕ) (link o n m : ℕ) (size : length s ≡ tableSize) (low : link < mostLinks)
+    (e₁ : s₁ ≡ set s link (getD s link 0 + o)) (e₂ : s₂ ≡ set s₁ (64 + link) (getD s₁ (64 + link) 0 + n)) (e₃ : s₃ ≡ set s₂ (128 + link) (getD s₂ (128 + link) 0 + m)) where
+  pub size₁ : length s₁ ≡ tableSize
+  size₁ = ap length e₁ ∙ length-set s link _ ∙ size
+
+  pub size₂ : length s₂ ≡ tableSize
+  size₂ = ap length e₂ ∙ length-set s₁ (64 + link) _ ∙ size₁
+
+  stored : (i : ℕ) → getD s₃ i 0 ≡ getD s i 0 + cond (eqb i link) o 0 + cond (eqb i (64 + link)) n 0 + cond (eqb i (128 + link)) m 0
+  stored i =
+      ap (λ (l : List ℕ). getD l i 0) e₃
+      ∙ store-at s₂ (128 + link) m i (omega (arith, size₂))
+      ∙ ap (λ (v : ℕ). v + cond (eqb i (128 + link)) m 0)
+      (ap (λ (l : List ℕ). getD l i 0) e₂
+      ∙ store-at s₁ (64 + link) n i (omega (arith, size₁))
+      ∙ ap (λ (v : ℕ). v + cond (eqb i (64 + link)) n 0)
+      (ap (λ (l : List ℕ). getD l i 0) e₁ ∙ store-at s link o i (omega (arith, size))))
+
+  stored-in : m ≡ max o n → (p : Part) (l : ℕ) → l < mostLinks → sumAt s₃ p l ≡ sumAt s p l + cond (eqb l link) (amount o n p) 0
+  stored-in e Part.old l h =
+      stored l ∙ rw (ne-eqb l (64 + link) (λ z. omega arith), ne-eqb l (128 + link) (λ z. omega arith)) (omega arith)
+  stored-in e Part.new l h =
+      stored (64 + l) ∙ rw (ne-eqb (64 + l) link (λ z. omega arith), eqb-shift 64 l link, ne-eqb (64 + l) (128 + link) (λ z. omega arith)) (omega arith)
+  stored-in e Part.peak l h =
+      stored (128 + l) ∙ rw (ne-eqb (128 + l) link (λ z. omega arith), ne-eqb (128 + l) (64 + link) (λ z. omega arith), eqb-shift 128 l link, e) (omega arith)
+
+  pub link-added : m ≡ max o n → Added (λ l. eqb l link) o n s s₃
+  link-added e = record { size = ap length e₃ ∙ length-set s₂ (128 + link) _ ∙ size₂ ∙ sym size; each = stored-in e }
+
+-- ---- several links
+
+-- amounts that are added on some links and then on others
+added-both : (c d e : ℕ → Bool) (o n : ℕ) (s s₁ s₂ : List ℕ) → Added c o n s s₁ → Added d o n s₁ s₂
+    → ((l x : ℕ) → l < mostLinks → cond (c l) x 0 + cond (d l) x 0 ≡ cond (e l) x 0) → Added e o n s s₂
+added-both c d e o n s s₁ s₂ a b h = record {
+  size = b .size ∙ a .size;
+  each = λ p l k. omega (arith, a .each p l k, b .each p l k, h l (amount o n p) k);
+}
+
+added-none : (o n : ℕ) (s : List ℕ) → Added (λ l. false) o n s s
+added-none o n s = record { size = refl; each = λ p l k. sym (add-zero _) }
+
+added-cong : (c d : ℕ → Bool) (o n : ℕ) (s s′ : List ℕ) → Added c o n s s′ → ((l : ℕ) → l < mostLinks → c l ≡ d l) → Added d o n s s′
+added-cong c d o n s s′ a h = record { size = a .size; each = λ p l k. a .each p l k ∙ ap (λ (b : Bool). sumAt s p l + cond b (amount o n p) 0) (h l k) }
+
+-- a tunnel's amounts make the sums those of one amount more
+amount-most : (o n : ℕ) → o ≤ mostAmount → n ≤ mostAmount → (p : Part) → amount o n p ≤ mostAmount
+amount-most o n ho hn Part.old = ho
+amount-most o n ho hn Part.new = hn
+amount-most o n ho hn Part.peak = omega arith
+
+cond-most : (b : Bool) (x : ℕ) → cond b x 0 ≤ x
+cond-most true x = omega arith
+cond-most false x = omega arith
+
+pub added-room : (c : ℕ → Bool) (o n : ℕ) (s s′ : List ℕ) → Added c o n s s′ → Room mostTunnels s → o ≤ mostAmount → n ≤ mostAmount → Room (mostTunnels + 1) s′
+added-room c o n s s′ a r ho hn = record {
+  size = a .size ∙ r .size;
+  most = λ p l h. omega (arith, a .each p l h, r .most p l h, cond-most (c l) (amount o n p), amount-most o n ho hn p);
+}
+
+-- the links of a set below a link
+abbrev passed : ℕ → ℕ → ℕ → Bool
+passed via link l = ltb l link && inSet via l
+
+-- on from a link to the next in the set: those between are not in it
+passed-on : (via link z : ℕ) → link ≤ z → ((j : ℕ) → link ≤ j → j < z → inSet via j ≡ false) → inSet via z ≡ true
+    → (l x : ℕ) → cond (passed via link l) x 0 + cond (eqb l z) x 0 ≡ cond (passed via (z + 1) l) x 0
+passed-on via link z up none one l x =
+    elim (decLt l link) [
+      | yes h ↦ rw (lt-ltb l link h, ne-eqb l z (λ q. omega arith), lt-ltb l (z + 1) (omega arith)) (add-zero _)
+      | no h ↦ rw (le-ltb l link (omega arith)) (beyond (omega arith))
+    ]
+  where
+    beyond : link ≤ l → 0 + cond (eqb l z) x 0 ≡ cond (passed via (z + 1) l) x 0
+    beyond h =
+        elim (decLt l z) [
+          | yes k ↦ rw (ne-eqb l z (λ q. omega arith), lt-ltb l (z + 1) (omega arith), none l h k) refl
+          | no k ↦ elim (decLt z l) [
+            | yes j ↦ rw (ne-eqb l z (λ q. omega arith), le-ltb l (z + 1) (omega arith)) refl
+            | no j ↦ (let e : l ≡ z = omega arith in rw e (rw (eq-eqb z z refl, lt-ltb z (z + 1) (omega arith), one) (omega arith)))
+          ]
+        ]
+
+passed-none : (via l : ℕ) → false ≡ passed via 0 l
+passed-none via l = sym (ap (λ (b : Bool). b && inSet via l) (le-ltb l 0 (omega arith)))
+
+-- where nothing of the set is left, all are passed
+passed-all : (via link : ℕ) → via / 2 ^ link ≡ 0 → (l : ℕ) → passed via link l ≡ inSet via l
+passed-all via link e l =
+    elim (decLt l link) [
+      | yes h ↦ ap (λ (b : Bool). b && inSet via l) (lt-ltb l link h)
+      | no h ↦ (let up : link ≤ l = omega arith in
+          ap (λ (b : Bool). b && inSet via l) (le-ltb l link up) ∙ sym (ap (λ (d : ℕ). eqb d 1) (digits-gone via link l e up)))
+    ]
+
+-- the table where the links of a set below a link are passed, and those from it on are left
+pub record Passing (via o n : ℕ) (s : List ℕ) (left : ℕ) (s′ : List ℕ) : Type 0 where
+  pub link : ℕ
+  pub left-from : left ≡ via / 2 ^ link * 2 ^ link
+  pub added : Added (passed via link) o n s s′
+
+module _ (via o n : ℕ) (s : List ℕ) where
+  pub passing-start : Passing via o n s via s
+  passing-start =
+      record { link = 0; left-from = sym (mul-one _ ∙ div-one via); added = added-cong (λ l. false) (passed via 0) o n s s (added-none o n s) (λ l h. passed-none via l) }
+
+  pub passing-on : (left : ℕ) (s₁ s₂ : List ℕ) → via < 2 ^ 64 → left ≢ 0 → Passing via o n s left s₁ → Added (λ l. eqb l (trailingZeros 64 left)) o n s₁ s₂
+      → Passing via o n s (bitAnd left (left - 1)) s₂
+  passing-on left s₁ s₂ fits some P a =
+      let z : ℕ = trailingZeros 64 left in
+      let l : ℕ = P .link in
+      let e = P .left-from in
+      record {
+        link = z + 1;
+        left-from = next-left via l left fits e some;
+        added = added-both (passed via l) (λ k. eqb k z) (passed via (z + 1)) o n s s₁ s₂ (P .added) a
+            (λ k x h. passed-on via l z (next-from via l left fits e some) (next-below via l left fits e some) (next-set via l left fits e some) k x);
+      }
+
+  pub passing-end : (left : ℕ) (s₁ : List ℕ) → Passing via o n s left s₁ → left ≡ 0 → Added (inSet via) o n s s₁
+  passing-end left s₁ P z =
+      added-cong (passed via (P .link)) (inSet via) o n s s₁ (P .added) (λ l h. passed-all via (P .link) (none-left via (P .link) (sym (P .left-from) ∙ z)) l)
+
+-- ---- two tables joined, place by place
+
+pub record Joining (i : ℕ) (s more s′ : List ℕ) : Type 0 where
+  pub size : length s′ ≡ tableSize
+  pub each : (k : ℕ) → at s′ k ≡ at s k + cond (ltb k i) (at more k) 0
+
+pub join-none : (s more : List ℕ) → length s ≡ tableSize → Joining 0 s more s
+join-none s more h = record { size = h; each = λ k. sym (ap (λ (b : Bool). at s k + cond b (at more k) 0) (le-ltb k 0 (omega arith)) ∙ add-zero _) }
+
+joined-at : (more : List ℕ) (i k : ℕ) → cond (ltb k i) (at more k) 0 + cond (eqb k i) (at more i) 0 ≡ cond (ltb k (i + 1)) (at more k) 0
+joined-at more i k =
+    elim (decLt k i) [
+      | yes h ↦ rw (lt-ltb k i h, ne-eqb k i (λ q. omega arith), lt-ltb k (i + 1) (omega arith)) (add-zero _)
+      | no h ↦ elim (decLt i k) [
+        | yes j ↦ rw (le-ltb k i (omega arith), ne-eqb k i (λ q. omega arith), le-ltb k (i + 1) (omega arith)) refl
+        | no j ↦ (let e : k ≡ i = omega arith in rw e (rw (le-ltb i i (omega arith), eq-eqb i i refl, lt-ltb i (i + 1) (omega arith)) (omega arith)))
+      ]
+    ]
+
+pub join-on : (i : ℕ) (s more s′ : List ℕ) → i < tableSize → Joining i s more s′ → Joining (i + 1) s more (set s′ i (at s′ i + at more i))
+join-on i s more s′ h j = record {
+  size = length-set s′ i _ ∙ j .size;
+  each = λ k. omega (arith, store-at s′ i (at more i) k (omega (arith, j .size)), j .each k, joined-at more i k);
+}
+
+pub join-all : (s more s′ : List ℕ) → Joining tableSize s more s′ → Joined s more s′
+join-all s more s′ j = record { size = j .size; each = λ k h. j .each k ∙ ap (λ (b : Bool). at s k + cond b (at more k) 0) (lt-ltb k tableSize h) }
+
+-- a number at a place that is passed later has not changed
+pub join-ahead : (i : ℕ) (s more s′ : List ℕ) → Joining i s more s′ → at s′ i ≡ at s i
+join-ahead i s more s′ j = j .each i ∙ ap (λ (b : Bool). at s i + cond b (at more i) 0) (le-ltb i i (omega arith)) ∙ add-zero _
+
+pub room-at : (n : ℕ) (s : List ℕ) → Room n s → (i : ℕ) → i < tableSize → at s i ≤ n * mostAmount
+room-at n s r i h =
+    elim (decLt i 64) [
+      | yes k ↦ r .most Part.old i k
+      | no k ↦ elim (decLt i 128) [
+        | yes j ↦ (let e : 64 + (i - 64) ≡ i = omega arith in subst (λ (m : ℕ). at s m ≤ n * mostAmount) e (r .most Part.new (i - 64) (omega arith)))
+        | no j ↦ (let e : 128 + (i - 128) ≡ i = omega arith in subst (λ (m : ℕ). at s m ≤ n * mostAmount) e (r .most Part.peak (i - 128) (omega arith)))
+      ]
+    ]
+
+-- ---- a table of tunnels
+
+-- what a part counts of a tunnel is its amount, on the links of its set
+part-amount : (N : Net) (l : ℕ) (p : Part) (t : ℕ) → onPart N l p t ≡ cond (inSet (N .via t) l) (amount (N .old t) (N .new t) p) 0
+unfolding onPart onLink crosses
+part-amount N l Part.old t = refl
+part-amount N l Part.new t = refl
+part-amount N l Part.peak t = cond-max (inSet (N .via t) l) (N .old t) (N .new t)
+  where
+    cond-max : (b : Bool) (x y : ℕ) → max (cond b x 0) (cond b y 0) ≡ cond b (max x y) 0
+    cond-max true x y = refl
+    cond-max false x y = refl
+
+sum-zeros : (p : Part) (l : ℕ) → l < mostLinks → sumAt (replicate tableSize 0) p l ≡ 0
+sum-zeros Part.old l h = getD-replicate tableSize l 0 0 (omega arith)
+sum-zeros Part.new l h = getD-replicate tableSize (64 + l) 0 0 (omega arith)
+sum-zeros Part.peak l h = getD-replicate tableSize (128 + l) 0 0 (omega arith)
+
+pub table-zero : (N : Net) (c : ℕ → Bool) (s : List ℕ) → s ≡ replicate tableSize 0 → Table N 0 c s
+table-zero N c s e = record {
+  size = ap length e ∙ length-replicate {A = ℕ} tableSize 0;
+  each = λ p l h. ap (λ (z : List ℕ). sumAt z p l) e ∙ sum-zeros p l h ∙ sym (sum-zero c (onPart N l p));
+}
+
+pub table-take : (N : Net) (t : ℕ) (c : ℕ → Bool) (s s′ : List ℕ) → Table N t c s → c t ≡ true → Added (inSet (N .via t)) (N .old t) (N .new t) s s′ → Table N (t + 1) c s′
+table-take N t c s s′ T e a = record {
+  size = a .size ∙ T .size;
+  each = λ p l h. omega (arith, a .each p l h, T .each p l h, part-amount N l p t, sum-take t c (onPart N l p) e);
+}
+
+pub table-skip : (N : Net) (t : ℕ) (c : ℕ → Bool) (s : List ℕ) → Table N t c s → c t ≡ false → Table N (t + 1) c s
+table-skip N t c s T e = record { size = T .size; each = λ p l h. T .each p l h ∙ sym (sum-skip t c (onPart N l p) e) }
+
+-- the amounts of a network's tunnels are in their range
+abbrev pub InRange : Net → Type 0
+InRange N = (N .tunnels ≤ mostTunnels) × ((t : ℕ) → t < N .tunnels → (N .old t ≤ mostAmount) × (N .new t ≤ mostAmount))
+
+-- so no sum is larger than all amounts together: what shows that the sums, and all that is computed from them, fit 64 bits
+pub table-room : (N : Net) (t : ℕ) (c : ℕ → Bool) (s : List ℕ) → Table N t c s → t ≤ N .tunnels → InRange N → Room mostTunnels s
+table-room N t c s T h r = record {
+  size = T .size;
+  most = λ p l k.
+      omega (
+        arith,
+        T .each p l k,
+        mul-le-mul-right mostAmount h,
+        mul-le-mul-right mostAmount (r .0),
+        sum-bound t c (onPart N l p) mostAmount (λ u g.
+            let a = r .1 u (omega arith) in
+            omega (arith, part-amount N l p u, cond-most (inSet (N .via u) l) (amount (N .old u) (N .new u) p), amount-most (N .old u) (N .new u) (a .0) (a .1) p)),
+      );
+}
+
+-- the sums of all classes are those of the protected ones and of the others together
+either-class : (b : Bool) (u : ℕ) → cond b u 0 + cond (not b) u 0 ≡ u
+either-class true u = add-zero u
+either-class false u = omega arith
+
+class-sum : (N : Net) (n : ℕ) (x : ℕ → ℕ) → sumOver n (counts N Bound.protected) x + sumOver n (unprotected N) x ≡ sumOver n (counts N Bound.total) x
+unfolding counts
+class-sum N n x = sum-both n (counts N Bound.protected) (unprotected N) (counts N Bound.total) x (λ t u. either-class (counts N Bound.protected t) u)
+
+joined-part : (s more s′ : List ℕ) → Joined s more s′ → (p : Part) (l : ℕ) → l < mostLinks → sumAt s′ p l ≡ sumAt s p l + sumAt more p l
+joined-part s more s′ j Part.old l h = j .each l (omega arith)
+joined-part s more s′ j Part.new l h = j .each (64 + l) (omega arith)
+joined-part s more s′ j Part.peak l h = j .each (128 + l) (omega arith)
+
+pub tables-join : (N : Net) (s more s′ : List ℕ) → Loads N Bound.protected more → Table N (N .tunnels) (unprotected N) s → Joined s more s′ → Loads N Bound.total s′
+tables-join N s more s′ P T j = record {
+  size = j .size;
+  each = λ p l h. omega (arith, joined-part s more s′ j p l h, P .each p l h, T .each p l h, class-sum N (N .tunnels) (onPart N l p));
+}
+
+-- ---- the figures computed from a table
+
+-- "96 tunnels and 50 steps; amounts up to 10,000,000": a load of a plan of even steps, in parts, has at most two such products, and 1500 times it fits 64 bits
+abbrev pub mostProduct : ℕ
+mostProduct = mostSteps * (mostTunnels * mostAmount)
+
+pub product-room : (k x : ℕ) → k ≤ mostSteps → x ≤ mostTunnels * mostAmount → k * x ≤ mostProduct
+product-room k x hk hx = mul-le-mul hk hx
+
+module _ (s : List ℕ) (r : Room mostTunnels s) (l : ℕ) (h : l < mostLinks) where
+  pub end-room : (q : ℕ) → q ≤ mostSteps → endSum s q l ≤ 2 * mostProduct
+  end-room q k =
+      omega (
+        arith,
+        r .most Part.peak l h,
+        product-room (q - 1) (max (at s l) (at s (64 + l))) (omega arith) (omega (arith, r .most Part.old l h, r .most Part.new l h)),
+      )
+
+  pub step-room : (i : ℕ) → i < mostSteps → stepSum s mostSteps i l ≤ 3 * mostProduct
+  step-room i k =
+      omega (arith, product-room (mostSteps - suc i) (at s l) (omega arith) (r .most Part.old l h), product-room i (at s (64 + l)) (omega arith) (r .most Part.new l h), r .most Part.peak l h)

@@ -1,0 +1,4 @@
+pub mod Tables
+pub mod Planned
+pub mod Search
+pub mod Claim

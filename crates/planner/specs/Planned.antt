@@ -1,0 +1,42 @@
+-- What the planner comes to, for every list.
+use Prim.Native.Nat.{ℕ, zero, suc, _-_}
+use mathlib.Core.List.{List, [], _∷_, _++_}
+use mathlib.Core.Option.{Option, none, some}
+use Rattle.model.specs.Outcome.{Outcome, good, refused, noEvenPlan}
+use Rattle.model.specs.Net.{Net}
+use Rattle.model.specs.Scan.{Overload, step}
+use Rattle.model.specs.Even.{evenRow, fewest, stuckAt}
+use Rattle.lists.specs.Lists.{networkOf}
+use Rattle.model.specs.Outcome.{andThen}
+use Rattle.forms.specs.Read.{judgeNetwork}
+
+-- x 0, x 1, .. x (n - 1)
+unfoldable pub listed : ℕ → (ℕ → ℕ) → List ℕ
+listed zero x = []
+listed (suc n) x = listed n x ++ x n ∷ []
+
+-- the rows 1 to n of the even plan of q steps, each tunnel by tunnel
+unfoldable pub evenRows : Net → ℕ → ℕ → List ℕ
+evenRows N q zero = []
+evenRows N q (suc n) = evenRows N q n ++ listed (N .tunnels) (evenRow N q (suc n))
+
+-- "`plan` 1; `parts` 1..50; `steps` 1..50; `tunnels` 0..96; then for each row 1 to steps-1, for each tunnel, `at`", where "the even plan of q steps has parts = q"
+unfoldable pub evenList : Net → ℕ → List ℕ
+evenList N q = (1 ∷ q ∷ q ∷ N .tunnels ∷ []) ++ evenRows N q (q - 1)
+
+-- "no even plan of 1 to 50 steps is accepted | 9 | where the 50-step plan first overloads: step; link". It overloads somewhere: `nine` of Claim.antt
+unfoldable pub stuck : Option Overload → Outcome (List ℕ)
+stuck none = refused noEvenPlan 0 0
+stuck (some o) = refused noEvenPlan (step o) (o .link)
+
+-- "The planner fills a plan list": the even plan of fewest steps, or refusal 9
+unfoldable pub byFewest : Net → Option ℕ → Outcome (List ℕ)
+byFewest N none = stuck (stuckAt N)
+byFewest N (some q) = good (evenList N q)
+
+unfoldable pub evenPlan : Net → Outcome (List ℕ)
+evenPlan N = byFewest N (fewest N)
+
+-- the planner's whole outcome. "Writers, planner and checker take lists and judge them by the same rules": the judge's refusal is passed on
+unfoldable pub planned : List ℕ → Outcome (List ℕ)
+planned l = andThen (judgeNetwork l) (λ g. evenPlan (networkOf g))

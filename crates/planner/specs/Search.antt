@@ -1,0 +1,19 @@
+-- What the search for the fewest even steps answers, and what is looked for where there is no plan.
+use Prim.Native.Nat.{ℕ}
+use mathlib.Core.Bool.{Bool, _||_}
+use mathlib.Core.Option.{Option, none, some}
+use Rattle.model.specs.Limits.{mostSteps}
+use Rattle.model.specs.Net.{Net}
+use Rattle.model.specs.Scan.{Bound}
+use Rattle.model.specs.Rule.{worstOver}
+use Rattle.model.specs.Even.{even}
+use Rattle.planner.specs.declared.steps.Fewest.{Fewest}
+use Rattle.planner.specs.declared.steps.Fewest.the-variants.{Steps, NoPlan}
+
+abbrev pub answered : Option ℕ → Fewest
+answered none = NoPlan
+answered (some q) = Steps q
+
+-- the plan of 50 steps breaks a bound on link l in the step from row i
+abbrev pub isOver : Net → ℕ → ℕ → Bool
+isOver N i l = worstOver N (even N mostSteps) i l Bound.protected || worstOver N (even N mostSteps) i l Bound.total

@@ -1,0 +1,52 @@
+// The planner: the even plan of fewest steps that is accepted.
+ghost use mathlib.Core.Path.{_≡_};
+ghost use lib.ListN.{length};
+ghost use Rattle.lists.specs.Answers.{withRoom, plan, lent};
+ghost use Rattle.lists.specs.Lists.{networkOf, GoodNetwork};
+ghost use Rattle.planner.specs.Planned.{evenPlan, planned};
+use crate::steps::Fewest;
+use forms::judge;
+use lists::Answer;
+
+mod rows;
+mod steps;
+mod sums;
+
+// Plans for a network whose list is judged good.
+fn plan_good(network: &[u64], out: &mut [u64]) -> Answer
+    requires { ⌜ GoodNetwork (now network) ⌝ }
+    ensures { λ r. ⌜ r ≡ plan (withRoom (length (now (out .entry))) (evenPlan (networkOf (now (network .entry))))) ⌝ }
+    ensures { λ _. ⌜ now (out .exit) ≡ lent (withRoom (length (now (out .entry))) (evenPlan (networkOf (now (network .entry))))) (now (out .entry)) ⌝ }
+{
+    let mut protected = [0u64; sums::TABLE];
+    let mut all = [0u64; sums::TABLE];
+    sums::gather(network, &mut protected, &mut all);
+    let fewest = steps::fewest_steps(network, &protected, &all);
+    let Fewest::Steps(q) = fewest else {
+        return steps::first_overload(network, &protected, &all);
+    };
+    let tunnels = network[5] as usize;
+    let size = 4 + (q - 1) as usize * tunnels;
+    if out.len() < size {
+        return Answer::Refused {
+            number: 10,
+            place: size as u64,
+            second: 0,
+        };
+    }
+    rows::write_plan(network, q, out);
+    Answer::Plan(size)
+}
+
+// Makes the even plan of fewest steps. Refuses a list that is no network, a network that no even plan of 1 to 50 steps suits, and an output without room; a refusal leaves
+// the output as it was.
+pub fn make_plan(network: &[u64], out: &mut [u64]) -> Answer
+    ensures { λ r. ⌜ r ≡ plan (withRoom (length (now (out .entry))) (planned (now (network .entry)))) ⌝ }
+    ensures { λ _. ⌜ now (out .exit) ≡ lent (withRoom (length (now (out .entry))) (planned (now (network .entry)))) (now (out .entry)) ⌝ }
+{
+    let judged = judge::judge_network(network);
+    let Answer::Done(_) = judged else {
+        return judged;
+    };
+    plan_good(network, out)
+}

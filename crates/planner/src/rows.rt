@@ -1,0 +1,45 @@
+// The plan list of an even plan.
+ghost use mathlib.Core.Path.{_≡_};
+ghost use mathlib.Core.List.{_++_};
+ghost use Prim.Native.Nat.{_≤_, _<_};
+ghost use lib.ListN.{length, drop};
+ghost use Rattle.model.specs.Limits.{mostSteps};
+ghost use Rattle.model.specs.Even.{evenRow};
+ghost use Rattle.lists.specs.Lists.{networkOf, GoodNetwork};
+ghost use Rattle.planner.specs.Planned.{listed, evenList};
+
+// Writes row a of the even plan of q steps.
+fn write_row(network: &[u64], q: u64, a: u64, row: &mut [u64])
+    requires { ⌜ GoodNetwork (now network) ⌝ }
+    requires { ⌜ (a ≤ q) × (q ≤ mostSteps) × (length (now row) ≡ networkOf (now network) .tunnels) ⌝ }
+    ensures { λ _. ⌜ now (row .exit) ≡ listed (networkOf (now (network .entry)) .tunnels) (evenRow (networkOf (now (network .entry))) q a) ⌝ }
+{
+    let tunnels_at = 6 + network[3] as usize + 2 * network[4] as usize;
+    let rest = q - a;
+    let mut t: usize = 0;
+    while t < row.len() {
+        let at = tunnels_at + 4 * t;
+        row[t] = rest * network[at + 2] + a * network[at + 3];
+        t += 1;
+    }
+}
+
+// Writes the plan list of the even plan of q steps, which has room.
+pub fn write_plan(network: &[u64], q: u64, out: &mut [u64])
+    requires { ⌜ GoodNetwork (now network) ⌝ }
+    requires { ⌜ (1 ≤ q) × (q ≤ mostSteps) × (length (evenList (networkOf (now network)) q) ≤ length (now out)) ⌝ }
+    ensures { λ _. ⌜ now (out .exit) ≡ evenList (networkOf (now (network .entry))) q ++ drop (length (evenList (networkOf (now (network .entry))) q)) (now (out .entry)) ⌝ }
+{
+    let tunnels = network[5] as usize;
+    out[0] = 1;
+    out[1] = q;
+    out[2] = q;
+    out[3] = network[5];
+    let mut at: usize = 4;
+    let mut done: u64 = 0;
+    while done < q - 1 {
+        done += 1;
+        write_row(network, q, done, &mut out[at..at + tunnels]);
+        at += tunnels;
+    }
+}
