@@ -53,7 +53,7 @@ fn add_tunnel(table: &mut [u64], via: u64, old: u64, new: u64)
     }
 }
 
-// One pass over the tunnels: each is added to one of the two tables.
+// One pass over the tunnels: the protected ones are added to the first table, the others to the second.
 fn split(network: &[u64], protected: &mut [u64], others: &mut [u64])
     requires { ⌜ GoodNetwork (now network) ⌝ }
     requires { ⌜ (now protected ≡ replicate tableSize 0) × (now others ≡ replicate tableSize 0) ⌝ }
