@@ -10,3 +10,4 @@ pub mod Gathering
 pub mod Lines
 pub mod Rendering
 pub mod Round
+pub mod Cases

@@ -183,6 +183,10 @@ width-of : (v : ℕ) → v < 10000000000 → Wide v (widthOf v) × (widthOf v �
 unfolding widthOf
 width-of v h = width-wide 9 1 v (lit≤ tt) h (inl refl)
 
+-- a number from 10^(n-1) on, or any where n is 1, and below 10^n, has n digits
+pub width-is : (v n : ℕ) → 1 ≤ n → n ≤ 10 → v < 10 ^ n → (n ≡ 1) ⊎ (10 ^ (n - 1) ≤ v) → widthOf v ≡ n
+width-is v n one most h a = wide-unique v (widthOf v) n (width-of v (omega (arith, h, ten n 10 most)) .0) (record { least = one; below = h; above = a })
+
 -- a number below 10^n has at most n digits
 pub width-most : (v n : ℕ) → 1 ≤ n → n ≤ 10 → v < 10 ^ n → widthOf v ≤ n
 width-most v n one most h = go (decLt n (widthOf v))

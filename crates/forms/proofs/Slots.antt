@@ -4,12 +4,13 @@ use mathlib.Core.Bool.{Bool, true, false, _&&_}
 use mathlib.Core.List.{List, [], _∷_}
 use Prim.Native.Nat.{ℕ, _+_, _*_, _≤_, _<_}
 use lib.Dec.{T, eqb, leb, leb→le, eqb→eq}
-use lib.ListN.{getD, take, drop}
+use lib.ListN.{replicate, getD, take, drop}
 use Rattle.forms.specs.Keys.{keyBytes, prefixOf}
 use Rattle.forms.proofs.Table.{at}
 
-abbrev pub lengths : List ℕ
-lengths = 4 ∷ 8 ∷ 8 ∷ 6 ∷ 6 ∷ 8 ∷ 4 ∷ 6 ∷ 5 ∷ 5 ∷ 4 ∷ 4 ∷ 4 ∷ 5 ∷ 6 ∷ 6 ∷ 3 ∷ []
+-- the number at the end of a slot
+abbrev pub slotLength : ℕ → ℕ
+slotLength k = getD keyBytes (k * 10 + 9) 0
 
 abbrev same : List ℕ → List ℕ → Bool
 same [] [] = true
@@ -30,10 +31,10 @@ same-eq (x ∷ xs) (y ∷ ys) t =
     ap (λ (a : ℕ). a ∷ xs) (eqb→eq x y (p .0)) ∙ ap (λ (l : List ℕ). y ∷ l) (same-eq xs ys (p .1))
 
 right : ℕ → ℕ → Bool
-right k n = leb (k * 10 + n) 170 && same (take n (drop (k * 10) keyBytes)) (prefixOf k)
+right k n = leb (k * 10 + slotLength k) 170 && same (take (slotLength k) (drop (k * 10) keyBytes)) (prefixOf k)
 
-pub slot : (k : ℕ) → k < 17 → (k * 10 + getD lengths k 0 ≤ 170) × (take (getD lengths k 0) (drop (k * 10) keyBytes) ≡ prefixOf k)
+pub slot : (k : ℕ) → k < 17 → (k * 10 + slotLength k ≤ 170) × (take (slotLength k) (drop (k * 10) keyBytes) ≡ prefixOf k)
 unfolding right
 slot k h =
-    let p = both (leb (k * 10 + getD lengths k 0) 170) (same (take (getD lengths k 0) (drop (k * 10) keyBytes)) (prefixOf k)) (at right lengths tt k h) in
+    let p = both (leb (k * 10 + slotLength k) 170) (same (take (slotLength k) (drop (k * 10) keyBytes)) (prefixOf k)) (at right (replicate 17 0) tt k h) in
     (leb→le _ _ (p .0), same-eq _ _ (p .1))

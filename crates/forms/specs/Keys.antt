@@ -81,10 +81,10 @@ keyTable =
 abbrev pub prefixOf : ℕ → List ℕ
 prefixOf k = getD keyTable k []
 
--- the same as one table of bytes, as the code has it: each in 10 bytes, filled up with zeros
+-- the same as one table of bytes, as the code has it: each in 10 bytes, filled up with zeros, of which the last says how many are the key's
 abbrev pub slots : List (List ℕ) → List ℕ
 slots [] = []
-slots (k ∷ ks) = k ++ (replicate (10 - length k) 0 ++ slots ks)
+slots (k ∷ ks) = k ++ (replicate (9 - length k) 0 ++ (length k ∷ slots ks))
 
 abbrev pub keyBytes : List ℕ
 keyBytes = slots keyTable

@@ -38,9 +38,9 @@ pub record FileForm (form : Form) : Type 0 where
 
 -- the two round trips, over what the operations come to with the room that is lent to each
 pub record RoundTrip (form : Form) : Type 0 where
-  -- "for every text that a reader takes, writing the list that it gives yields that text"
+  -- for every text that a reader takes, writing the list that it gives yields that text
   pub text-again : (text l : List ℕ) (room space : ℕ) → withRoom room (readText form text) ≡ good l → length text ≤ space
       → withRoom space (writeText form l) ≡ good text
-  -- "for every good list with room, reading what the writer writes yields the list"
+  -- for every good list with room, reading what the writer writes yields the list
   pub list-again : (l text : List ℕ) (space room : ℕ) → withRoom space (writeText form l) ≡ good text → length l ≤ room
       → withRoom room (readText form text) ≡ good l

@@ -65,11 +65,9 @@ const STEPS: usize = 15;
 
 const AT: usize = 16;
 
-// The keys' bytes with `=`, each in 10 bytes, and how many of the 10 are the key's.
+// The keys' bytes with `=`, each in 10 bytes, of which the last says how many the key has.
 pub const KEYS: [u8; 170] =
-    *b"net=\0\0\0\0\0\0scratch=\0\0overrun=\0\0links=\0\0\0\0flows=\0\0\0\0tunnels=\0\0cap=\0\0\0\0\0\0class=\0\0\0\0rate=\0\0\0\0\0flow=\0\0\0\0\0via=\0\0\0\0\0\0old=\0\0\0\0\0\0new=\0\0\0\0\0\0plan=\0\0\0\0\0parts=\0\0\0\0steps=\0\0\0\0at=\0\0\0\0\0\0\0";
-
-const LENGTHS: [usize; 17] = [4, 8, 8, 6, 6, 8, 4, 6, 5, 5, 4, 4, 4, 5, 6, 6, 3];
+    *b"net=\0\0\0\0\0\x04scratch=\0\x08overrun=\0\x08links=\0\0\0\x06flows=\0\0\0\x06tunnels=\0\x08cap=\0\0\0\0\0\x04class=\0\0\0\x06rate=\0\0\0\0\x05flow=\0\0\0\0\x05via=\0\0\0\0\0\x04old=\0\0\0\0\0\x04new=\0\0\0\0\0\x04plan=\0\0\0\0\x05parts=\0\0\0\x06steps=\0\0\0\x06at=\0\0\0\0\0\0\x03";
 
 // What stands before a value, the key and `=`: a part of the table of keys, which the caller has copied once.
 pub fn key_part<'a>(keys: &'a [u8], key: usize) -> &'a [u8]
@@ -78,7 +76,7 @@ pub fn key_part<'a>(keys: &'a [u8], key: usize) -> &'a [u8]
 {
     if key < 17 {
         let from = key * 10;
-        let to = from + LENGTHS[key];
+        let to = from + keys[from + 9] as usize;
         &keys[from..to]
     } else {
         &keys[..0]

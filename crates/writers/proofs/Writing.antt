@@ -10,7 +10,7 @@ use lib.Dec.{lit≤}
 use lib.ListN.{take-append-drop, length, getD, take, drop, set, length-append, length-take, length-drop}
 use lib.Seq.{take-add, take-append-le, take-append-seam, drop-append-seam, length-take-le, take-take, take-at, drop-at, drop-drop, set-split, take-length, paste, paste-suc}
 use borrow.Author.Tests.{lt-ltb, le-ltb}
-use Rattle.forms.specs.Form.{Sound}
+use Rattle.forms.specs.Form.{Whole}
 use Rattle.forms.specs.Write.{digitChar, digitsIn, widthFrom}
 use Rattle.forms.specs.declared.form.Form.{Form}
 use Rattle.model.specs.Outcome.{good}
@@ -172,13 +172,19 @@ module _ (out r line rest : List ℕ) (at : ℕ) (fits : length r ≤ length out
       rw (take-add at (length line) r, e, take-append-seam line rest)
       (rw p at (placed-more out 0 (take at r) line (omega (arith, whole))))
 
+-- nothing is left of a list past its end
+pub dropped-all : (n : ℕ) (l : List ℕ) → n ≤ length l → drop n l ≡ [] → n ≡ length l
+dropped-all n l h e =
+    let z : length (drop n l) ≡ 0 = ap length e in
+    omega (arith, length-drop n l)
+
 pub take-whole : (n : ℕ) (l : List ℕ) → drop n l ≡ [] → take n l ≡ l
 take-whole n l e = sym (append-nil (take n l)) ∙ rw (← e) (take-append-drop n l)
 
 -- ---- a list that the judge answers for
 
-pub judged-done : (form : Form) (l : List ℕ) (n : ℕ) → done (judgeList form l) ≡ Done n → (judgeList form l ≡ good l) × Sound form l
+pub judged-done : (form : Form) (l : List ℕ) (n : ℕ) → done (judgeList form l) ≡ Done n → (judgeList form l ≡ good l) × Whole form l
 judged-done form l n e =
     let p = done-good (judgeList form l) n e in
     let j = judged-good form l (p .0) (p .1) in
-    (p .1 ∙ ap good (j .same), j .whole .sound)
+    (p .1 ∙ ap good (j .same), j .whole)

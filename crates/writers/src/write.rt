@@ -7,7 +7,7 @@ ghost use lib.ListN.{length, drop};
 ghost use Rattle.model.specs.Outcome.{Outcome};
 ghost use Rattle.lists.specs.Answers.{done, withRoom, lent};
 ghost use Rattle.forms.specs.Keys.{keyBytes};
-ghost use Rattle.forms.specs.Form.{isHex, Sound};
+ghost use Rattle.forms.specs.Form.{isHex, Sound, Whole};
 ghost use Rattle.forms.specs.Write.{digitChar, digitsIn, widthOf, baseOf, digitCount, lineOf, render, writeNetwork, writePlan};
 ghost use Rattle.writers.specs.Write.{placed};
 use forms::form;
@@ -17,18 +17,42 @@ use forms::form::Range;
 use forms::judge;
 use lists::Answer;
 
+// No valid text is longer, so that none has to be measured where there is so much room.
+const BYTES: usize = 65_536;
+
 // How many decimal digits a number has.
 fn width(v: u64) -> usize
     requires { ⌜ v < 10000000000 ⌝ }
     ensures { λ r. ⌜ (r ≡ widthOf v) × (r ≤ 10) ⌝ }
 {
-    let mut n: usize = 1;
-    let mut p: u64 = 10;
-    while p <= v {
-        p = p * 10;
-        n += 1;
+    if v < 10 {
+        return 1;
     }
-    n
+    if v < 100 {
+        return 2;
+    }
+    if v < 1_000 {
+        return 3;
+    }
+    if v < 10_000 {
+        return 4;
+    }
+    if v < 100_000 {
+        return 5;
+    }
+    if v < 1_000_000 {
+        return 6;
+    }
+    if v < 10_000_000 {
+        return 7;
+    }
+    if v < 100_000_000 {
+        return 8;
+    }
+    if v < 1_000_000_000 {
+        return 9;
+    }
+    10
 }
 
 // How many digits a value has.
@@ -66,6 +90,19 @@ fn measure(form: Form, keys: &[u8], list: &[u64]) -> usize
         i += 1;
     }
     n
+}
+
+// How many bytes a list is written as, where that may be more than the room; else a number within it.
+fn needed(form: Form, keys: &[u8], list: &[u64], room: usize) -> usize
+    requires { ⌜ now keys ≡ keyBytes ⌝ }
+    requires { ⌜ Whole form (now list) ⌝ }
+    ensures { λ r. ⌜ (room < r → r ≡ length (render form (now (list .entry)))) ⌝ }
+    ensures { λ r. ⌜ (r ≤ room → length (render form (now (list .entry))) ≤ room) ⌝ }
+{
+    if BYTES <= room {
+        return 0;
+    }
+    measure(form, keys, list)
 }
 
 // Puts some bytes at a place.
@@ -131,12 +168,13 @@ fn put_line(out: &mut [u8], at: usize, keys: &[u8], key: usize, range: Range, v:
     end + 1
 }
 
-// Writes the lines of a list.
-fn write_lines(form: Form, keys: &[u8], list: &[u64], out: &mut [u8])
+// Writes the lines of a list, and answers how many bytes they have.
+fn write_lines(form: Form, keys: &[u8], list: &[u64], out: &mut [u8]) -> usize
     requires { ⌜ now keys ≡ keyBytes ⌝ }
     requires { ⌜ Sound form (now list) ⌝ }
     requires { ⌜ length (render form (now list)) ≤ length (now out) ⌝ }
-    ensures { λ _. ⌜ now (out .exit) ≡ render form (now (list .entry)) ++ drop (length (render form (now (list .entry)))) (now (out .entry)) ⌝ }
+    ensures { λ r. ⌜ r ≡ length (render form (now (list .entry))) ⌝ }
+    ensures { λ r. ⌜ now (out .exit) ≡ render form (now (list .entry)) ++ drop (length (render form (now (list .entry)))) (now (out .entry)) ⌝ }
 {
     let count = list.len();
     let mut at: usize = 0;
@@ -144,21 +182,22 @@ fn write_lines(form: Form, keys: &[u8], list: &[u64], out: &mut [u8])
     while i < count {
         let field = form::field_after(form, &list[..i]);
         let Field::Line(key, range) = field else {
-            return;
+            return at;
         };
         at = put_line(out, at, keys, key, range, list[i]);
         i += 1;
     }
+    at
 }
 
 // Writes a list that is judged good, where there is room for it.
 fn write_good(form: Form, list: &[u64], out: &mut [u8]) -> Answer
-    requires { ⌜ Sound form (now list) ⌝ }
+    requires { ⌜ Whole form (now list) ⌝ }
     ensures { λ r. ⌜ r ≡ done (withRoom (length (now (out .entry))) (Outcome.good (render form (now (list .entry))))) ⌝ }
     ensures { λ r. ⌜ now (out .exit) ≡ lent (withRoom (length (now (out .entry))) (Outcome.good (render form (now (list .entry))))) (now (out .entry)) ⌝ }
 {
     let keys = form::KEYS;
-    let n = measure(form, &keys, list);
+    let n = needed(form, &keys, list, out.len());
     if out.len() < n {
         return Answer::Refused {
             number: 10,
@@ -166,8 +205,8 @@ fn write_good(form: Form, list: &[u64], out: &mut [u8]) -> Answer
             second: 0,
         };
     }
-    write_lines(form, &keys, list, out);
-    Answer::Done(n)
+    let end = write_lines(form, &keys, list, out);
+    Answer::Done(end)
 }
 
 // Writes the list of a network as a text.

@@ -1,43 +1,52 @@
 -- `writers::write::width` meets its contract. Assumes nothing.
-use Prim.Native.Nat.{_≤_, _<_, _-_, _^_}
-use mathlib.Core.Path.{_≡_, refl, sym, _∙_}
+use mathlib.Core.Path.{sym, refl}
+use mathlib.Core.Logic.{inl, inr}
 use native.Mathlib.Omega.{arith}
-use native.Mathlib.Numerals.{add-one}
-use native.Mathlib.Nat.{pow-suc}
-use Rattle.forms.specs.Write.{widthFrom, widthOf}
-use Rattle.writers.proofs.Writing.{width-more, width-found, width-room}
-use borrow.Author.Needs.{needs}
+use Rattle.forms.proofs.Numbers.{width-is}
 use Rattle.writers.proofs.write.width.Statement.{statement}
 use Rattle.writers.proofs.write.width.Tie as tie
 
-abbrev Inv-loop : tie.InvT-loop
-Inv-loop v n₀ p₀ n p = (n ≤ 10) × ((p ≡ 10 ^ n) × (widthOf v ≡ widthFrom (10 - n) n v))
+returns : tie.Need-returns
+returns c = (sym (width-is _ 1 (omega arith) (omega arith) (c .if1 .taken) (inl refl)), omega arith)
 
-abbrev μ-loop : tie.MeasureT-loop
-μ-loop v n₀ p₀ n p = 10 - n
+returns-2 : tie.Need-returns-2
+returns-2 c = (sym (width-is _ 2 (omega arith) (omega arith) (c .if2 .taken) (inr (c .before .if1 .left))), omega arith)
 
-room : (c : tie.In-loop Inv-loop μ-loop) → c .before .loop .n < 10
-room c = width-room (c .before .before .args .v) _ (c .before .before .pre) (rw (c .before .loop .inv .1 .0) at (c .loop-test .taken))
+returns-3 : tie.Need-returns-3
+returns-3 c = (sym (width-is _ 3 (omega arith) (omega arith) (c .if3 .taken) (inr (c .before .if2 .left))), omega arith)
 
-loop-holds : tie.Need-loop-holds Inv-loop μ-loop
-unfolding widthOf
-loop-holds c = (search needs, (refl, refl))
+returns-4 : tie.Need-returns-4
+returns-4 c = (sym (width-is _ 4 (omega arith) (omega arith) (c .if4 .taken) (inr (c .before .if3 .left))), omega arith)
 
-mul-p : tie.Need-mul-p Inv-loop μ-loop
-mul-p c = omega arith
+returns-5 : tie.Need-returns-5
+returns-5 c = (sym (width-is _ 5 (omega arith) (omega arith) (c .if5 .taken) (inr (c .before .if4 .left))), omega arith)
 
-add-n : tie.Need-add-n Inv-loop μ-loop
-add-n c = omega (arith, room c)
+returns-6 : tie.Need-returns-6
+returns-6 c = (sym (width-is _ 6 (omega arith) (omega arith) (c .if6 .taken) (inr (c .before .if5 .left))), omega arith)
 
-loop-less : tie.Need-loop-less Inv-loop μ-loop
-loop-less c = omega (arith, room c)
+returns-7 : tie.Need-returns-7
+returns-7 c = (sym (width-is _ 7 (omega arith) (omega arith) (c .if7 .taken) (inr (c .before .if6 .left))), omega arith)
 
-loop-again : tie.Need-loop-again Inv-loop μ-loop
-loop-again c = (omega (arith, room c), (rw (c .before .loop .inv .1 .0, add-one, pow-suc), c .before .loop .inv .1 .1 ∙ width-more _ _ (room c) (rw (c .before .loop .inv .1 .0) at (c .loop-test .taken))))
+returns-8 : tie.Need-returns-8
+returns-8 c = (sym (width-is _ 8 (omega arith) (omega arith) (c .if8 .taken) (inr (c .before .if7 .left))), omega arith)
 
-returns : tie.Need-returns Inv-loop μ-loop
-returns c = (sym (c .before .loop .inv .1 .1 ∙ width-found _ _ _ (rw (c .before .loop .inv .1 .0) at (c .loop-test .left))), c .before .loop .inv .0)
+returns-9 : tie.Need-returns-9
+returns-9 c = (sym (width-is _ 9 (omega arith) (omega arith) (c .if9 .taken) (inr (c .before .if8 .left))), omega arith)
+
+returns-10 : tie.Need-returns-10
+returns-10 c = (sym (width-is _ 10 (omega arith) (omega arith) (c .before .before .before .before .before .before .before .before .before .pre) (inr (c .if9 .left))), omega arith)
 
 pub width-spec : {M : Type 1} → statement M
 width-spec =
-    tie.close (tie.spec Inv-loop μ-loop loop-holds mul-p add-n loop-less loop-again returns)
+    tie.close
+    (tie.spec
+    returns
+    returns-2
+    returns-3
+    returns-4
+    returns-5
+    returns-6
+    returns-7
+    returns-8
+    returns-9
+    returns-10)

@@ -12,7 +12,7 @@ use Rattle.forms.specs.declared.form.Field.the-variants.{Line}
 use Rattle.forms.proofs.Forms.{sound-take}
 use Rattle.writers.specs.Write.{placed}
 use Rattle.forms.proofs.Rendering.{not-end, at-most, short-value, next-line, render-end}
-use Rattle.writers.proofs.Writing.{line-fits, line-within, line-rest, line-placed, length-placed, placed-none, placed-front, take-whole}
+use Rattle.writers.proofs.Writing.{line-fits, line-within, line-rest, line-placed, length-placed, placed-none, placed-front, take-whole, dropped-all}
 use borrow.Author.Needs.{needs}
 use Rattle.writers.proofs.write.write_lines.Statement.{statement}
 use Rattle.writers.proofs.write.write_lines.Tie as tie
@@ -140,9 +140,10 @@ same-length-2 c = kept (c .before)
 returns-2 : tie.Need-returns-2 Inv-loop μ-loop
 returns-2 c =
     let h = c .before in
-    h .loop .inv .written
-    ∙ ap (λ (x : List ℕ). placed (lent h) 0 x) (take-whole (h .loop .at) (text h) (h .loop .inv .rest ∙ render-end (begin h .args .form) _ (whole h) (h .loop .i) (c .loop-test .left)))
-    ∙ placed-front (lent h) (text h)
+    let e = h .loop .inv .rest ∙ render-end (begin h .args .form) _ (whole h) (h .loop .i) (c .loop-test .left) in (
+      dropped-all (h .loop .at) (text h) (h .loop .inv .at-within) e,
+      h .loop .inv .written ∙ ap (λ (x : List ℕ). placed (lent h) 0 x) (take-whole (h .loop .at) (text h) e) ∙ placed-front (lent h) (text h),
+    )
 
 pub write-lines-spec : {M : Type 1} → statement M
 write-lines-spec =

@@ -1,7 +1,7 @@
 -- `writers::write::write_plan` meets its contract. Assumes nothing.
 use mathlib.Core.Path.{_≡_, sym, _∙_}
 use Rattle.model.specs.Outcome.{good}
-use Rattle.forms.specs.Form.{Sound}
+use Rattle.forms.specs.Form.{Whole}
 use Rattle.forms.specs.Read.{judgeList}
 use Rattle.forms.specs.Write.{render, writeText}
 use Rattle.forms.specs.declared.form.Form.the-variants.{Plan}
@@ -11,7 +11,7 @@ use borrow.Author.Needs.{needs}
 use Rattle.writers.proofs.write.write_plan.Statement.{statement}
 use Rattle.writers.proofs.write.write_plan.Tie as tie
 
-accepted : (c : tie.After-enum-told) → (judgeList Plan (c .before .before .before .before .before .args .list .now) ≡ good (c .before .before .before .before .before .args .list .now)) × Sound Plan (c .before .before .before .before .before .args .list .now)
+accepted : (c : tie.After-enum-told) → (judgeList Plan (c .before .before .before .before .before .args .list .now) ≡ good (c .before .before .before .before .before .args .list .now)) × Whole Plan (c .before .before .before .before .before .args .list .now)
 accepted c = judged-done Plan _ _ (sym (c .before .before .judge-plan .ensures) ∙ c .enum-told .given .1)
 
 judge-plan-requires : tie.Need-judge-plan-requires

@@ -1,0 +1,77 @@
+-- The session's network text, read and written by the definitions, and texts that are refused: antt computes each. Assumes nothing.
+use mathlib.Core.Path.{_≡_, refl}
+use mathlib.Core.List.{List, [], _∷_, _++_}
+use Prim.Native.Nat.{ℕ}
+use Rattle.model.specs.Outcome.{good, refused, malformed, outOfRange, missing, missedRate}
+use Rattle.model.specs.Sum.{sumOver}
+use Rattle.model.specs.Search.{onlyIf, orElse, first}
+use Rattle.model.specs.Rule as rule
+use Rattle.lists.specs.Lists.{networkOf}
+use Rattle.forms.specs.Bytes.{bytes}
+use Rattle.forms.specs.Line.{lines, onFirst, valuePart, beforeFeed, digitOf, numberFrom, decimalOf, hexOf}
+use Rattle.forms.specs.Form.{fieldOf, networkField, networkBody, planField}
+use Rattle.forms.specs.Read.{walk, readLines, addUp, readNetwork, readPlan}
+use Rattle.forms.specs.Write.{render, renderFrom, digitsIn, widthOf, widthFrom}
+use Rattle.forms.specs.declared.form.Form.the-variants.{Network}
+
+-- "One session in full"
+abbrev head : List ℕ
+head = bytes "net=1\nscratch=333\noverrun=0\nlinks=2\nflows=2\ntunnels=4\n"
+
+abbrev flows : List ℕ
+flows = bytes "class=0\nrate=10\nclass=0\nrate=10\n"
+
+abbrev tunnels : List ℕ
+tunnels =
+    bytes "flow=0\nvia=0000000000000001\nold=10\nnew=0\nflow=0\nvia=0000000000000002\nold=0\nnew=10\n"
+    ++ bytes "flow=1\nvia=0000000000000002\nold=10\nnew=0\nflow=1\nvia=0000000000000001\nold=0\nnew=10\n"
+
+session : List ℕ
+session = head ++ (bytes "cap=15\ncap=15\n" ++ (flows ++ tunnels))
+
+network : List ℕ
+network = 1 ∷ 333 ∷ 0 ∷ 2 ∷ 2 ∷ 4 ∷ 15 ∷ 15 ∷ 0 ∷ 10 ∷ 0 ∷ 10 ∷ 0 ∷ 1 ∷ 10 ∷ 0 ∷ 0 ∷ 2 ∷ 0 ∷ 10 ∷ 1 ∷ 2 ∷ 10 ∷ 0 ∷ 1 ∷ 1 ∷ 0 ∷ 10 ∷ []
+
+reads : readNetwork session ≡ good network
+unfolding network session readLines walk lines onFirst valuePart beforeFeed digitOf numberFrom decimalOf hexOf fieldOf networkField networkBody addUp networkOf rule.missedRate rule.missedBy rule.flowSum sumOver onlyIf orElse first
+reads = refl
+
+writes : render Network network ≡ session
+unfolding network session render renderFrom digitsIn widthOf widthFrom fieldOf networkField networkBody
+writes = refl
+
+-- "Empty network text: 3 at line 1. `cap=007`: 1. `cap=10000001`: 2."
+empty-text : readNetwork [] ≡ refused missing 1 0
+unfolding readLines walk lines fieldOf networkField networkBody
+empty-text = refl
+
+leading-zero : readNetwork (head ++ bytes "cap=007\n") ≡ refused malformed 7 0
+unfolding readLines walk lines onFirst valuePart beforeFeed digitOf numberFrom decimalOf hexOf fieldOf networkField networkBody
+leading-zero = refl
+
+large-cap : readNetwork (head ++ bytes "cap=10000001\n") ≡ refused outOfRange 7 0
+unfolding readLines walk lines onFirst valuePart beforeFeed digitOf numberFrom decimalOf hexOf fieldOf networkField networkBody
+large-cap = refl
+
+wrong-key : readNetwork (head ++ bytes "cup=7\n") ≡ refused malformed 7 0
+unfolding readLines walk lines onFirst valuePart beforeFeed digitOf numberFrom decimalOf hexOf fieldOf networkField networkBody
+wrong-key = refl
+
+-- `flow` when `flows` is 0
+no-flow : readNetwork (bytes "net=1\nscratch=20\noverrun=20\nlinks=1\nflows=0\ntunnels=1\ncap=0\nflow=0\n") ≡ refused outOfRange 8 0
+unfolding readLines walk lines onFirst valuePart beforeFeed digitOf numberFrom decimalOf hexOf fieldOf networkField networkBody
+no-flow = refl
+
+-- a missing last line feed, and bytes after the last line
+no-feed : readPlan (bytes "plan=1\nparts=1\nsteps=1\ntunnels=0") ≡ refused malformed 4 1
+unfolding readLines walk lines onFirst valuePart beforeFeed digitOf numberFrom decimalOf hexOf fieldOf planField
+no-feed = refl
+
+more-bytes : readPlan (bytes "plan=1\nparts=1\nsteps=1\ntunnels=0\n\n") ≡ refused missing 5 1
+unfolding readLines walk lines onFirst valuePart beforeFeed digitOf numberFrom decimalOf hexOf fieldOf planField
+more-bytes = refl
+
+-- a flow's new amounts miss its rate
+missed-new : readNetwork (bytes "net=1\nscratch=20\noverrun=0\nlinks=1\nflows=1\ntunnels=1\ncap=0\nclass=2\nrate=5\nflow=0\nvia=0000000000000001\nold=5\nnew=4\n") ≡ refused missedRate 0 1
+unfolding readLines walk lines onFirst valuePart beforeFeed digitOf numberFrom decimalOf hexOf fieldOf networkField networkBody addUp networkOf rule.missedRate rule.missedBy rule.flowSum sumOver onlyIf orElse first
+missed-new = refl
