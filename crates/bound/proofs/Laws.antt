@@ -1,11 +1,11 @@
 -- What the step bound's definition says, case by case.
 use Prim.Native.Nat.{ℕ, suc, zero, _-_, _≤_, _<_, max}
-use mathlib.Core.Path.{_≡_, refl, ap}
+use mathlib.Core.Path.{_≡_, refl}
 use mathlib.Core.Logic.{_≢_}
-use mathlib.Core.Bool.{Bool, true, false, cond, _&&_, _||_}
+use mathlib.Core.Bool.{Bool, true, false, _||_}
 use native.Mathlib.Omega.{arith}
+use borrow.Author.Tests.{leb-true, ne-eqb}
 use lib.Dec.{leb, eqb}
-use borrow.Author.Tests.{leb-true, eq-eqb, ne-eqb}
 use Rattle.model.specs.Outcome.{good, refused, outOfRange}
 use Rattle.model.specs.Even.{ceilDiv, stepBound}
 use Rattle.model.proofs.Searches.{and-true}

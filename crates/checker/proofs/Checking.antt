@@ -1,18 +1,17 @@
 -- What an answer and the marks have to do with the checker's outcome.
-use Prim.Native.Nat.{ℕ, suc, _+_, _≤_, _<_}
+use Prim.Native.Nat.{ℕ, _+_, _≤_, _<_}
 use mathlib.Core.Path.{_≡_, refl, sym, ap, ap₂, _∙_, subst}
 use mathlib.Core.Logic.{_≢_}
-use mathlib.Core.Bool.{Bool, false, cond}
+use mathlib.Core.Bool.{false}
 use mathlib.Core.List.{List, _++_}
 use mathlib.Core.Option.{Option, none, some}
 use native.Mathlib.Omega.{arith}
 use native.Mathlib.Numerals.{add-one}
-use lib.Dec.{eqb, leb}
 use borrow.Author.Tests.{le-leb, lt-leb, eq-eqb, ne-eqb}
 use lib.ListN.{length, drop}
 use Rattle.model.specs.Outcome.{Outcome, good, refused, andThen, number, otherTunnels, missedRow, noRoom}
 use Rattle.model.specs.Net.{Net, Plan}
-use Rattle.model.specs.Scan.{Bound, Overload, cause, step}
+use Rattle.model.specs.Scan.{Overload, cause}
 use Rattle.model.specs.Rule.{Place, stepCount, firstOverload, mark}
 use Rattle.model.specs.Rule as rule
 use Rattle.model.proofs.Choices.{marked-overloads}
@@ -23,7 +22,7 @@ use Rattle.lists.specs.declared.Answer.the-variants.{Done, Plan as Planned, Ref
 use Rattle.forms.specs.Read.{judgeNetwork, judgePlan}
 use Rattle.forms.proofs.Answers.{done-good}
 use Rattle.forms.proofs.Good.{good-network, good-plan}
-use Rattle.checker.specs.Check.{foundOf, missedOf, unlessMissed, weighSteps, weigh, weighPlan, verdict, checked, marksOf, marksAfter, marksAt}
+use Rattle.checker.specs.Check.{foundOf, missedOf, weighSteps, weigh, weighPlan, verdict, checked, marksOf, marksAfter, marksAt}
 use Rattle.checker.specs.declared.steps.Found.the-variants.{Nothing, At}
 use Rattle.checker.specs.declared.sums.Missed.the-variants as missed
 

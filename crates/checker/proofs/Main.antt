@@ -1,12 +1,11 @@
 -- The claim of the checker holds.
-use Prim.Native.Nat.{ℕ, _≤_, _<_}
+use Prim.Native.Nat.{ℕ}
 use mathlib.Core.Path.{_≡_, refl, sym, ap, ap₂, _∙_}
-use mathlib.Core.Logic.{_↔_}
 use mathlib.Core.List.{List}
 use mathlib.Core.Option.{Option, none, some}
-use lib.Dec.{eqb, leb}
 use borrow.Author.Tests.{leb-true, le-leb, eqb-true, eq-eqb}
-use Rattle.model.specs.Outcome.{Outcome, good, refused}
+use lib.Dec.{eqb, leb}
+use Rattle.model.specs.Outcome.{Outcome, good}
 use Rattle.model.specs.Scan.{Overload}
 use Rattle.model.specs.Rule.{Place, firstOverload, missedRow}
 use Rattle.model.proofs.Outcomes.{good-refused, then-good, cond-good, good-same}

@@ -1,5 +1,5 @@
 -- Laws of the list of marks.
-use Prim.Native.Nat.{ℕ, zero, suc, _+_, _/_, _%_, _^_, _≤_, _<_}
+use Prim.Native.Nat.{ℕ, zero, suc, _+_, _/_, _%_, _^_, _<_}
 use mathlib.Core.Path.{_≡_, refl, sym, ap, ap₂, _∙_}
 use mathlib.Core.Bool.{Bool, cond, _&&_}
 use mathlib.Core.List.{List, [], _∷_, _++_, append-assoc}
@@ -9,7 +9,6 @@ use lib.Dec.{eqb, ltb}
 use lib.ListN.{length, getD, set, drop, length-append}
 use lib.Seq.{drop-cons, set-at}
 use Rattle.model.specs.Net.{Net, Plan, row}
-use Rattle.model.specs.Scan.{Bound}
 use Rattle.model.specs.Rule.{crosses, mark}
 use Rattle.checker.specs.Columns.{Holds}
 use Rattle.checker.specs.Check.{marksOf, marksAt}

@@ -1,21 +1,19 @@
 -- What the loads of a step's columns say of the rule.
 use Prim.Native.Nat.{ℕ, zero, suc, _+_, _*_, _/_, _%_, _^_, _≤_, _<_, max}
-use mathlib.Core.Path.{_≡_, refl, sym, ap, ap₂, _∙_}
-use mathlib.Core.Logic.{_≢_, ⊎-elim}
+use mathlib.Core.Path.{_≡_, refl, ap, ap₂, _∙_}
+use mathlib.Core.Logic.{_≢_}
 use mathlib.Core.Bool.{Bool, true, false, cond}
 use mathlib.Core.List.{List}
-use mathlib.Core.Option.{Option, none, some}
+use mathlib.Core.Option.{none, some}
 use native.Mathlib.Omega.{arith}
-use native.Mathlib.Nat.{max-le, mul-le-mul}
-use lib.Dec.{eqb}
+use native.Mathlib.Nat.{max-le}
 use borrow.Author.Tests.{lt-ltb, le-ltb}
-use lib.ListN.{getD}
+use lib.Dec.{eqb}
 use Rattle.model.specs.Sum.{sumOver}
-use Rattle.model.specs.Search.{onlyIf, orElse, first}
+use Rattle.model.specs.Search.{onlyIf, orElse}
 use Rattle.model.specs.Net.{Net, Plan, row}
-use Rattle.model.specs.Scan.{Bound, Overload, test, testLink, testStep, scan}
+use Rattle.model.specs.Scan.{Bound, Overload, test, testLink}
 use Rattle.model.specs.Rule.{crosses, onLink, counts, load, exceeds, worst, worstOver}
-use Rattle.model.proofs.Rows.{row-cases}
 use Rattle.lists.specs.Lists.{at, networkOf, planOf}
 use Rattle.checker.specs.Columns.{Holds, Small, linkSum, counted}
 use Rattle.checker.specs.Check.{Checkable, overNumber, overBy, foundOf}

@@ -1,24 +1,24 @@
 -- The sums of a row: what is gathered for each flow, and the first flow whose sum is not parts × rate.
-use Prim.Native.Nat.{ℕ, suc, _+_, _-_, _*_, _^_, _≤_, _<_}
-use mathlib.Core.Path.{_≡_, refl, sym, ap, ap₂, _∙_, subst}
-use mathlib.Core.Logic.{_≢_, ⊎-elim}
-use mathlib.Core.Bool.{Bool, not}
+use Prim.Native.Nat.{ℕ, _+_, _*_, _^_, _≤_, _<_}
+use mathlib.Core.Path.{_≡_, sym, ap, _∙_, subst}
+use mathlib.Core.Logic.{⊎-elim}
+use mathlib.Core.Bool.{not}
 use mathlib.Core.List.{List}
 use mathlib.Core.Option.{none, some}
 use native.Mathlib.Omega.{arith}
 use native.Mathlib.Nat.{eq-or-lt-of-le, mul-le-mul}
+use borrow.Author.Tests.{eq-eqb, ne-eqb}
 use lib.Dec.{eqb}
 use lib.ListN.{length, getD, set}
-use borrow.Author.Tests.{eq-eqb, ne-eqb}
-use Rattle.model.specs.Search.{onlyIf, first}
+use Rattle.model.specs.Search.{first}
 use Rattle.model.specs.Net.{Net, Plan, row}
-use Rattle.model.specs.Rule.{Place, flowSum, missedIn, missedRow}
+use Rattle.model.specs.Rule.{flowSum, missedIn}
 use Rattle.model.proofs.Sums.{sum-bound, sum-cong}
 use Rattle.model.proofs.Searches.{only-true, only-false, none-first, first-at}
-use Rattle.lists.specs.Lists.{at, flowAt, tunnelAt, networkOf, planOf, GoodNetwork}
+use Rattle.lists.specs.Lists.{at, flowAt, tunnelAt, networkOf, GoodNetwork}
 use Rattle.forms.specs.Sums.{Gathered}
 use Rattle.forms.proofs.Gathering.{gathered-more}
-use Rattle.checker.specs.Columns.{Holds, Small}
+use Rattle.checker.specs.Columns.{Holds}
 use Rattle.checker.specs.Check.{FirstMissed}
 
 -- ---- gathering

@@ -1,4 +1,4 @@
--- Laws of answers: what an answer tells of an outcome, and what becomes of an outcome with the room that is lent. Assumes nothing.
+-- Laws of answers: what an answer tells of an outcome, and what becomes of an outcome with the room that is lent.
 use mathlib.Core.Path.{_≡_, refl}
 use mathlib.Core.Bool.{Bool, true, false, cond}
 use mathlib.Core.List.{List, _++_}

@@ -1,4 +1,4 @@
--- The session's network text, read and written by the definitions, and texts that are refused: antt computes each. Assumes nothing.
+-- The session's network text, read and written by the definitions, and texts that are refused: antt computes each.
 use mathlib.Core.Path.{_≡_, refl}
 use mathlib.Core.List.{List, [], _∷_, _++_}
 use Prim.Native.Nat.{ℕ}

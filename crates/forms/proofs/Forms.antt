@@ -1,4 +1,4 @@
--- Laws of the forms: sets and shifts, which field stands where, and what the numbers of a sound list are bounded by. Assumes nothing.
+-- Laws of the forms: sets and shifts, which field stands where, and what the numbers of a sound list are bounded by.
 use mathlib.Core.Path.{_≡_}
 use mathlib.Core.Bool.{Bool, true, false, cond, _&&_, _||_, not, true≢false, false≢true}
 use mathlib.Core.List.{List, [], _∷_, _++_}

@@ -1,4 +1,4 @@
--- Laws of the sums that are gathered tunnel by tunnel, and of the search for the first that misses its rate. Assumes nothing.
+-- Laws of the sums that are gathered tunnel by tunnel, and of the search for the first that misses its rate.
 use mathlib.Core.Path.{_≡_, refl, sym, ap}
 use mathlib.Core.List.{List}
 use mathlib.Core.Option.{Option, none, some}

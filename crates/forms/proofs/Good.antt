@@ -1,4 +1,4 @@
--- What is known of a list that is judged good, and that a plan's list of which this is known is judged good. Assumes nothing.
+-- What is known of a list that is judged good, and that a plan's list of which this is known is judged good.
 use mathlib.Core.Path.{_≡_, refl, sym, ap, _∙_}
 use mathlib.Core.Bool.{Bool, true, false, cond, _&&_, _||_, not}
 use mathlib.Core.List.{List, [], _∷_}

@@ -1,4 +1,4 @@
--- The keys: each has at most 9 bytes with its `=`, none of them a line feed, by a test that antt computes over the table. Assumes nothing.
+-- The keys: each has at most 9 bytes with its `=`, none of them a line feed, by a test that antt computes over the table.
 use mathlib.Core.Bool.{Bool, true, not, _&&_}
 use mathlib.Core.List.{List, [], _∷_}
 use Prim.Native.Nat.{ℕ, zero, suc, _≤_}

@@ -1,4 +1,4 @@
--- The part of a line that is its value: a line of a prefix, digits and a line feed has the digits, and only such a line has any. Assumes nothing.
+-- The part of a line that is its value: a line of a prefix, digits and a line feed has the digits, and only such a line has any.
 use mathlib.Core.Path.{_≡_, refl, sym, ap, _∙_}
 use mathlib.Core.Bool.{Bool, true, false, cond}
 use mathlib.Core.List.{List, [], _∷_, _++_}

@@ -1,4 +1,4 @@
--- Numbers and their digits: reading what is written gives the number, and writing what is read gives the digits. Assumes nothing.
+-- Numbers and their digits: reading what is written gives the number, and writing what is read gives the digits.
 use mathlib.Core.Path.{_≡_, refl, sym, ap, _∙_}
 use mathlib.Core.Bool.{Bool, true, false, cond}
 use mathlib.Core.List.{List, [], _∷_}

@@ -1,4 +1,4 @@
--- Laws of rendering: the lines of a list from an index on, and how long they are. Assumes nothing.
+-- Laws of rendering: the lines of a list from an index on, and how long they are.
 use mathlib.Core.Path.{_≡_, refl, ap, _∙_}
 use mathlib.Core.Bool.{Bool, true, false}
 use mathlib.Core.List.{List, [], _++_}

@@ -1,4 +1,4 @@
--- The laws of reading, judging and writing: the round trips, and that a text is read exactly when it follows the file form. Assumes nothing.
+-- The laws of reading, judging and writing: the round trips, and that a text is read exactly when it follows the file form.
 use mathlib.Core.Path.{_≡_, refl, sym, ap, _∙_}
 use mathlib.Core.Bool.{Bool, true, false, cond, not, _&&_}
 use mathlib.Core.List.{List, [], _∷_, _++_, append-assoc, append-nil}

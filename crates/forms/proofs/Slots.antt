@@ -1,4 +1,4 @@
--- The table of keys: each slot has its prefix, by a test that antt computes over the table. Assumes nothing.
+-- The table of keys: each slot has its prefix, by a test that antt computes over the table.
 use mathlib.Core.Path.{_≡_, refl, ap, _∙_}
 use mathlib.Core.Bool.{Bool, true, false, _&&_}
 use mathlib.Core.List.{List, [], _∷_}

@@ -1,4 +1,4 @@
--- Laws of the walk over a list: its next turn by what stands at an index, and that a list is judged good exactly where it is whole. Assumes nothing.
+-- Laws of the walk over a list: its next turn by what stands at an index, and that a list is judged good exactly where it is whole.
 use mathlib.Core.Path.{_≡_, refl, ap, _∙_}
 use mathlib.Core.Bool.{Bool, true, false, cond}
 use mathlib.Core.List.{List, [], _∷_, _++_, append-nil}

@@ -6,8 +6,8 @@ use mathlib.Core.Bool.{Bool, true, false, cond, _&&_, true≢false}
 use mathlib.Core.Option.{none, some}
 use native.Mathlib.Omega.{arith}
 use native.Mathlib.Nat.{le-trans, max-le, max-eq-left, max-eq-right, mul-le-mul-left, mul-le-mul-right, lt-div-mul-add, div-mul-le-self}
-use lib.Dec.{leb, eqb}
 use borrow.Author.Tests.{leb-true, eq-eqb, ne-eqb}
+use lib.Dec.{leb, eqb}
 use Rattle.model.specs.Limits.{mostSteps}
 use Rattle.model.specs.Net.{Net}
 use Rattle.model.specs.Scan.{Bound}

@@ -1,19 +1,19 @@
 -- The worst amounts stand for every choice: no choice shows more on a link, and the marked choice shows exactly as much.
 use Prim.Native.Nat.{ℕ, suc, _+_, _*_, _≤_, _<_, max}
-use mathlib.Core.Path.{_≡_, refl, sym, ap, ap₂, _∙_, fun-ext}
+use mathlib.Core.Path.{_≡_, refl, sym, ap, _∙_, fun-ext}
 use mathlib.Core.Logic.{⊎-elim}
 use mathlib.Core.Bool.{Bool, true, false, cond, _&&_, true≢false}
 use mathlib.Core.Option.{none, some}
 use native.Mathlib.Omega.{arith}
 use native.Mathlib.Nat.{mul-le-mul-left}
-use lib.Dec.{ltb}
 use borrow.Author.Tests.{ltb-true, ltb-false, lt-ltb, le-ltb}
+use lib.Dec.{ltb}
 use Rattle.model.specs.Net.{Net, Plan, row}
-use Rattle.model.specs.Scan.{Bound, Overload, scan}
+use Rattle.model.specs.Scan.{Bound, Overload}
 use Rattle.model.specs.Rule.{crosses, onLink, counts, load, exceeds, stepCount, worst, Shows, earlier, later, Choice, rowShown, shown, overloads, worstOver, firstOverload, mark, marked}
 use Rattle.model.proofs.Sums.{sum-mono, sum-cong, sum-add, sum-mul}
 use Rattle.model.proofs.Searches.{bool-cases, option-cases}
-use Rattle.model.proofs.Scans.{scan-none, scan-some, none-scan, scan-cong}
+use Rattle.model.proofs.Scans.{scan-none, scan-some, none-scan}
 
 ltb-mono : (a b c : ℕ) → b ≤ c → ltb a b ≡ true → ltb a c ≡ true
 ltb-mono a b c h e = lt-ltb a c (omega (arith, ltb-true a b e))

@@ -1,21 +1,21 @@
 -- The rows of a plan: what a plan is judged by, and the rows of even plans.
 use Prim.Native.Nat.{ℕ, suc, _+_, _-_, _*_, _≤_, _<_, max}
-use mathlib.Core.Path.{_≡_, refl, sym, ap, ap₂, _∙_, fun-ext}
+use mathlib.Core.Path.{_≡_, sym, ap, ap₂, _∙_, fun-ext}
 use mathlib.Core.Logic.{_↔_, ⊎-elim}
-use mathlib.Core.Bool.{Bool, true, false, cond, not, _&&_}
-use mathlib.Core.Option.{Option, none, some}
+use mathlib.Core.Bool.{Bool, true, cond, not, _&&_}
+use mathlib.Core.Option.{none}
 use native.Mathlib.Omega.{arith}
 use native.Mathlib.Nat.{eq-or-lt-of-le, le-of-suc-le-suc}
-use lib.Dec.{eqb}
 use borrow.Author.Tests.{eqb-true, eq-eqb, ne-eqb}
+use lib.Dec.{eqb}
 use Rattle.model.specs.Sum.{sumOver}
-use Rattle.model.specs.Search.{onlyIf, isNone, orElse, first}
+use Rattle.model.specs.Search.{onlyIf, isNone, first}
 use Rattle.model.specs.Net.{Net, Plan, row}
-use Rattle.model.specs.Scan.{Bound, Overload, scan}
-use Rattle.model.specs.Rule.{crosses, onLink, counts, load, exceeds, flowSum, Place, missedBy, missedRate, missedIn, missedRow, stepCount, worst, worstOver, firstOverload, accepted}
+use Rattle.model.specs.Scan.{scan}
+use Rattle.model.specs.Rule.{crosses, onLink, counts, load, exceeds, flowSum, missedBy, missedRate, missedIn, missedRow, stepCount, worst, worstOver, firstOverload, accepted}
 use Rattle.model.specs.Even.{evenRow, even}
 use Rattle.model.proofs.Sums.{sum-cong, sum-add, sum-mul}
-use Rattle.model.proofs.Searches.{bool-cases, only-none, only-false, or-none, first-none, none-first, first-cong, none-true, true-none, not-false, and-true}
+use Rattle.model.proofs.Searches.{only-none, only-false, or-none, first-none, none-first, first-cong, none-true, true-none, not-false, and-true}
 use Rattle.model.proofs.Scans.{scan-cong}
 
 -- ---- the three kinds of row

@@ -1,5 +1,5 @@
 -- Demand 3 holds.
-use Prim.Native.Nat.{ℕ, zero, suc, _+_, _-_, _≤_, _<_}
+use Prim.Native.Nat.{ℕ, zero, suc, _-_, _≤_, _<_}
 use mathlib.Core.Path.{_≡_, refl, sym, ap, ap₂, _∙_, subst}
 use mathlib.Core.Bool.{Bool, true, false, cond}
 use mathlib.Core.Logic.{⊎-elim}
@@ -7,19 +7,18 @@ use mathlib.Core.List.{List, [], _∷_, _++_, append-assoc}
 use mathlib.Core.Option.{Option, none, some}
 use native.Mathlib.Omega.{arith}
 use native.Mathlib.Nat.{eq-or-lt-of-le}
+use borrow.Author.Tests.{le-leb}
 use lib.Dec.{eqb, leb}
 use lib.ListN.{length, getD, take, drop}
 use lib.Seq.{take-append-seam, getD-at}
-use borrow.Author.Tests.{le-leb}
 use Rattle.model.specs.Outcome.{Outcome, good, refused, Cause, number}
 use Rattle.model.specs.Net.{Net, Plan, row}
 use Rattle.model.specs.Scan.{Bound, Overload, cause, step}
-use Rattle.model.specs.Rule.{Choice, Shows, earlier, later, onLink, load, counts, shown, rowShown, overloads, exceeds, mark, marked, stepCount, missedRow}
-use Rattle.model.specs.Even.{keepsScratch, ceilDiv, stepBound}
+use Rattle.model.specs.Rule.{earlier, later, onLink, load, counts, shown, rowShown, overloads, exceeds, mark, marked, stepCount}
+use Rattle.model.specs.Even.{keepsScratch, stepBound}
 use Rattle.model.proofs.Sums.{sum-cong}
 use Rattle.lists.specs.Lists.{at, networkOf, planOf}
 use Rattle.lists.specs.Answers.{withRoom, plan, lent}
-use Rattle.lists.specs.declared.Answer.{Answer}
 use Rattle.lists.specs.declared.Answer.the-variants.{Done, Plan as Planned, Refused}
 use Rattle.forms.specs.Read.{readText, judgeList, judgeNetwork, judgePlan}
 use Rattle.forms.specs.declared.form.Form.{Form}
@@ -31,7 +30,7 @@ use Rattle.planner.proofs.Main as planner
 use Rattle.checker.specs.Check.{verdict, checked, marksOf, marksAfter}
 use Rattle.checker.proofs.Main.{checker}
 use Rattle.product.proofs.Causes.{NotOver, verdict-all, over-number, same-bound}
-use Rattle.product.specs.Demand3.{Network, PlanOf, as-list, as-text, NoOverload, byMarks, Demand3}
+use Rattle.product.specs.Demand3.{Network, PlanOf, as-list, as-text, byMarks, Demand3}
 
 -- ---- what an answer tells of an outcome
 

@@ -1,4 +1,4 @@
--- Laws of the line reader's steps, as the code's loops use them: what each is at the part of a list from an index on. Assumes nothing.
+-- Laws of the line reader's steps, as the code's loops use them: what each is at the part of a list from an index on.
 use mathlib.Core.Path.{_≡_, refl, ap, _∙_}
 use mathlib.Core.Bool.{Bool, true, false, cond, not}
 use mathlib.Core.List.{List, [], _∷_, _++_}

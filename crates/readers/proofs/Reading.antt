@@ -1,4 +1,4 @@
--- Laws of reading: what is taken from a text in each case, the walk's next turn by what was taken, and how a list is handed over. Assumes nothing.
+-- Laws of reading: what is taken from a text in each case, the walk's next turn by what was taken, and how a list is handed over.
 use mathlib.Core.Path.{_≡_, refl, sym, ap, _∙_}
 use mathlib.Core.Bool.{Bool, true, false, cond}
 use mathlib.Core.List.{List, [], _∷_, _++_}

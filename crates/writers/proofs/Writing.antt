@@ -1,4 +1,4 @@
--- Laws of writing: bytes put at a place, digits, widths, and the lines of a list. Assumes nothing.
+-- Laws of writing: bytes put at a place, digits, widths, and the lines of a list.
 use mathlib.Core.Path.{_≡_, refl, sym, ap, _∙_}
 use mathlib.Core.List.{List, [], _∷_, _++_, append-assoc, append-nil}
 use Prim.Native.Nat.{ℕ, zero, suc, _+_, _-_, _/_, _%_, _^_, _≤_, _<_}

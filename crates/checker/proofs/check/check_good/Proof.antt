@@ -1,12 +1,8 @@
-use Rattle.checker.proofs.Checking.{plan-stops, plan-refused}
-use Rattle.checker.proofs.Checking.{judged-plan, plan-then}
+-- `checker::check::check_good` meets its contract.
 use borrow.Author.Needs.{needs}
+use Rattle.checker.proofs.Checking.{plan-stops, plan-refused, judged-plan, plan-then}
 use Rattle.checker.proofs.check.check_good.Statement.{statement}
 use Rattle.checker.proofs.check.check_good.Tie as tie
-use Rattle.checker.proofs.check.check_good.Reads as reads
-use Rattle.checker.proofs.check.check_good.Lts as lts
-use Rattle.checker.proofs.check.check_rows.Reads as check-rows-reads
-use Rattle.forms.proofs.judge.judge_plan.Reads as judge-plan-reads
 
 judge-plan-requires : tie.Need-judge-plan-requires
 judge-plan-requires c κs = search needs

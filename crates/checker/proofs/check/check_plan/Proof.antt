@@ -1,12 +1,8 @@
-use Rattle.checker.proofs.Checking.{network-stops, network-refused}
-use Rattle.checker.proofs.Checking.{judged-network, network-then}
+-- `checker::check::check_plan` meets its contract.
 use borrow.Author.Needs.{needs}
+use Rattle.checker.proofs.Checking.{network-stops, network-refused, judged-network, network-then}
 use Rattle.checker.proofs.check.check_plan.Statement.{statement}
 use Rattle.checker.proofs.check.check_plan.Tie as tie
-use Rattle.checker.proofs.check.check_plan.Reads as reads
-use Rattle.checker.proofs.check.check_plan.Lts as lts
-use Rattle.checker.proofs.check.check_good.Reads as check-good-reads
-use Rattle.forms.proofs.judge.judge_network.Reads as judge-network-reads
 
 judge-network-requires : tie.Need-judge-network-requires
 judge-network-requires c κs = search needs

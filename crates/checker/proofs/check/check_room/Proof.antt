@@ -1,10 +1,8 @@
-use Rattle.checker.proofs.Checking.{short-gives, room-gives}
+-- `checker::check::check_room` meets its contract.
 use borrow.Author.Needs.{needs}
+use Rattle.checker.proofs.Checking.{short-gives, room-gives}
 use Rattle.checker.proofs.check.check_room.Statement.{statement}
 use Rattle.checker.proofs.check.check_room.Tie as tie
-use Rattle.checker.proofs.check.check_room.Reads as reads
-use Rattle.checker.proofs.check.check_room.Lts as lts
-use Rattle.checker.proofs.check.check_steps.Reads as check-steps-reads
 
 shared-slice-read-n : tie.Need-shared-slice-read-n
 shared-slice-read-n c = search needs

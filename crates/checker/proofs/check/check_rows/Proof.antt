@@ -1,12 +1,9 @@
+-- `checker::check::check_rows` meets its contract.
 use mathlib.Core.Path.{sym, _∙_}
-use Rattle.checker.proofs.Checking.{other-gives, rows-gives, row-gives, missed-none, missed-some}
 use borrow.Author.Needs.{needs}
+use Rattle.checker.proofs.Checking.{other-gives, rows-gives, row-gives, missed-none, missed-some}
 use Rattle.checker.proofs.check.check_rows.Statement.{statement}
 use Rattle.checker.proofs.check.check_rows.Tie as tie
-use Rattle.checker.proofs.check.check_rows.Reads as reads
-use Rattle.checker.proofs.check.check_rows.Lts as lts
-use Rattle.checker.proofs.check.check_room.Reads as check-room-reads
-use Rattle.checker.proofs.sums.missed_row.Reads as missed-row-reads
 
 shared-slice-read-if1 : tie.Need-shared-slice-read-if1
 shared-slice-read-if1 c = search needs

@@ -1,17 +1,11 @@
-use Rattle.checker.proofs.Checking.{none-gives}
-use mathlib.Core.Path.{refl, sym, ap, _∙_}
+-- `checker::check::check_steps` meets its contract.
+use mathlib.Core.Path.{sym, _∙_}
 use native.Mathlib.Omega.{arith}
-use Rattle.model.specs.Outcome.{good}
-use Rattle.lists.specs.Lists.{networkOf, planOf}
-use Rattle.checker.proofs.Checking.{gives-eq, found-none, found-some, found-in, found-gives}
 use borrow.Author.Needs.{needs}
+use Rattle.checker.proofs.Checking.{none-gives, found-none, found-some, found-in, found-gives}
+use Rattle.lists.specs.Lists.{networkOf, planOf}
 use Rattle.checker.proofs.check.check_steps.Statement.{statement}
 use Rattle.checker.proofs.check.check_steps.Tie as tie
-use Rattle.checker.proofs.check.check_steps.Reads as reads
-use Rattle.checker.proofs.check.check_steps.Lts as lts
-use Rattle.checker.proofs.marks.clear.Reads as clear-reads
-use Rattle.checker.proofs.marks.mark.Reads as mark-reads
-use Rattle.checker.proofs.steps.first_overload.Reads as first-overload-reads
 
 first-overload-requires : tie.Need-first-overload-requires
 first-overload-requires c κs = search needs

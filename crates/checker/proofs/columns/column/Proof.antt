@@ -1,16 +1,13 @@
+-- `checker::columns::column` meets its contract.
 use Prim.Native.Nat.{ℕ, _≤_, _<_, _-_, _+_, _*_, _^_}
-use mathlib.Core.Path.{_≡_, refl, sym, ap, _∙_}
-use mathlib.Core.Bool.{cond}
-use lib.Dec.{leb}
-use lib.ListN.{length, getD, length-set}
+use mathlib.Core.Path.{_≡_, refl, ap}
 use native.Mathlib.Omega.{arith}
-use Rattle.checker.specs.Columns.{Holds, Small, linkSum}
-use Rattle.checker.proofs.Laws.{holds-none, holds-more, holds-at, link-none, link-more, link-small}
 use borrow.Author.Needs.{needs}
+use lib.ListN.{length, getD, length-set}
+use Rattle.checker.specs.Columns.{Holds}
+use Rattle.checker.proofs.Laws.{holds-none, holds-more, holds-at}
 use Rattle.checker.proofs.columns.column.Statement.{statement}
 use Rattle.checker.proofs.columns.column.Tie as tie
-use Rattle.checker.proofs.columns.column.Reads as reads
-use Rattle.checker.proofs.columns.column.Lts as lts
 
 abbrev Inv-loop : tie.InvT-loop
 Inv-loop src start stride factor n out₀ at₀ t₀ out at t = (t ≤ n) × (at ≡ start + stride * t) × (length out ≡ length out₀) × Holds out t (λ k. factor * getD src (start + stride * k) 0)

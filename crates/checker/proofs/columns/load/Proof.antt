@@ -1,17 +1,12 @@
-use Prim.Native.Nat.{ℕ, _≤_, _<_, _-_, _+_, _*_, max}
-use mathlib.Core.Path.{_≡_, refl, sym, ap, _∙_}
-use mathlib.Core.Bool.{cond}
-use lib.Dec.{leb}
-use lib.ListN.{length, getD, length-set}
+-- `checker::columns::load` meets its contract.
+use Prim.Native.Nat.{_≤_, _-_, _+_}
+use mathlib.Core.Path.{_≡_, sym}
 use native.Mathlib.Omega.{arith}
-use Rattle.checker.specs.Columns.{Holds, Small, linkSum}
-use Rattle.checker.proofs.Laws.{holds-none, holds-more, holds-at, link-none, link-more, link-small, small-at}
 use borrow.Author.Needs.{needs}
+use Rattle.checker.specs.Columns.{linkSum}
+use Rattle.checker.proofs.Laws.{link-none, link-more, link-small, small-at}
 use Rattle.checker.proofs.columns.load.Statement.{statement}
 use Rattle.checker.proofs.columns.load.Tie as tie
-use Rattle.checker.proofs.columns.load.Reads as reads
-use Rattle.checker.proofs.columns.load.Lts as lts
-use Rattle.checker.proofs.columns.on_link.Reads as on-link-reads
 
 abbrev Inv-loop : tie.InvT-loop
 Inv-loop vias amounts n l sum₀ t₀ sum t = (t ≤ n) × (sum ≡ linkSum vias amounts t l)

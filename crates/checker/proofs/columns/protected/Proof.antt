@@ -1,9 +1,7 @@
+-- `checker::columns::protected` meets its contract.
 use borrow.Author.Tests.{le-leb, lt-leb}
-use borrow.Author.Needs.{needs}
 use Rattle.checker.proofs.columns.protected.Statement.{statement}
 use Rattle.checker.proofs.columns.protected.Tie as tie
-use Rattle.checker.proofs.columns.protected.Reads as reads
-use Rattle.checker.proofs.columns.protected.Lts as lts
 
 returns : tie.Need-returns
 returns c = simp (le-leb _ _ (c .if1 .taken))

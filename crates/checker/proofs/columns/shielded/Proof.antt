@@ -1,17 +1,15 @@
-use Prim.Native.Nat.{ℕ, _≤_, _<_, _-_, _+_, _*_, max}
-use mathlib.Core.Path.{_≡_, refl, sym, ap, _∙_}
+-- `checker::columns::shielded` meets its contract.
+use Prim.Native.Nat.{_≤_, _<_, _-_}
+use mathlib.Core.Path.{_≡_, refl}
 use mathlib.Core.Bool.{cond}
+use native.Mathlib.Omega.{arith}
+use borrow.Author.Needs.{needs}
 use lib.Dec.{leb}
 use lib.ListN.{length, getD, length-set}
-use native.Mathlib.Omega.{arith}
-use Rattle.checker.specs.Columns.{Holds, Small, linkSum}
-use Rattle.checker.proofs.Laws.{holds-none, holds-more, holds-at, link-none, link-more, link-small}
-use borrow.Author.Needs.{needs}
+use Rattle.checker.specs.Columns.{Holds}
+use Rattle.checker.proofs.Laws.{holds-none, holds-more, holds-at}
 use Rattle.checker.proofs.columns.shielded.Statement.{statement}
 use Rattle.checker.proofs.columns.shielded.Tie as tie
-use Rattle.checker.proofs.columns.shielded.Reads as reads
-use Rattle.checker.proofs.columns.shielded.Lts as lts
-use Rattle.checker.proofs.columns.protected.Reads as protected-reads
 
 abbrev Inv-loop : tie.InvT-loop
 Inv-loop a classes n out₀ t₀ out t = (t ≤ n) × (length out ≡ length out₀) × Holds out t (λ k. cond (leb (getD classes k 0) 1) (getD a k 0) 0)

@@ -1,17 +1,13 @@
-use Prim.Native.Nat.{ℕ, _≤_, _<_, _-_, _+_, _*_, max}
-use mathlib.Core.Path.{_≡_, refl, sym, ap, _∙_}
-use mathlib.Core.Bool.{cond}
-use lib.Dec.{leb}
-use lib.ListN.{length, getD, length-set}
+-- `checker::columns::worst` meets its contract.
+use Prim.Native.Nat.{_≤_, _<_, _-_, max}
+use mathlib.Core.Path.{_≡_, refl}
 use native.Mathlib.Omega.{arith}
-use Rattle.checker.specs.Columns.{Holds, Small, linkSum}
-use Rattle.checker.proofs.Laws.{holds-none, holds-more, holds-at, link-none, link-more, link-small}
 use borrow.Author.Needs.{needs}
+use lib.ListN.{length, getD, length-set}
+use Rattle.checker.specs.Columns.{Holds}
+use Rattle.checker.proofs.Laws.{holds-none, holds-more, holds-at}
 use Rattle.checker.proofs.columns.worst.Statement.{statement}
 use Rattle.checker.proofs.columns.worst.Tie as tie
-use Rattle.checker.proofs.columns.worst.Reads as reads
-use Rattle.checker.proofs.columns.worst.Lts as lts
-use Rattle.checker.proofs.columns.larger.Reads as larger-reads
 
 abbrev Inv-loop : tie.InvT-loop
 Inv-loop a b n out₀ t₀ out t = (t ≤ n) × (length out ≡ length out₀) × Holds out t (λ k. max (getD a k 0) (getD b k 0))

@@ -1,16 +1,15 @@
+-- `checker::marks::clear` meets its contract.
 use Prim.Native.Nat.{_≤_, _-_}
 use mathlib.Core.Path.{_≡_, refl}
 use mathlib.Core.Bool.{false}
 use mathlib.Core.List.{_++_}
 use native.Mathlib.Omega.{arith}
+use borrow.Author.Needs.{needs}
 use lib.ListN.{length, drop, length-set}
 use Rattle.checker.specs.Check.{marksOf}
 use Rattle.checker.proofs.Marking.{marks-none, marks-more, marks-at}
-use borrow.Author.Needs.{needs}
 use Rattle.checker.proofs.marks.clear.Statement.{statement}
 use Rattle.checker.proofs.marks.clear.Tie as tie
-use Rattle.checker.proofs.marks.clear.Reads as reads
-use Rattle.checker.proofs.marks.clear.Lts as lts
 
 abbrev Inv-loop : tie.InvT-loop
 Inv-loop n marks₀ t₀ marks t = (t ≤ n) × (length marks ≡ length marks₀) × (marks ≡ marksOf (λ k. false) t ++ drop t marks₀)

@@ -1,13 +1,9 @@
+-- `checker::marks::mark` meets its contract.
+use borrow.Author.Needs.{needs}
 use Rattle.lists.specs.Lists.{networkOf}
 use Rattle.checker.proofs.Marking.{marks-step}
-use borrow.Author.Needs.{needs}
 use Rattle.checker.proofs.marks.mark.Statement.{statement}
 use Rattle.checker.proofs.marks.mark.Tie as tie
-use Rattle.checker.proofs.marks.mark.Reads as reads
-use Rattle.checker.proofs.marks.mark.Lts as lts
-use Rattle.checker.proofs.marks.put.Reads as put-reads
-use Rattle.checker.proofs.rows.line.Reads as line-reads
-use Rattle.checker.proofs.rows.row.Reads as row-reads
 
 shared-slice-read-n : tie.Need-shared-slice-read-n
 shared-slice-read-n c = search needs

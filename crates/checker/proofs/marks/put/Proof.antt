@@ -1,18 +1,16 @@
+-- `checker::marks::put` meets its contract.
 use Prim.Native.Nat.{_≤_, _-_, _/_, _%_, _^_}
 use mathlib.Core.Path.{_≡_, refl}
 use mathlib.Core.Bool.{_&&_}
 use mathlib.Core.List.{_++_}
 use native.Mathlib.Omega.{arith}
+use borrow.Author.Needs.{needs}
 use lib.Dec.{eqb, ltb}
 use lib.ListN.{length, getD, drop, length-set}
 use Rattle.checker.specs.Check.{marksOf}
 use Rattle.checker.proofs.Marking.{marks-none, marks-more, marks-at}
-use borrow.Author.Needs.{needs}
 use Rattle.checker.proofs.marks.put.Statement.{statement}
 use Rattle.checker.proofs.marks.put.Tie as tie
-use Rattle.checker.proofs.marks.put.Reads as reads
-use Rattle.checker.proofs.marks.put.Lts as lts
-use Rattle.checker.proofs.marks.rises.Reads as rises-reads
 
 abbrev Inv-loop : tie.InvT-loop
 Inv-loop vias earlier later n l marks₀ t₀ marks t =

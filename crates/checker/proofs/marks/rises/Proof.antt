@@ -1,6 +1,6 @@
 -- `checker::marks::rises` meets its contract: the mask is the remainder by 2.
-use Prim.Native.Nat.{ℕ, _/_, _^_}
-use mathlib.Core.Path.{_≡_, sym, _∙_}
+use Prim.Native.Nat.{_/_, _^_}
+use mathlib.Core.Path.{sym, _∙_}
 use borrow.Author.Needs.{needs}
 use borrow.Author.Tests.{eq-eqb, ne-eqb, lt-ltb, le-ltb}
 use lib.Bits.{and-mask}

@@ -1,19 +1,15 @@
-use Prim.Native.Nat.{ℕ, _≤_, _<_, _-_, _+_, _*_}
-use mathlib.Core.Path.{_≡_, refl, ap, _∙_}
+-- `checker::rows::classes` meets its contract.
+use Prim.Native.Nat.{_≤_, _<_, _-_}
+use mathlib.Core.Path.{_≡_, refl}
 use native.Mathlib.Omega.{arith}
+use borrow.Author.Needs.{needs}
 use lib.ListN.{length, length-set}
 use Rattle.lists.specs.Lists.{tunnelAt, networkOf}
 use Rattle.checker.specs.Columns.{Holds, classOf}
 use Rattle.checker.proofs.Laws.{holds-none, holds-more, holds-at}
 use Rattle.checker.proofs.Good.{Class, class-at}
-use borrow.Author.Needs.{needs}
 use Rattle.checker.proofs.rows.classes.Statement.{statement}
 use Rattle.checker.proofs.rows.classes.Tie as tie
-use Rattle.checker.proofs.rows.classes.Reads as reads
-use Rattle.checker.proofs.rows.classes.Lts as lts
-use Rattle.lists.proofs.Network.flows_at.Reads as flows-at-reads
-use Rattle.lists.proofs.Network.of.Reads as of-reads
-use Rattle.lists.proofs.Network.tunnels_at.Reads as tunnels-at-reads
 
 abbrev Inv-loop : tie.InvT-loop
 Inv-loop network out₀ n first at₀ t₀ out at t = (t ≤ n) × (at ≡ tunnelAt network t) × (length out ≡ length out₀) × Holds out t (classOf (networkOf network))

@@ -1,15 +1,11 @@
+-- `checker::rows::line` meets its contract.
 use Prim.Native.Nat.{_+_}
-use Rattle.lists.specs.Lists.{tunnelAt}
 use native.Mathlib.Omega.{arith}
-use Rattle.checker.proofs.Good.{network-column, network-holds}
 use borrow.Author.Needs.{needs}
+use Rattle.lists.specs.Lists.{tunnelAt}
+use Rattle.checker.proofs.Good.{network-column, network-holds}
 use Rattle.checker.proofs.rows.line.Statement.{statement}
 use Rattle.checker.proofs.rows.line.Tie as tie
-use Rattle.checker.proofs.rows.line.Reads as reads
-use Rattle.checker.proofs.rows.line.Lts as lts
-use Rattle.checker.proofs.columns.column.Reads as column-reads
-use Rattle.lists.proofs.Network.of.Reads as of-reads
-use Rattle.lists.proofs.Network.tunnels_at.Reads as tunnels-at-reads
 
 of-requires : tie.Need-of-requires
 of-requires c κs = search needs

@@ -1,17 +1,12 @@
-use Prim.Native.Nat.{ℕ, _<_, _≤_, _-_, _*_}
-use mathlib.Core.Path.{_≡_}
+-- `checker::rows::row` meets its contract.
+use Prim.Native.Nat.{_<_, _≤_, _-_, _*_}
 use native.Mathlib.Omega.{arith}
 use native.Mathlib.Nat.{mul-le-mul}
+use borrow.Author.Needs.{needs}
 use Rattle.lists.specs.Lists.{at}
 use Rattle.checker.proofs.Good.{network-column, network-holds, old-fits, new-fits, old-row, new-row, plan-column, plan-holds}
-use borrow.Author.Needs.{needs}
 use Rattle.checker.proofs.rows.row.Statement.{statement}
 use Rattle.checker.proofs.rows.row.Tie as tie
-use Rattle.checker.proofs.rows.row.Reads as reads
-use Rattle.checker.proofs.rows.row.Lts as lts
-use Rattle.checker.proofs.columns.column.Reads as column-reads
-use Rattle.lists.proofs.Network.of.Reads as of-reads
-use Rattle.lists.proofs.Network.tunnels_at.Reads as tunnels-at-reads
 
 -- a row between the first and the last
 inner : (c : tie.Else2) → let d = c .before .before .before .before .before .before .before .before .before in (0 < d .args .a) × (d .args .a < at (d .args .plan .now) 2)

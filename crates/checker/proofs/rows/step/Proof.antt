@@ -1,13 +1,8 @@
-use Rattle.checker.proofs.Laws.{all-counted, protected-counted}
+-- `checker::rows::step` meets its contract.
 use borrow.Author.Needs.{needs}
+use Rattle.checker.proofs.Laws.{all-counted, protected-counted}
 use Rattle.checker.proofs.rows.step.Statement.{statement}
 use Rattle.checker.proofs.rows.step.Tie as tie
-use Rattle.checker.proofs.rows.step.Reads as reads
-use Rattle.checker.proofs.rows.step.Lts as lts
-use Rattle.checker.proofs.columns.shielded.Reads as shielded-reads
-use Rattle.checker.proofs.columns.worst.Reads as worst-reads
-use Rattle.checker.proofs.rows.row.Reads as row-reads
-use Rattle.lists.proofs.Network.of.Reads as of-reads
 
 of-requires : tie.Need-of-requires
 of-requires c κs = search needs

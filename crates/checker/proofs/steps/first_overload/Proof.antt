@@ -1,35 +1,22 @@
-use Rattle.checker.specs.declared.steps.Found.the-variants.{At}
-use mathlib.Core.Path.{subst}
-use mathlib.Core.Path.{ap₂}
-use mathlib.Core.List.{List}
-use Rattle.checker.specs.Columns.{Holds, counted, Small}
-use Rattle.checker.specs.Check.{overBy, Checkable}
-use Rattle.checker.proofs.Overloads.{overIn}
-use Prim.Native.Nat.{ℕ, _≤_, _<_, _-_, _+_}
-use mathlib.Core.Path.{_≡_, refl, sym, ap, _∙_}
-use mathlib.Core.Option.{none, some}
+-- `checker::steps::first_overload` meets its contract. The invariants: no step before this one, and no link before this one in it, breaks a bound.
+use Prim.Native.Nat.{ℕ, _≤_, _<_, _-_}
+use mathlib.Core.Path.{subst, ap₂, _≡_, refl, sym, ap, _∙_}
+use mathlib.Core.Option.{none}
 use native.Mathlib.Omega.{arith}
+use borrow.Author.Needs.{needs}
 use lib.ListN.{length}
+use Rattle.checker.specs.declared.steps.Found.the-variants.{At, Nothing}
+use Rattle.checker.specs.Check.{overBy, foundOf}
+use Rattle.checker.proofs.Overloads.{overIn, load-sum, over-none, over-some, counted-small}
 use Rattle.model.specs.Search.{first}
 use Rattle.model.specs.Net.{Net, Plan}
-use Rattle.model.specs.Scan.{Bound, testLink, testStep, scan}
+use Rattle.model.specs.Scan.{Bound, testLink, testStep}
 use Rattle.model.specs.Rule.{worstOver, firstOverload, stepCount}
 use Rattle.model.proofs.Searches.{first-zero, first-on}
 use Rattle.model.proofs.Scans.{step-on, scan-at, scan-end}
 use Rattle.lists.specs.Lists.{at, networkOf, planOf}
-use Rattle.checker.specs.Columns.{linkSum}
-use Rattle.checker.specs.Check.{foundOf}
-use Rattle.checker.specs.declared.steps.Found.the-variants.{Nothing}
-use Rattle.checker.proofs.Overloads.{load-sum, over-none, over-some, counted-small}
-use borrow.Author.Needs.{needs}
 use Rattle.checker.proofs.steps.first_overload.Statement.{statement}
 use Rattle.checker.proofs.steps.first_overload.Tie as tie
-use Rattle.checker.proofs.steps.first_overload.Reads as reads
-use Rattle.checker.proofs.steps.first_overload.Lts as lts
-use Rattle.checker.proofs.rows.classes.Reads as classes-reads
-use Rattle.checker.proofs.rows.line.Reads as line-reads
-use Rattle.checker.proofs.rows.step.Reads as step-reads
-use Rattle.checker.proofs.steps.over.Reads as over-reads
 
 abbrev Inv-loop : tie.InvT-loop
 Inv-loop network plan links parts steps vias classes all protected found₀ i l₀ found l =

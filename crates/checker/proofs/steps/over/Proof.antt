@@ -1,16 +1,12 @@
-use Rattle.lists.specs.Lists.{at}
-use Rattle.checker.specs.Columns.{linkSum}
-use mathlib.Core.Path.{sym}
+-- `checker::steps::over` meets its contract.
 use native.Mathlib.Omega.{arith}
-use Rattle.lists.specs.Lists.{networkOf}
+use borrow.Author.Needs.{needs}
+use Rattle.lists.specs.Lists.{at, networkOf}
+use Rattle.checker.specs.Columns.{linkSum}
 use Rattle.checker.proofs.Good.{room-small, overrun-small, most-small}
 use Rattle.checker.proofs.Overloads.{over-7, over-8, over-0}
-use borrow.Author.Needs.{needs}
 use Rattle.checker.proofs.steps.over.Statement.{statement}
 use Rattle.checker.proofs.steps.over.Tie as tie
-use Rattle.checker.proofs.steps.over.Reads as reads
-use Rattle.checker.proofs.steps.over.Lts as lts
-use Rattle.checker.proofs.columns.load.Reads as load-reads
 
 shared-slice-read-n : tie.Need-shared-slice-read-n
 shared-slice-read-n c = search needs

@@ -1,16 +1,13 @@
+-- `checker::sums::missed_flow` meets its contract.
 use Prim.Native.Nat.{ℕ, _≤_, _<_, _-_, _+_, _*_}
-use mathlib.Core.Path.{_≡_, refl, sym, ap, _∙_, subst}
+use mathlib.Core.Path.{_≡_, sym, ap, _∙_}
 use native.Mathlib.Omega.{arith}
+use borrow.Author.Needs.{needs}
 use lib.ListN.{length, getD}
 use Rattle.lists.specs.Lists.{at, flowAt, networkOf}
 use Rattle.checker.proofs.Totals.{rate-at, met-more}
-use borrow.Author.Needs.{needs}
 use Rattle.checker.proofs.sums.missed_flow.Statement.{statement}
 use Rattle.checker.proofs.sums.missed_flow.Tie as tie
-use Rattle.checker.proofs.sums.missed_flow.Reads as reads
-use Rattle.checker.proofs.sums.missed_flow.Lts as lts
-use Rattle.lists.proofs.Network.flows_at.Reads as flows-at-reads
-use Rattle.lists.proofs.Network.of.Reads as of-reads
 
 abbrev Inv-loop : tie.InvT-loop
 Inv-loop network parts sums n at₀ f₀ at f = (f ≤ n) × (at ≡ flowAt network f + 1) × ((k : ℕ) → k < f → getD sums k 0 ≡ parts * networkOf network .rate k)

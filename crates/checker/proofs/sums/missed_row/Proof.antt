@@ -1,9 +1,10 @@
+-- `checker::sums::missed_row` meets its contract.
 use Prim.Native.Nat.{ℕ, _≤_, _<_, _-_, _+_, suc}
-use mathlib.Core.Path.{_≡_, refl, sym, ap, _∙_, subst}
+use mathlib.Core.Path.{_≡_, refl, sym, ap, subst}
 use mathlib.Core.Option.{none, some}
 use native.Mathlib.Omega.{arith}
-use native.Mathlib.Numerals.{add-one}
-use lib.ListN.{length, getD}
+use borrow.Author.Needs.{needs}
+use lib.ListN.{length}
 use Rattle.model.specs.Search.{first}
 use Rattle.model.specs.Net.{Net, Plan}
 use Rattle.model.specs.Rule.{missedIn, missedRow}
@@ -12,14 +13,8 @@ use Rattle.lists.specs.Lists.{at, networkOf, planOf}
 use Rattle.checker.specs.Check.{missedOf}
 use Rattle.checker.proofs.Good.{row-column-small}
 use Rattle.checker.proofs.Totals.{row-met, row-missed}
-use borrow.Author.Needs.{needs}
 use Rattle.checker.proofs.sums.missed_row.Statement.{statement}
 use Rattle.checker.proofs.sums.missed_row.Tie as tie
-use Rattle.checker.proofs.sums.missed_row.Reads as reads
-use Rattle.checker.proofs.sums.missed_row.Lts as lts
-use Rattle.checker.proofs.rows.row.Reads as row-reads
-use Rattle.checker.proofs.sums.missed_flow.Reads as missed-flow-reads
-use Rattle.checker.proofs.sums.row_sums.Reads as row-sums-reads
 
 abbrev Inv-loop : tie.InvT-loop
 Inv-loop network plan flows parts steps row₀ a₀ row a =

@@ -1,19 +1,15 @@
-use Rattle.checker.proofs.Totals.{gathered-at}
-use Prim.Native.Nat.{ℕ, _≤_, _<_, _-_, _+_}
-use mathlib.Core.Path.{_≡_, refl, sym, ap, _∙_, subst}
+-- `checker::sums::row_sums` meets its contract.
+use Prim.Native.Nat.{_≤_, _-_}
+use mathlib.Core.Path.{_≡_, _∙_}
 use native.Mathlib.Omega.{arith}
-use lib.ListN.{length, getD}
+use borrow.Author.Needs.{needs}
+use lib.ListN.{getD}
+use Rattle.checker.proofs.Totals.{gathered-at, Named, named-at, sums-more, sums-fit}
 use Rattle.lists.specs.Lists.{tunnelAt, networkOf}
 use Rattle.forms.specs.Sums.{Gathered}
 use Rattle.forms.proofs.Gathering.{gathered-none}
-use Rattle.checker.proofs.Totals.{Named, named-at, sums-more, sums-fit}
-use borrow.Author.Needs.{needs}
 use Rattle.checker.proofs.sums.row_sums.Statement.{statement}
 use Rattle.checker.proofs.sums.row_sums.Tie as tie
-use Rattle.checker.proofs.sums.row_sums.Reads as reads
-use Rattle.checker.proofs.sums.row_sums.Lts as lts
-use Rattle.lists.proofs.Network.of.Reads as of-reads
-use Rattle.lists.proofs.Network.tunnels_at.Reads as tunnels-at-reads
 
 abbrev Inv-loop : tie.InvT-loop
 Inv-loop network row sums₀ n at₀ t₀ sums at t = (t ≤ n) × (at ≡ tunnelAt network t) × Gathered (networkOf network) (λ k. getD row k 0) t sums

@@ -1,4 +1,4 @@
--- `forms::form::admits` meets its contract. Assumes nothing.
+-- `forms::form::admits` meets its contract.
 use borrow.Author.Tests.{le-leb, lt-leb, ne-eqb}
 use borrow.Author.Needs.{needs}
 use Rattle.forms.proofs.form.admits.Statement.{statement}

@@ -1,4 +1,4 @@
--- `forms::form::field_after` meets its contract. Assumes nothing.
+-- `forms::form::field_after` meets its contract.
 use Rattle.forms.specs.Form.{fieldOf}
 use borrow.Author.Needs.{needs}
 use Rattle.forms.proofs.form.field_after.Statement.{statement}

@@ -1,4 +1,4 @@
--- `forms::form::is_set` meets its contract. Assumes nothing.
+-- `forms::form::is_set` meets its contract.
 use Rattle.forms.proofs.Forms.{wide-set, shifted}
 use borrow.Author.Tests.{eq-eqb, ne-eqb}
 use borrow.Author.Needs.{needs}

@@ -1,4 +1,4 @@
--- `forms::form::key_part` meets its contract. Assumes nothing.
+-- `forms::form::key_part` meets its contract.
 use mathlib.Core.Path.{_≡_, sym, ap}
 use Prim.Native.Nat.{_+_, _*_, _-_, _≤_}
 use native.Mathlib.Omega.{arith}

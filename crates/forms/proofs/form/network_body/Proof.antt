@@ -1,4 +1,4 @@
--- `forms::form::network_body` meets its contract. Assumes nothing.
+-- `forms::form::network_body` meets its contract.
 use native.Mathlib.Omega.{arith}
 use borrow.Author.Tests.{lt-ltb, le-ltb}
 use Rattle.forms.specs.Form.{networkBody}

@@ -1,4 +1,4 @@
--- `forms::form::network_field` meets its contract. Assumes nothing.
+-- `forms::form::network_field` meets its contract.
 use borrow.Author.Tests.{lt-ltb, le-ltb}
 use Rattle.forms.specs.Form.{networkField}
 use borrow.Author.Needs.{needs}

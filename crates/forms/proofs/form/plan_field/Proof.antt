@@ -1,4 +1,4 @@
--- `forms::form::plan_field` meets its contract. Assumes nothing.
+-- `forms::form::plan_field` meets its contract.
 use native.Mathlib.Nat.{mul-le-mul, le-trans, sub-le}
 use native.Mathlib.Omega.{arith}
 use Rattle.forms.proofs.Forms.{PlanHead, head-of-plan}

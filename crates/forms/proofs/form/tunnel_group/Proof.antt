@@ -1,4 +1,4 @@
--- `forms::form::tunnel_group` meets its contract. Assumes nothing.
+-- `forms::form::tunnel_group` meets its contract.
 use Prim.Native.Nat.{_≤_}
 use native.Mathlib.Omega.{arith}
 use mathlib.Core.Path.{sym}

@@ -1,4 +1,4 @@
--- `forms::judge::judge_network` meets its contract. Assumes nothing.
+-- `forms::judge::judge_network` meets its contract.
 use mathlib.Core.Path.{_≡_, sym, ap, _∙_}
 use Rattle.model.specs.Outcome.{good}
 use Rattle.forms.specs.Read.{judgeNumbers, addUp}

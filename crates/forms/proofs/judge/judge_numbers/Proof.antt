@@ -1,4 +1,4 @@
--- `forms::judge::judge_numbers` meets its contract. Assumes nothing.
+-- `forms::judge::judge_numbers` meets its contract.
 use Prim.Native.Nat.{_≤_, _<_, _+_, _-_}
 use mathlib.Core.Path.{_≡_, refl, sym, ap, _∙_}
 use mathlib.Core.List.{[], _∷_, _++_}

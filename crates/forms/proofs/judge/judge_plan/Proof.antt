@@ -1,4 +1,4 @@
--- `forms::judge::judge_plan` meets its contract. Assumes nothing.
+-- `forms::judge::judge_plan` meets its contract.
 use mathlib.Core.Path.{sym, ap, _∙_}
 use Rattle.lists.specs.Answers.{done}
 use Rattle.forms.specs.Read.{judgeNumbers}

@@ -1,4 +1,4 @@
--- `forms::sums::first_missed` meets its contract. Assumes nothing.
+-- `forms::sums::first_missed` meets its contract.
 use Prim.Native.Nat.{ℕ, _≤_, _<_, _-_}
 use mathlib.Core.Path.{_≡_, sym, _∙_}
 use mathlib.Core.List.{List}

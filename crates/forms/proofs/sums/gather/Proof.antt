@@ -1,4 +1,4 @@
--- `forms::sums::gather` meets its contract. Assumes nothing.
+-- `forms::sums::gather` meets its contract.
 use Prim.Native.Nat.{ℕ, _≤_, _<_, _+_, _-_, _^_}
 use mathlib.Core.Path.{_≡_, sym, ap, _∙_}
 use mathlib.Core.List.{List}

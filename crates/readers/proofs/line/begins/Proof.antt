@@ -1,4 +1,4 @@
--- `readers::line::begins` meets its contract. Assumes nothing.
+-- `readers::line::begins` meets its contract.
 use Prim.Native.Nat.{_≤_, _<_, _+_, _-_}
 use mathlib.Core.Path.{_≡_, sym, _∙_}
 use native.Mathlib.Omega.{arith}

@@ -1,4 +1,4 @@
--- `readers::line::decimal` meets its contract. Assumes nothing.
+-- `readers::line::decimal` meets its contract.
 use borrow.Author.Tests.{eq-eqb, ne-eqb, lt-ltb, le-ltb}
 use native.Mathlib.Nat.{le-trans, pow-le-pow-right}
 use lib.Dec.{lit≤}

@@ -1,4 +1,4 @@
--- `readers::line::digit` meets its contract. Assumes nothing.
+-- `readers::line::digit` meets its contract.
 use borrow.Author.Tests.{lt-ltb, le-ltb, le-leb, lt-leb}
 use Rattle.forms.specs.Line.{digitOf}
 use borrow.Author.Needs.{needs}

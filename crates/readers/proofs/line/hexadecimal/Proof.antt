@@ -1,4 +1,4 @@
--- `readers::line::hexadecimal` meets its contract. Assumes nothing.
+-- `readers::line::hexadecimal` meets its contract.
 use native.Mathlib.Nat.{le-refl}
 use borrow.Author.Tests.{eq-eqb, ne-eqb}
 use Rattle.forms.specs.Line.{hexOf}

@@ -1,4 +1,4 @@
--- `readers::line::number` meets its contract. Assumes nothing.
+-- `readers::line::number` meets its contract.
 use Prim.Native.Nat.{_≤_, _<_, _+_, _-_, _^_, _*_}
 use mathlib.Core.Path.{_≡_, refl, sym, ap, _∙_}
 use Rattle.readers.specs.Line.{valueOf}

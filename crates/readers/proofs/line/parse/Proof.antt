@@ -1,4 +1,4 @@
--- `readers::line::parse` meets its contract. Assumes nothing.
+-- `readers::line::parse` meets its contract.
 use borrow.Author.Needs.{needs}
 use Rattle.readers.proofs.line.parse.Statement.{statement}
 use Rattle.readers.proofs.line.parse.Tie as tie

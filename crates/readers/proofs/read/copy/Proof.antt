@@ -1,4 +1,4 @@
--- `readers::read::copy` meets its contract. Assumes nothing.
+-- `readers::read::copy` meets its contract.
 use mathlib.Core.List.{_++_}
 use lib.Seq.{take-length}
 use Rattle.readers.proofs.Lines.{copy-step}

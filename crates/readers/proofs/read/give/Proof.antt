@@ -1,4 +1,4 @@
--- `readers::read::give` meets its contract. Assumes nothing.
+-- `readers::read::give` meets its contract.
 use mathlib.Core.Path.{sym, _∙_}
 use Rattle.forms.proofs.Answers.{give-none, give-all}
 use borrow.Author.Needs.{needs}

@@ -1,4 +1,4 @@
--- `readers::read::read` meets its contract. Assumes nothing.
+-- `readers::read::read` meets its contract.
 use Rattle.lists.specs.declared.Answer.the-variants.{Refused, Done}
 use Rattle.forms.specs.Form.{secondOf, Sound, fieldOf, admitsOf, allows, mostNumbers}
 use Rattle.readers.specs.Read.{stopOf, takenOf}

@@ -1,4 +1,4 @@
--- `readers::read::read_network` meets its contract. Assumes nothing.
+-- `readers::read::read_network` meets its contract.
 use Prim.Native.Nat.{ℕ, _≤_}
 use mathlib.Core.Path.{_≡_, sym, ap, _∙_}
 use mathlib.Core.List.{List}

@@ -1,4 +1,4 @@
--- `readers::read::read_plan` meets its contract. Assumes nothing.
+-- `readers::read::read_plan` meets its contract.
 use Prim.Native.Nat.{ℕ, _≤_}
 use mathlib.Core.Path.{_≡_, sym, _∙_}
 use mathlib.Core.List.{List}

@@ -1,4 +1,4 @@
--- `readers::read::take_line` meets its contract. Assumes nothing.
+-- `readers::read::take_line` meets its contract.
 use Prim.Native.Nat.{ℕ, _≤_, _+_, _-_}
 use mathlib.Core.Path.{_≡_, sym, ap, _∙_}
 use mathlib.Core.Bool.{Bool, cond}

@@ -1,4 +1,4 @@
--- `writers::write::digit_char` meets its contract. Assumes nothing.
+-- `writers::write::digit_char` meets its contract.
 use borrow.Author.Tests.{lt-ltb, le-ltb}
 use borrow.Author.Needs.{needs}
 use Rattle.writers.proofs.write.digit_char.Statement.{statement}

@@ -1,4 +1,4 @@
--- `writers::write::digit_count` meets its contract. Assumes nothing.
+-- `writers::write::digit_count` meets its contract.
 use mathlib.Core.Path.{sym, _∙_}
 use native.Mathlib.Omega.{arith}
 use borrow.Author.Needs.{needs}

@@ -1,4 +1,4 @@
--- `writers::write::line_len` meets its contract. Assumes nothing.
+-- `writers::write::line_len` meets its contract.
 use mathlib.Core.Path.{_≡_, ap}
 use native.Mathlib.Omega.{arith}
 use lib.ListN.{length}

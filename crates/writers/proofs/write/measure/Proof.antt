@@ -1,4 +1,4 @@
--- `writers::write::measure` meets its contract. Assumes nothing.
+-- `writers::write::measure` meets its contract.
 use Prim.Native.Nat.{ℕ, _≤_, _<_, _+_, _*_, _-_}
 use mathlib.Core.Path.{_≡_, sym, _∙_}
 use mathlib.Core.List.{List}

@@ -1,4 +1,4 @@
--- `writers::write::needed` meets its contract. Assumes nothing.
+-- `writers::write::needed` meets its contract.
 use native.Mathlib.Omega.{arith}
 use native.Mathlib.Nat.{le-trans}
 use Rattle.forms.proofs.Rendering.{render-short}

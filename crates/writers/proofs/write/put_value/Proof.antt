@@ -1,4 +1,4 @@
--- `writers::write::put_value` meets its contract. Assumes nothing.
+-- `writers::write::put_value` meets its contract.
 use borrow.Author.Needs.{needs}
 use Rattle.writers.proofs.write.put_value.Statement.{statement}
 use Rattle.writers.proofs.write.put_value.Tie as tie

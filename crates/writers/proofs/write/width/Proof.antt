@@ -1,4 +1,4 @@
--- `writers::write::width` meets its contract. Assumes nothing.
+-- `writers::write::width` meets its contract.
 use mathlib.Core.Path.{sym, refl}
 use mathlib.Core.Logic.{inl, inr}
 use native.Mathlib.Omega.{arith}

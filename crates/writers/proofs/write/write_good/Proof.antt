@@ -1,4 +1,4 @@
--- `writers::write::write_good` meets its contract. Assumes nothing.
+-- `writers::write::write_good` meets its contract.
 use mathlib.Core.Path.{refl, sym, ap, _∙_}
 use Prim.Native.Nat.{ℕ}
 use Rattle.lists.specs.declared.Answer.the-variants.{Done, Refused}

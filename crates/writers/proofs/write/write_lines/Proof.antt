@@ -1,4 +1,4 @@
--- `writers::write::write_lines` meets its contract. Assumes nothing.
+-- `writers::write::write_lines` meets its contract.
 use Prim.Native.Nat.{ℕ, _≤_, _<_, _+_, _-_}
 use mathlib.Core.Path.{_≡_, refl, sym, ap, _∙_}
 use mathlib.Core.List.{List, _++_}

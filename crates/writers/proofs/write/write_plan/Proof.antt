@@ -1,4 +1,4 @@
--- `writers::write::write_plan` meets its contract. Assumes nothing.
+-- `writers::write::write_plan` meets its contract.
 use mathlib.Core.Path.{_≡_, sym, _∙_}
 use Rattle.model.specs.Outcome.{good}
 use Rattle.forms.specs.Form.{Whole}
