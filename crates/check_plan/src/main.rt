@@ -25,21 +25,21 @@ fn read_file(path: &[u8], buf: &mut [u8]) -> usize
 }
 
 // "The checker reads the whole network first, then the whole plan".
-fn check_texts(network_text: &[u8], plan_text: &[u8]) -> Answer
-    ensures { λ r. ⌜ r ≡ checkTexts (now (network_text .entry)) (now (plan_text .entry)) ⌝ }
+fn check_texts(network: &[u8], plan: &[u8]) -> Answer
+    ensures { λ r. ⌜ r ≡ checkTexts (now (network .entry)) (now (plan .entry)) ⌝ }
 {
-    let mut network = [0u64; NETWORK];
-    let network_read = product::read_network(network_text, &mut network);
+    let mut network_list = [0u64; NETWORK];
+    let network_read = product::read_network(network, &mut network_list);
     let Answer::Done(length) = network_read else {
         return network_read;
     };
-    let mut plan = [0u64; PLAN];
-    let plan_read = product::read_plan(plan_text, &mut plan);
+    let mut plan_list = [0u64; PLAN];
+    let plan_read = product::read_plan(plan, &mut plan_list);
     let Answer::Done(size) = plan_read else {
         return plan_read;
     };
     let mut marks = [0u8; MARKS];
-    product::check_plan(&network[..length], &plan[..size], &mut marks)
+    product::check_plan(&network_list[..length], &plan_list[..size], &mut marks)
 }
 
 fn main() {

@@ -1,10 +1,12 @@
 -- `make_plan::main` meets its contract: the plan text lies within the room that was lent for it.
 use Prim.Native.Nat.{_≤_}
 use mathlib.Core.Path.{sym}
-use lib.ListN.{length}
+use lib.ListN.{length, take}
 use lib.Seq.{length-take-le}
 use borrow.Author.Needs.{needs}
+use Rattle.lists.specs.Answers.{withRoom}
 use Rattle.report.proofs.Room.{given}
+use Rattle.make_plan.specs.Printed.{planText}
 use Rattle.make_plan.proofs.main.Statement.{statement}
 use Rattle.make_plan.proofs.main.Tie as tie
 
@@ -12,7 +14,9 @@ use Rattle.make_plan.proofs.main.Tie as tie
 within : (c : tie.After-answer) → c .answer .given .0 .0 ≤ length (c .before .before .before .plan-text .last .1 .0)
 within c =
     let p = c .before .before .before .plan-text in
-    given _ _ _ _ _ (p .ensures .0) (c .answer .given .1) (p .ensures .1) .within
+    let out = c .before .before .before .before .before .before .large-buffer2 .result in
+    let r = c .before .before .before .before .before .before .before .before .read-full in
+    given (withRoom (length out) (planText (take (r .result) (r .last .1 .0)))) _ _ out _ (p .ensures .0) (c .answer .given .1) (p .ensures .1) .within
 
 large-buffer-requires : tie.Need-large-buffer-requires
 large-buffer-requires c κs = search needs
