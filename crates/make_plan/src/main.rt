@@ -6,14 +6,10 @@ ghost use Rattle.make_plan.specs.Printed.{planText};
 use libc::STDIN_FILENO;
 use libc::STDOUT_FILENO;
 use lists::Answer;
+use report::NETWORK;
+use report::PLAN;
 
-// No valid network has more numbers: 6, then 64 links, 32 flows of 2 and 96 tunnels of 4.
-const NETWORK: usize = 518;
-
-// No plan has more numbers: 4, then 49 rows of 96 tunnels.
-const PLAN: usize = 4708;
-
-// The text of the plan for a network text.
+// Writes the plan text for a network text. `Done` carries its length; a refusal is that of the first operation that refuses.
 fn plan_text(text: &[u8], out: &mut [u8]) -> Answer
     ensures { λ r. ⌜ r ≡ done (withRoom (length (now (out .entry))) (planText (now (text .entry)))) ⌝ }
     ensures { λ _. ⌜ now (out .exit) ≡ lent (withRoom (length (now (out .entry))) (planText (now (text .entry)))) (now (out .entry)) ⌝ }
@@ -40,6 +36,7 @@ fn main() {
         Answer::Done(length) => {
             io::write_all(STDOUT_FILENO, &out[..length]);
         }
+        // a writer gives no plan
         Answer::Plan(_) => {}
         Answer::Refused {
             number,
