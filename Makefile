@@ -12,6 +12,9 @@ test:
 check:
 	@rt check
 
+NETWORK ?= samples/swap/network.txt
+PLAN ?= samples/swap/plan.txt
+
 # A program is proved and built first, unless it is newer than all of its sources. What that says goes to the error stream,
 # so that standard output has the program's own lines alone.
 plan:
