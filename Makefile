@@ -1,11 +1,26 @@
-.PHONY: help test check
+.PHONY: help test check plan check-plan
 
 help:
 	@echo 'make test    prove every crate, try the must-fail edits, run every other test; the last line is the total'
 	@echo 'make check   prove every crate, without the must-fail edits'
+	@echo 'make plan NETWORK=FILE                  print the plan for a network, as make plan NETWORK=samples/swap/network.txt'
+	@echo 'make check-plan NETWORK=FILE PLAN=FILE  print whether a plan is accepted for a network'
 
 test:
 	@tools/test
 
 check:
 	@rt check
+
+NETWORK ?= samples/swap/network.txt
+PLAN ?= samples/swap/plan.txt
+
+# A program is proved and built first, unless it is newer than all of its sources. What that says goes to the error stream,
+# so that standard output has the program's own lines alone.
+plan:
+	@tools/program make_plan 1>&2
+	@target/bin/make_plan < '$(NETWORK)'
+
+check-plan:
+	@tools/program check_plan 1>&2
+	@tools/check-plan '$(NETWORK)' '$(PLAN)'

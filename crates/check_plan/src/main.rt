@@ -1,0 +1,59 @@
+// Reads `network.txt` and `plan.txt` in the current folder and prints whether the plan is accepted, or why it is not.
+ghost use mathlib.Core.Path.{_≡_};
+ghost use Rattle.io.specs.Counts.{Counts};
+ghost use Rattle.check_plan.specs.Printed.{checkTexts};
+use libc::STDOUT_FILENO;
+use lists::Answer;
+use report::NETWORK;
+use report::PLAN;
+
+// The marks are lent since the check asks for them; only the answer is printed.
+const MARKS: usize = 96;
+
+// Fills buf from the start of a file and answers how many bytes it has. A file that cannot be opened, or cannot be read, has none.
+fn read_file(path: &[u8], buf: &mut [u8]) -> usize
+    ensures { λ r. ⌜ Counts r (now (buf .exit)) ⌝ }
+{
+    let file = os::open_read(path);
+    if file < 0 {
+        return 0;
+    }
+    let length = io::read_full(file, buf);
+    libc::close(file);
+    length
+}
+
+// "The checker reads the whole network first, then the whole plan".
+fn check_texts(network: &[u8], plan: &[u8]) -> Answer
+    ensures { λ r. ⌜ r ≡ checkTexts (now (network .entry)) (now (plan .entry)) ⌝ }
+{
+    let mut network_list = [0u64; NETWORK];
+    let network_read = product::read_network(network, &mut network_list);
+    let Answer::Done(length) = network_read else {
+        return network_read;
+    };
+    let mut plan_list = [0u64; PLAN];
+    let plan_read = product::read_plan(plan, &mut plan_list);
+    let Answer::Done(size) = plan_read else {
+        return plan_read;
+    };
+    let mut marks = [0u8; MARKS];
+    product::check_plan(&network_list[..length], &plan_list[..size], &mut marks)
+}
+
+fn main() {
+    let mut network = io::large_buffer();
+    let network_length = read_file(b"network.txt", &mut network);
+    let mut plan = io::large_buffer();
+    let plan_length = read_file(b"plan.txt", &mut plan);
+    let answer = check_texts(&network[..network_length], &plan[..plan_length]);
+    if let Answer::Refused {
+        number,
+        place,
+        second,
+    } = answer {
+        report::print_refusal(number, place, second);
+    } else {
+        io::write_all(STDOUT_FILENO, b"accepted=1\n");
+    }
+}
