@@ -10,7 +10,10 @@ fn main() {
     println!("cargo:rerun-if-env-changed=PAVUNESHIL_LIB");
     let folder = match std::env::var_os("PAVUNESHIL_LIB") {
         Some(folder) => PathBuf::from(folder),
-        None => made(&Path::new(env!("CARGO_MANIFEST_DIR")).join("../..")),
+        None => {
+            let here = std::env::var_os("CARGO_MANIFEST_DIR").expect("cargo sets it");
+            made(&Path::new(&here).join("../.."))
+        }
     };
     let archive = folder.join(ARCHIVE);
     assert!(archive.exists(), "no {}", archive.display());
