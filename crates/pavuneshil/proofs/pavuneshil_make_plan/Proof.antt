@@ -1,0 +1,24 @@
+-- `pavuneshil::pavuneshil_make_plan` meets its contract. What `product` answers, as four numbers. Assumes nothing.
+use mathlib.Core.Path.{ap, _∙_}
+use Rattle.pavuneshil.specs.Four.{four}
+use borrow.Author.Needs.{needs}
+use Rattle.pavuneshil.proofs.pavuneshil_make_plan.Statement.{statement}
+use Rattle.pavuneshil.proofs.pavuneshil_make_plan.Tie as tie
+
+make-plan-requires : tie.Need-make-plan-requires
+make-plan-requires c κs = search needs
+
+numbers-requires : tie.Need-numbers-requires
+numbers-requires c κs = search needs
+
+same-length : tie.Need-same-length
+same-length c = search needs
+
+returns : tie.Need-returns
+returns c =
+    let p = c .before .before .before .make-plan .ensures in
+    (c .numbers .ensures ∙ ap four (p .0), p .1)
+
+pub pavuneshil-make-plan-spec : {M : Type 1} → statement M
+pavuneshil-make-plan-spec =
+    tie.close (tie.spec make-plan-requires numbers-requires same-length returns)

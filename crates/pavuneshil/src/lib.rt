@@ -1,0 +1,110 @@
+// The seven operations for C and Rust: `rt staticlib pavuneshil` makes libpavuneshil.a of them. Each has no precondition.
+// A slice passes as a pointer and a length, `answer` as a pointer to four numbers: the kind, then the values, as `four`
+// gives them. What is lent is left as the operations of `product` leave it.
+ghost use mathlib.Core.Path.{_≡_};
+ghost use lib.ListN.{length};
+ghost use Rattle.lists.specs.Answers.{withRoom, done, plan, lent};
+ghost use Rattle.forms.specs.Read.{readNetwork, readPlan};
+ghost use Rattle.forms.specs.Write.{writeNetwork, writePlan};
+ghost use Rattle.planner.specs.Planned.{planned};
+ghost use Rattle.checker.specs.Check.{verdict, checked, marksAfter};
+ghost use Rattle.bound.specs.Bound.{boundOf, told};
+ghost use Rattle.pavuneshil.specs.Four.{four, fourOfBound};
+use bound::StepBound;
+use lists::Answer;
+
+// An answer as four numbers.
+fn numbers(a: Answer) -> [u64; 4]
+    ensures { λ r. ⌜ r ≡ four a ⌝ }
+{
+    match a {
+        Answer::Done(length) => [0, length as u64, 0, 0],
+        Answer::Plan(length) => [1, length as u64, 0, 0],
+        Answer::Refused {
+            number,
+            place,
+            second,
+        } => [2, number, place, second],
+    }
+}
+
+// The step bound's answer as four numbers.
+fn bound_numbers(a: StepBound) -> [u64; 4]
+    ensures { λ r. ⌜ r ≡ fourOfBound a ⌝ }
+{
+    match a {
+        StepBound::Steps(steps) => [0, steps, 0, 0],
+        StepBound::Refused {
+            number,
+            place,
+            second,
+        } => [2, number, place, second],
+    }
+}
+
+// Reads a network text into a list of numbers, one for each line.
+#[no_mangle]
+pub extern "C" fn pavuneshil_read_network(text: &[u8], out: &mut [u64], answer: &mut [u64; 4])
+    ensures { λ _. ⌜ now (answer .exit) ≡ four (done (withRoom (length (now (out .entry))) (readNetwork (now (text .entry))))) ⌝ }
+    ensures { λ _. ⌜ now (out .exit) ≡ lent (withRoom (length (now (out .entry))) (readNetwork (now (text .entry)))) (now (out .entry)) ⌝ }
+{
+    *answer = numbers(product::read_network(text, out));
+}
+
+// Reads a plan text into a list of numbers, one for each line.
+#[no_mangle]
+pub extern "C" fn pavuneshil_read_plan(text: &[u8], out: &mut [u64], answer: &mut [u64; 4])
+    ensures { λ _. ⌜ now (answer .exit) ≡ four (done (withRoom (length (now (out .entry))) (readPlan (now (text .entry))))) ⌝ }
+    ensures { λ _. ⌜ now (out .exit) ≡ lent (withRoom (length (now (out .entry))) (readPlan (now (text .entry)))) (now (out .entry)) ⌝ }
+{
+    *answer = numbers(product::read_plan(text, out));
+}
+
+// Writes the text of a network's list.
+#[no_mangle]
+pub extern "C" fn pavuneshil_write_network(list: &[u64], out: &mut [u8], answer: &mut [u64; 4])
+    ensures { λ _. ⌜ now (answer .exit) ≡ four (done (withRoom (length (now (out .entry))) (writeNetwork (now (list .entry))))) ⌝ }
+    ensures { λ _. ⌜ now (out .exit) ≡ lent (withRoom (length (now (out .entry))) (writeNetwork (now (list .entry)))) (now (out .entry)) ⌝ }
+{
+    *answer = numbers(product::write_network(list, out));
+}
+
+// Writes the text of a plan's list.
+#[no_mangle]
+pub extern "C" fn pavuneshil_write_plan(list: &[u64], out: &mut [u8], answer: &mut [u64; 4])
+    ensures { λ _. ⌜ now (answer .exit) ≡ four (done (withRoom (length (now (out .entry))) (writePlan (now (list .entry))))) ⌝ }
+    ensures { λ _. ⌜ now (out .exit) ≡ lent (withRoom (length (now (out .entry))) (writePlan (now (list .entry)))) (now (out .entry)) ⌝ }
+{
+    *answer = numbers(product::write_plan(list, out));
+}
+
+// Makes the even plan of fewest steps for a network's list.
+#[no_mangle]
+pub extern "C" fn pavuneshil_make_plan(network: &[u64], out: &mut [u64], answer: &mut [u64; 4])
+    ensures { λ _. ⌜ now (answer .exit) ≡ four (plan (withRoom (length (now (out .entry))) (planned (now (network .entry))))) ⌝ }
+    ensures { λ _. ⌜ now (out .exit) ≡ lent (withRoom (length (now (out .entry))) (planned (now (network .entry)))) (now (out .entry)) ⌝ }
+{
+    *answer = numbers(product::make_plan(network, out));
+}
+
+// Checks anybody's plan against a network, and marks the tunnels that show an overload.
+#[no_mangle]
+pub extern "C" fn pavuneshil_check_plan(
+    network: &[u64],
+    plan: &[u64],
+    marks: &mut [u8],
+    answer: &mut [u64; 4],
+)
+    ensures { λ _. ⌜ now (answer .exit) ≡ four (checked (now (network .entry)) (verdict (now (network .entry)) (now (plan .entry)) (length (now (marks .entry))))) ⌝ }
+    ensures { λ _. ⌜ now (marks .exit) ≡ marksAfter (now (network .entry)) (now (plan .entry)) (verdict (now (network .entry)) (now (plan .entry)) (length (now (marks .entry)))) (now (marks .entry)) ⌝ }
+{
+    *answer = numbers(product::check_plan(network, plan, marks));
+}
+
+// The step bound of a network that keeps its scratch.
+#[no_mangle]
+pub extern "C" fn pavuneshil_step_bound(scratch: u64, overrun: u64, answer: &mut [u64; 4])
+    ensures { λ _. ⌜ now (answer .exit) ≡ fourOfBound (told (boundOf scratch overrun)) ⌝ }
+{
+    *answer = bound_numbers(product::step_bound(scratch, overrun));
+}

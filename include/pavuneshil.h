@@ -1,0 +1,111 @@
+/*
+ * Pavuneshil: even-step update plans for a tunnelled backbone, for C.
+ * Link libpavuneshil.a, which `rt staticlib pavuneshil` makes. It needs memcpy and memset, and no heap.
+ *
+ * What holds of every function below is proved of the library's source. None has a precondition on the values: whatever
+ * the texts and lists hold, and however short the lent output is, the answer says what came of it. What C does not check
+ * is left to the caller:
+ *   - each pointer points to as many items as the length after it says, or any more, and is not NULL, also where the
+ *     length is 0;
+ *   - what is written to (out, marks, answer) overlaps nothing else that is passed in the same call.
+ *
+ * A text is bytes. A list has one 64-bit number for each line of the text, in line order. Lengths are in bytes for texts
+ * and marks, in numbers for lists.
+ *
+ * The answer is four numbers:
+ *   { PAVUNESHIL_DONE,    length, 0, 0 }              done; length items of the output were written
+ *   { PAVUNESHIL_PLAN,    length, 0, 0 }              a plan; length numbers were written
+ *   { PAVUNESHIL_REFUSED, number, place, second }     refused:
+ *
+ *   number                                      place                        second
+ *   1   line not in its form                    line                         0 network, 1 plan
+ *   2   value outside its range                 line                         0 network, 1 plan
+ *   3   a line is missing, or is too many       first such line              0 network, 1 plan
+ *   4   a flow's amounts miss its rate          flow                         0 old, 1 new
+ *   5   plan has another `tunnels`              4                            1
+ *   6   a row misses parts x rate               row                          flow
+ *   7   protected overload                      step                         link
+ *   8   overload of all classes                 step                         link
+ *   9   no even plan of 1 to 50 steps fits      where the 50-step plan first overloads: step, link
+ *   10  lent output too short                   length needed                0
+ *
+ * Lines and steps count from 1, rows, links, flows and tunnels from 0. After a refusal everything lent is left as it
+ * was, except the marks after 7 and 8. Output beyond the written length is never touched.
+ */
+#ifndef PAVUNESHIL_H
+#define PAVUNESHIL_H
+
+#include <stddef.h>
+#include <stdint.h>
+
+#ifdef __cplusplus
+extern "C" {
+#endif
+
+/* The kinds of answer. */
+#define PAVUNESHIL_DONE 0
+#define PAVUNESHIL_PLAN 1
+#define PAVUNESHIL_REFUSED 2
+
+/* No valid input needs more room than this. */
+#define PAVUNESHIL_NETWORK_NUMBERS 518 /* the list of a network */
+#define PAVUNESHIL_PLAN_NUMBERS 4708   /* the list of a plan */
+#define PAVUNESHIL_TEXT_BYTES 65536    /* either text */
+#define PAVUNESHIL_MARKS 96            /* the marks of a check */
+
+/*
+ * Reads a network text. Done: out begins with the network's list, which has the number of each line.
+ * Refused: the first of 1, 2 and 3 that a line meets, line after line (3, then 1, then 2); then 4; then 10.
+ */
+void pavuneshil_read_network(const uint8_t *text, size_t text_len, uint64_t *out, size_t out_len, uint64_t answer[4]);
+
+/*
+ * Reads a plan text. Done: out begins with the plan's list, which has the number of each line.
+ * Refused: the first of 1, 2 and 3 that a line meets, line after line (3, then 1, then 2); then 10.
+ */
+void pavuneshil_read_plan(const uint8_t *text, size_t text_len, uint64_t *out, size_t out_len, uint64_t answer[4]);
+
+/*
+ * Writes a network's text. Done: out begins with the text of the list, which pavuneshil_read_network reads back.
+ * Refused: 2, 3 and 4 as in reading, a number's position standing for its line; then 10.
+ */
+void pavuneshil_write_network(const uint64_t *list, size_t list_len, uint8_t *out, size_t out_len, uint64_t answer[4]);
+
+/*
+ * Writes a plan's text. Done: out begins with the text of the list, which pavuneshil_read_plan reads back.
+ * Refused: 2 and 3 as in reading, a number's position standing for its line; then 10.
+ */
+void pavuneshil_write_plan(const uint64_t *list, size_t list_len, uint8_t *out, size_t out_len, uint64_t answer[4]);
+
+/*
+ * Plans. A plan: out begins with the list of the even plan of fewest steps, 1 to 50, in which no link is overloaded in
+ * any step, whichever tunnels have moved and whichever have not. A network that keeps its scratch with overrun 0 gets
+ * one, given the room, of at most as many steps as pavuneshil_step_bound says.
+ * Refused: 2, 3 and 4 of the network's list; then 9; then 10.
+ */
+void pavuneshil_make_plan(const uint64_t *network, size_t network_len, uint64_t *out, size_t out_len,
+                          uint64_t answer[4]);
+
+/*
+ * Checks anybody's plan, given as lists. Done: no link is overloaded in any step, whichever tunnels have moved and
+ * whichever have not; marks begins with a 0 for each tunnel.
+ * Refused: 2, 3 and 4 of the network; 2 and 3 of the plan; 5; 6, the lowest row, then flow; 10, if marks has fewer
+ * bytes than there are tunnels; then 7 or 8, the first overload by step, then link, 7 before 8. After 7 and 8 marks
+ * begins with a byte for each tunnel, 1 exactly if it crosses the named link and its amount rises in the named step,
+ * else 0: once the marked tunnels have moved in that step, and no others, the named link is overloaded.
+ */
+void pavuneshil_check_plan(const uint64_t *network, size_t network_len, const uint64_t *plan, size_t plan_len,
+                           uint8_t *marks, size_t marks_len, uint64_t answer[4]);
+
+/*
+ * The step bound. { PAVUNESHIL_DONE, steps, 0, 0 }: a network with this scratch and overrun, both in thousandths, that
+ * keeps its scratch needs at most so many even steps.
+ * Refused: 2 at place 2 where scratch is not 20 to 500; 2 at place 3 where overrun is neither 0 nor 20 to 500.
+ */
+void pavuneshil_step_bound(uint64_t scratch, uint64_t overrun, uint64_t answer[4]);
+
+#ifdef __cplusplus
+}
+#endif
+
+#endif

@@ -1,0 +1,312 @@
+//! One call of one operation, compared whole. The lent output lies in the middle of a larger buffer
+//! that is filled with a pattern, and all of the buffer is compared: what was written, what lies
+//! beyond it, and what lies around what was lent.
+
+use crate::inputs;
+use crate::Outcome;
+use pavuneshil::{Answer, Refusal, StepBound};
+use second::gen::Rng;
+use second::{Checked, Rules};
+use std::fmt::Debug;
+
+/// So much of the buffer lies before and after what is lent.
+const AROUND: usize = 8;
+
+/// The longest output is the text of the longest plan; a length at which nothing is ever short.
+const AMPLE: usize = 65_536;
+
+/// A length to lend where so much is needed: exact, one short, none, ample, or any. `needed` is
+/// `None` where the input is refused before the room counts.
+fn room(rng: &mut Rng, needed: Option<usize>, other: usize) -> usize {
+    let needed = needed.unwrap_or(other);
+    match rng.below(10) {
+        0..=2 => needed,
+        3..=4 => needed.saturating_sub(1),
+        5 => 0,
+        6 => needed + 1,
+        7 => needed + rng.below(40) as usize,
+        8 => rng.below(needed as u64 + 1) as usize,
+        _ => {
+            if rng.percent(20) {
+                AMPLE
+            } else {
+                needed + 100
+            }
+        }
+    }
+}
+
+/// How a room compares with what is needed, for the account.
+fn room_name(room: usize, needed: Option<usize>) -> &'static str {
+    match needed {
+        None => "",
+        Some(n) if room == n => ", room exact",
+        Some(n) if room + 1 == n => ", room one short",
+        Some(_) if room == 0 => ", room zero",
+        Some(n) if room < n => ", room short",
+        Some(_) => ", room ample",
+    }
+}
+
+/// The refusal of the second implementation, in the library's type.
+pub fn told(refusal: second::Refusal) -> Refusal {
+    Refusal {
+        number: refusal.number,
+        place: refusal.place,
+        second: refusal.second,
+    }
+}
+
+/// A buffer with the pattern of this case.
+fn pattern<T>(rng: &mut Rng, length: usize, make: fn(u64) -> T) -> Vec<T> {
+    let base = rng.any();
+    (0..length as u64)
+        .map(|i| make((base ^ i).wrapping_mul(0x9e37_79b9_7f4a_7c15) >> 8))
+        .collect()
+}
+
+/// Lends the middle of a patterned buffer of this room to `call`, and compares the answer, and
+/// the whole buffer with the pattern into which `written` was put at the start of what was lent.
+fn lend<T: Copy + PartialEq + Debug>(
+    rng: &mut Rng,
+    make: fn(u64) -> T,
+    room: usize,
+    call: impl FnOnce(&mut [T]) -> Answer,
+    expected: Answer,
+    written: &[T],
+) -> Result<(), String> {
+    let mut buffer = pattern(rng, room + 2 * AROUND, make);
+    let mut whole = buffer.clone();
+    whole[AROUND..AROUND + written.len()].copy_from_slice(written);
+    let answer = call(&mut buffer[AROUND..AROUND + room]);
+    if answer != expected {
+        return Err(format!("{answer:?}, expected {expected:?}, room {room}"));
+    }
+    if let Some(at) = (0..whole.len()).find(|&i| buffer[i] != whole[i]) {
+        return Err(format!(
+            "{answer:?}, room {room}: at {} of what was lent {:?}, expected {:?}",
+            at as i64 - AROUND as i64,
+            buffer[at],
+            whole[at]
+        ));
+    }
+    Ok(())
+}
+
+/// An operation from one slice to another, held against the second implementation's.
+#[allow(clippy::too_many_arguments)]
+fn convert<I: Copy + PartialEq + Debug, O: Copy + PartialEq + Debug>(
+    rng: &mut Rng,
+    name: &str,
+    input: &[I],
+    make: fn(u64) -> O,
+    ours: fn(&[I], &mut [O]) -> Answer,
+    theirs: fn(&[I], usize) -> Result<Vec<O>, second::Refusal>,
+    good: fn(usize) -> Answer,
+) -> Outcome {
+    let needed = theirs(input, usize::MAX).map(|output| output.len());
+    let room = room(rng, needed.ok(), input.len());
+    let given = input.to_vec();
+    let (expected, written) = match theirs(input, room) {
+        Ok(output) => (good(output.len()), output),
+        Err(refusal) => (Answer::Refused(told(refusal)), Vec::new()),
+    };
+    lend(rng, make, room, |out| ours(&given, out), expected, &written)
+        .and_then(|()| {
+            if given == input {
+                Ok(())
+            } else {
+                Err("the input was changed".to_string())
+            }
+        })
+        .map_err(|why| format!("{name}: {why}: {input:?}"))?;
+    Ok(match expected {
+        Answer::Refused(refusal) => format!(
+            "{name}: refusal {}{}",
+            refusal.number,
+            if refusal.number == 10 {
+                room_name(room, needed.ok())
+            } else {
+                ""
+            }
+        ),
+        _ => format!("{name}: good{}", room_name(room, needed.ok())),
+    })
+}
+
+fn number(n: u64) -> u64 {
+    n
+}
+
+fn byte(n: u64) -> u8 {
+    (n % 256) as u8
+}
+
+pub fn read_network(rng: &mut Rng) -> Outcome {
+    let text = inputs::network_text(rng);
+    convert(
+        rng,
+        "read_network",
+        &text,
+        number,
+        pavuneshil::read_network,
+        |text, room| second::read_network_by(&Rules::base(), text, room),
+        Answer::Done,
+    )
+}
+
+pub fn read_plan(rng: &mut Rng) -> Outcome {
+    let text = inputs::plan_text(rng);
+    convert(
+        rng,
+        "read_plan",
+        &text,
+        number,
+        pavuneshil::read_plan,
+        |text, room| second::read_plan_by(&Rules::base(), text, room),
+        Answer::Done,
+    )
+}
+
+pub fn write_network(rng: &mut Rng) -> Outcome {
+    let list = inputs::any_network_list(rng);
+    convert(
+        rng,
+        "write_network",
+        &list,
+        byte,
+        pavuneshil::write_network,
+        |list, room| second::write_network_by(&Rules::base(), list, room),
+        Answer::Done,
+    )
+}
+
+pub fn write_plan(rng: &mut Rng) -> Outcome {
+    let list = inputs::any_plan_list(rng);
+    convert(
+        rng,
+        "write_plan",
+        &list,
+        byte,
+        pavuneshil::write_plan,
+        second::write_plan,
+        Answer::Done,
+    )
+}
+
+pub fn make_plan(rng: &mut Rng) -> Outcome {
+    let list = inputs::any_network_list(rng);
+    convert(
+        rng,
+        "make_plan",
+        &list,
+        number,
+        pavuneshil::make_plan,
+        |list, room| second::make_plan_by(&Rules::base(), list, room),
+        Answer::Plan,
+    )
+}
+
+pub fn check_plan(rng: &mut Rng) -> Outcome {
+    let (network, plan) = inputs::pair(rng);
+    let needed = network.get(5).map_or(0, |&tunnels| tunnels.min(96)) as usize;
+    let room = room(rng, Some(needed), needed);
+    let (expected, written) = match second::check_plan_by(&Rules::base(), &network, &plan, room) {
+        Checked::Accepted { marks } => (Answer::Done(marks.len()), marks),
+        Checked::Refused { refusal, marks } => {
+            (Answer::Refused(told(refusal)), marks.unwrap_or_default())
+        }
+    };
+    let given = (network.clone(), plan.clone());
+    lend(
+        rng,
+        byte,
+        room,
+        |marks| pavuneshil::check_plan(&given.0, &given.1, marks),
+        expected,
+        &written,
+    )
+    .and_then(|()| {
+        if given.0 == network && given.1 == plan {
+            Ok(())
+        } else {
+            Err("the input was changed".to_string())
+        }
+    })
+    .map_err(|why| format!("check_plan: {why}: {network:?} {plan:?}"))?;
+    Ok(match expected {
+        Answer::Refused(refusal) => format!(
+            "check_plan: refusal {}{}",
+            refusal.number,
+            if matches!(refusal.number, 7 | 8 | 10) {
+                room_name(room, Some(needed))
+            } else {
+                ""
+            }
+        ),
+        _ => format!("check_plan: good{}", room_name(room, Some(needed))),
+    })
+}
+
+pub fn step_bound(rng: &mut Rng) -> Outcome {
+    let (scratch, overrun) = (inputs::share(rng), inputs::share(rng));
+    let expected = match second::step_bound(scratch, overrun) {
+        Ok(steps) => StepBound::Steps(steps),
+        Err(refusal) => StepBound::Refused(told(refusal)),
+    };
+    let answer = pavuneshil::step_bound(scratch, overrun);
+    if answer != expected {
+        return Err(format!(
+            "step_bound({scratch}, {overrun}): {answer:?}, expected {expected:?}"
+        ));
+    }
+    Ok(match expected {
+        StepBound::Steps(_) => "step_bound: good".to_string(),
+        StepBound::Refused(refusal) => {
+            format!("step_bound: refusal 2 at line {}", refusal.place)
+        }
+    })
+}
+
+#[cfg(test)]
+mod tests {
+    use super::*;
+
+    /// Every pair about the ranges.
+    #[test]
+    fn every_step_bound() {
+        for scratch in 0..=520 {
+            for overrun in 0..=520 {
+                let expected = match second::step_bound(scratch, overrun) {
+                    Ok(steps) => StepBound::Steps(steps),
+                    Err(refusal) => StepBound::Refused(told(refusal)),
+                };
+                assert_eq!(pavuneshil::step_bound(scratch, overrun), expected);
+            }
+        }
+    }
+
+    fn lend_two(expected: Answer, written: &[u64], put: &[(usize, u64)]) -> bool {
+        let call = |out: &mut [u64]| {
+            for &(at, number) in put {
+                out[at] = number;
+            }
+            Answer::Done(2)
+        };
+        lend(&mut Rng::new(1), number, 4, call, expected, written).is_ok()
+    }
+
+    /// The comparison sees another answer, another number written, one not written and one too many.
+    #[test]
+    fn differences_are_seen() {
+        assert!(lend_two(Answer::Done(2), &[3, 4], &[(0, 3), (1, 4)]));
+        assert!(!lend_two(Answer::Plan(2), &[3, 4], &[(0, 3), (1, 4)]));
+        assert!(!lend_two(Answer::Done(2), &[3, 4], &[(0, 3), (1, 5)]));
+        assert!(!lend_two(Answer::Done(2), &[3, 4], &[(0, 3)]));
+        assert!(!lend_two(
+            Answer::Done(2),
+            &[3, 4],
+            &[(0, 3), (1, 4), (3, 1)]
+        ));
+    }
+}

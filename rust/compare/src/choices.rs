@@ -1,0 +1,140 @@
+//! Demand 3 by trying every choice on tiny networks. "If the planner returns a plan, or the checker
+//! answers done, no choice in any step overloads a link. After 7 or 8 from the checker, take the
+//! choice in the named step in which the marked tunnels show the later row and all others the
+//! earlier: it breaks that number's bound on the named link."
+
+use crate::call::told;
+use crate::Outcome;
+use pavuneshil::{check_plan, make_plan, step_bound, Answer, Refusal, StepBound, PLAN_NUMBERS};
+use second::gen::*;
+use second::{choice_overloads, even_plan, first_by_choices, keeps_scratch, Rules};
+
+/// Longer plans are not held against every choice.
+const STEPS: u64 = 10;
+
+/// The first overload that some choice makes, as a refusal.
+fn by_choices(network: &[u64], plan: &[u64]) -> Option<Refusal> {
+    first_by_choices(&Rules::base(), network, plan, 1).map(told)
+}
+
+/// One tiny network, held against every choice: the checker with any plan, or the planner.
+pub fn hold(rng: &mut Rng) -> Outcome {
+    let network = match rng.below(8) {
+        0 => tiny_of(rng, |rng| keeping_scratch(rng, false)),
+        1 => tiny_of(rng, full),
+        2 => no_flows(rng),
+        _ => tiny(rng),
+    };
+    let held = if rng.percent(70) {
+        let plan = loop {
+            let plan = any_plan(rng, &network);
+            if plan[2] <= STEPS {
+                break plan;
+            }
+        };
+        checker(&network, &plan).map_err(|why| format!("checker: {why}: {plan:?}"))
+    } else {
+        planner(&network).map_err(|why| format!("planner: {why}"))
+    };
+    held.map_err(|why| format!("every choice, {why}: {network:?}"))
+}
+
+/// A network of some kind that has few tunnels.
+fn tiny_of(rng: &mut Rng, make: fn(&mut Rng) -> Vec<u64>) -> Vec<u64> {
+    loop {
+        let network = make(rng);
+        if network[5] <= 5 && network[3] <= 4 {
+            return network;
+        }
+    }
+}
+
+/// The checker's answer on a plan whose rows add up.
+fn checker(network: &[u64], plan: &[u64]) -> Outcome {
+    let tunnels = network[5] as usize;
+    let mut marks = vec![77; tunnels];
+    match (
+        check_plan(network, plan, &mut marks),
+        by_choices(network, plan),
+    ) {
+        (Answer::Done(length), None) if length == tunnels && marks.iter().all(|&m| m == 0) => {
+            Ok("every choice: accepted, none overloads".to_string())
+        }
+        (Answer::Refused(refusal), Some(first)) if refusal == first => {
+            if marks.iter().any(|&m| m > 1) {
+                return Err(format!("{refusal:?}, marks {marks:?}"));
+            }
+            let choice: Vec<bool> = marks.iter().map(|&mark| mark == 1).collect();
+            let (step, link) = (refusal.place as usize, refusal.second as usize);
+            let broken = choice_overloads(network, plan, step, link, &choice);
+            let shown = if refusal.number == 7 {
+                broken.0
+            } else {
+                broken.1
+            };
+            if shown {
+                Ok(format!(
+                    "every choice: refusal {}, the marks show it",
+                    refusal.number
+                ))
+            } else {
+                Err(format!(
+                    "{refusal:?}, but the marks {marks:?} show no overload"
+                ))
+            }
+        }
+        (answer, first) => Err(format!("{answer:?}, marks {marks:?}, by choices {first:?}")),
+    }
+}
+
+/// The planner's answer: the even plan of fewest steps that no choice overloads, or none of 50.
+fn planner(network: &[u64]) -> Outcome {
+    let mut plan = [0; PLAN_NUMBERS];
+    let answer = make_plan(network, &mut plan);
+    match answer {
+        Answer::Plan(length) => {
+            let plan = &plan[..length];
+            let steps = plan[2];
+            if plan != even_plan(network, steps) {
+                return Err(format!("not even: {plan:?}"));
+            }
+            if let Some(first) = by_choices(network, plan) {
+                return Err(format!("{first:?} in the plan {plan:?}"));
+            }
+            for fewer in 1..steps {
+                if by_choices(network, &even_plan(network, fewer)).is_none() {
+                    return Err(format!("{steps} steps, but {fewer} do"));
+                }
+            }
+            let mut marks = vec![77; network[5] as usize];
+            if check_plan(network, plan, &mut marks) != Answer::Done(marks.len()) {
+                return Err("its plan is not accepted".to_string());
+            }
+            if network[2] != 0 || !keeps_scratch(network) {
+                return Ok("every choice: planned, fewest steps".to_string());
+            }
+            match step_bound(network[1], 0) {
+                StepBound::Steps(most) if steps <= most => {
+                    Ok("every choice: planned, within the step bound".to_string())
+                }
+                bound => Err(format!("{steps} steps, bound {bound:?}")),
+            }
+        }
+        Answer::Refused(refusal) if refusal.number == 9 => {
+            if network[2] == 0 && keeps_scratch(network) {
+                return Err(format!("{refusal:?}, but it keeps its scratch"));
+            }
+            for steps in 1..=50 {
+                let first = by_choices(network, &even_plan(network, steps));
+                let Some(first) = first else {
+                    return Err(format!("{refusal:?}, but {steps} steps do"));
+                };
+                if steps == 50 && (first.place, first.second) != (refusal.place, refusal.second) {
+                    return Err(format!("{refusal:?}, by choices {first:?}"));
+                }
+            }
+            Ok("every choice: refusal 9, all 50 overload".to_string())
+        }
+        other => Err(format!("{other:?}")),
+    }
+}

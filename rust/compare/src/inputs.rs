@@ -1,0 +1,231 @@
+//! Inputs, good and damaged: valid, one edge off, truncated, random.
+
+use second::gen::*;
+use second::{write_network, write_plan};
+
+const ROOM: usize = usize::MAX;
+
+/// The bytes that texts are made of, and some others.
+const BYTES: &[u8] = b"0123456789=\nabcdefnetscrahvilowpkug \r#\0\xff";
+
+/// The keys of both texts.
+const KEYS: [&str; 18] = [
+    "net", "scratch", "overrun", "links", "flows", "tunnels", "cap", "class", "rate", "flow",
+    "via", "old", "new", "plan", "parts", "steps", "at", "",
+];
+
+/// A valid network of any size, the largest more often than `any_network` has them.
+pub fn network(rng: &mut Rng) -> Vec<u64> {
+    match rng.below(50) {
+        0 => maximal(rng),
+        1..=20 => tiny(rng),
+        _ => any_network(rng),
+    }
+}
+
+/// A valid plan list, for this network or for none.
+fn plan_list(rng: &mut Rng, network: &[u64]) -> Vec<u64> {
+    match rng.below(200) {
+        0 => longest_plan(rng),
+        1..=20 => stray_plan(rng),
+        21..=50 => broken_plan(rng, network),
+        _ => any_plan(rng, network),
+    }
+}
+
+/// A list changed by one damage or more, cut anywhere, far too long, or of random numbers.
+fn damaged(rng: &mut Rng, list: &[u64]) -> Vec<u64> {
+    match rng.below(100) {
+        0..=59 => damage_list(rng, list),
+        60..=79 => {
+            let once = damage_list(rng, list);
+            damage_list(rng, &once)
+        }
+        80..=88 => list[..rng.below(list.len() as u64 + 1) as usize].to_vec(),
+        89 => {
+            let more = rng.between(1, 6000) as usize;
+            [list, &vec![rng.below(3); more]].concat()
+        }
+        _ => (0..rng.below(40))
+            .map(|_| rng.any() >> rng.below(64))
+            .collect(),
+    }
+}
+
+/// A network's list, two in five valid.
+pub fn any_network_list(rng: &mut Rng) -> Vec<u64> {
+    let list = network(rng);
+    match rng.below(5) {
+        0..=1 => list,
+        2 => off_rate(rng, list),
+        _ => damaged(rng, &list),
+    }
+}
+
+/// A plan's list, two in five valid.
+pub fn any_plan_list(rng: &mut Rng) -> Vec<u64> {
+    let network = network(rng);
+    let list = plan_list(rng, &network);
+    match rng.below(5) {
+        0..=1 => list,
+        _ => damaged(rng, &list),
+    }
+}
+
+/// A network with one `rate`, `old` or `new` off by one or a little, in its range.
+fn off_rate(rng: &mut Rng, mut list: Vec<u64>) -> Vec<u64> {
+    let shape = Shape::of(&list);
+    let mut places: Vec<usize> = (0..shape.flows).map(|f| shape.rate(f)).collect();
+    for t in 0..shape.tunnels {
+        places.extend([shape.tunnel(t) + 2, shape.tunnel(t) + 3]);
+    }
+    if places.is_empty() {
+        return list;
+    }
+    let at = rng.pick(&places);
+    list[at] = match rng.below(3) {
+        0 => (list[at] + 1).min(10_000_000),
+        1 => list[at].saturating_sub(1),
+        _ => rng.below(10_000_001),
+    };
+    list
+}
+
+/// A network and a plan, mostly both valid and mostly made for each other.
+pub fn pair(rng: &mut Rng) -> (Vec<u64>, Vec<u64>) {
+    let network = network(rng);
+    let plan = match rng.below(10) {
+        0 => stray_plan(rng),
+        1..=2 => broken_plan(rng, &network),
+        3 => any_even_plan(rng, &network),
+        _ => any_plan(rng, &network),
+    };
+    match rng.below(20) {
+        0 => (damaged(rng, &network), plan),
+        1..=2 => {
+            let damaged = damaged(rng, &plan);
+            (network, damaged)
+        }
+        3 => (damaged(rng, &network), damaged(rng, &plan)),
+        4 => (off_rate(rng, network), plan),
+        _ => (network, plan),
+    }
+}
+
+/// The text of a network or a plan, or one damaged, cut anywhere, far too long, or of random bytes.
+fn any_text(rng: &mut Rng, text: Vec<u8>, other: Vec<u8>) -> Vec<u8> {
+    if rng.below(500) == 0 {
+        return too_long(rng, text);
+    }
+    match rng.below(20) {
+        0..=5 => text,
+        6..=12 => damage_text(rng, &text),
+        13..=14 => {
+            let once = damage_text(rng, &text);
+            damage_text(rng, &once)
+        }
+        15..=16 => text[..rng.below(text.len() as u64 + 1) as usize].to_vec(),
+        17 => random_bytes(rng),
+        18 => random_lines(rng),
+        _ => match rng.below(3) {
+            0 => other,
+            1 => [text, other].concat(),
+            _ => {
+                let at = rng.below(text.len() as u64 + 1) as usize;
+                [&text[..at], &random_bytes(rng)].concat()
+            }
+        },
+    }
+}
+
+/// A text that goes on, in one line or in many, for more than 65,536 bytes.
+fn too_long(rng: &mut Rng, text: Vec<u8>) -> Vec<u8> {
+    let more = match rng.below(4) {
+        0 => b"9".repeat(70_000),
+        1 => b"\n".repeat(70_000),
+        2 => b"at=1\n".repeat(14_000),
+        _ => b"cap=0\n".repeat(14_000),
+    };
+    let at = rng.below(text.len() as u64 + 1) as usize;
+    let at = if rng.percent(50) { at } else { text.len() };
+    [&text[..at], &more, &text[at..]].concat()
+}
+
+fn random_bytes(rng: &mut Rng) -> Vec<u8> {
+    let length = rng.below(80);
+    if rng.percent(50) {
+        (0..length).map(|_| rng.below(256) as u8).collect()
+    } else {
+        (0..length).map(|_| rng.pick(BYTES)).collect()
+    }
+}
+
+/// Lines in some order, each mostly in its form.
+fn random_lines(rng: &mut Rng) -> Vec<u8> {
+    let mut text = String::new();
+    for _ in 0..rng.below(30) {
+        let key = rng.pick(&KEYS);
+        text += key;
+        text += "=";
+        text += &match key {
+            "via" => format!("{:016x}", rng.any() >> rng.below(64)),
+            "net" | "plan" => "1".to_string(),
+            _ => (rng.any() >> rng.between(20, 63)).to_string(),
+        };
+        text += "\n";
+    }
+    text.into_bytes()
+}
+
+/// What a network text reader may meet.
+pub fn network_text(rng: &mut Rng) -> Vec<u8> {
+    let list = network(rng);
+    let plan = any_plan(rng, &list);
+    let other = write_plan(&plan, ROOM).expect("a valid plan");
+    // now and then a valid form whose amounts miss a rate: lines that the writer refuses
+    let text = if rng.percent(15) {
+        lines(&off_rate(rng, list))
+    } else {
+        write_network(&list, ROOM).expect("a valid network")
+    };
+    any_text(rng, text, other)
+}
+
+/// What a plan text reader may meet.
+pub fn plan_text(rng: &mut Rng) -> Vec<u8> {
+    let network = network(rng);
+    let plan = plan_list(rng, &network);
+    let text = write_plan(&plan, ROOM).expect("a valid plan");
+    let other = write_network(&network, ROOM).expect("a valid network");
+    any_text(rng, text, other)
+}
+
+/// The lines of a list that has the shape of a network.
+fn lines(list: &[u64]) -> Vec<u8> {
+    let shape = Shape::of(list);
+    let mut text = String::new();
+    for (i, number) in list.iter().enumerate() {
+        if i < 6 {
+            text += &format!("{}={number}\n", KEYS[i]);
+        } else if i < shape.class(0) {
+            text += &format!("cap={number}\n");
+        } else if i < shape.tunnel(0) {
+            text += &format!("{}={number}\n", KEYS[7 + (i - shape.class(0)) % 2]);
+        } else {
+            match (i - shape.tunnel(0)) % 4 {
+                1 => text += &format!("via={number:016x}\n"),
+                other => text += &format!("{}={number}\n", KEYS[9 + other]),
+            }
+        }
+    }
+    text.into_bytes()
+}
+
+/// A number for the step bound: an end of a range, beside one, in it, or any.
+pub fn share(rng: &mut Rng) -> u64 {
+    match rng.below(4) {
+        0 => rng.pick(&[0, 1, 18, 19, 20, 21, 499, 500, 501, 1000, 1 << 63, u64::MAX]),
+        1..=2 => rng.between(0, 520),
+        _ => rng.any() >> rng.below(64),
+    }
+}

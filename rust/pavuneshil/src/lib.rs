@@ -1,0 +1,212 @@
+//! Even-step update plans for a tunnelled backbone: the seven proved operations, for Rust.
+//!
+//! Texts and lists go in as slices, and results are written into a slice that the caller lends.
+//! No operation has a precondition: whatever is given, the answer says what came of it, and what
+//! is lent holds what the operation promises. Where the answer is a refusal, everything lent is
+//! left as it was, except the marks after 7 and 8. Output beyond the written length stays untouched.
+//!
+//! ```
+//! use pavuneshil::{make_plan, Answer};
+//! // one link of 15 Mbit/s, no flows, no tunnels
+//! let network = [1, 333, 0, 1, 0, 0, 15];
+//! let mut plan = [0; pavuneshil::PLAN_NUMBERS];
+//! assert_eq!(make_plan(&network, &mut plan), Answer::Plan(4));
+//! assert_eq!(plan[..4], [1, 1, 1, 0]);
+//! ```
+
+#![deny(unsafe_op_in_unsafe_fn)]
+
+/// No valid network's list has more numbers.
+pub const NETWORK_NUMBERS: usize = 6 + 64 + 2 * 32 + 4 * 96;
+
+/// No valid plan's list has more numbers.
+pub const PLAN_NUMBERS: usize = 4 + 49 * 96;
+
+/// No valid text has more bytes.
+pub const TEXT_BYTES: usize = 65_536;
+
+/// No network has more tunnels, so no check writes more marks.
+pub const MARKS: usize = 96;
+
+/// Why nothing was done: the number of the cause, and its place and second.
+#[derive(Debug, Clone, Copy, PartialEq, Eq, Hash)]
+pub struct Refusal {
+    /// 1 line not in its form, 2 value outside its range, 3 a line missing or too many,
+    /// 4 amounts that miss a flow's rate, 5 another number of tunnels, 6 a row that misses
+    /// parts × rate, 7 protected overload, 8 overload of all classes, 9 no even plan of 1 to 50
+    /// steps, 10 lent output too short.
+    pub number: u64,
+    /// The line, flow, row or step; the length needed for 10.
+    pub place: u64,
+    /// 0 network and 1 plan for 1, 2, 3 and 5; 0 old and 1 new for 4; the flow for 6; the link
+    /// for 7, 8 and 9; 0 for 10.
+    pub second: u64,
+}
+
+/// What an operation answers. Lengths are in bytes for texts and marks, in numbers for lists.
+#[derive(Debug, Clone, Copy, PartialEq, Eq, Hash)]
+pub enum Answer {
+    /// Done, and so much of the lent output was written.
+    Done(usize),
+    /// A plan, and so much of the lent output was written.
+    Plan(usize),
+    Refused(Refusal),
+}
+
+/// What the step bound answers.
+#[derive(Debug, Clone, Copy, PartialEq, Eq, Hash)]
+pub enum StepBound {
+    /// So many even steps suffice for a network that keeps its scratch.
+    Steps(u64),
+    Refused(Refusal),
+}
+
+/// The functions of libpavuneshil.a: a slice is a pointer and a length, the answer a pointer to
+/// four numbers.
+mod archive {
+    extern "C" {
+        pub fn pavuneshil_read_network(
+            text: *const u8,
+            text_len: usize,
+            out: *mut u64,
+            out_len: usize,
+            answer: *mut [u64; 4],
+        );
+        pub fn pavuneshil_read_plan(
+            text: *const u8,
+            text_len: usize,
+            out: *mut u64,
+            out_len: usize,
+            answer: *mut [u64; 4],
+        );
+        pub fn pavuneshil_write_network(
+            list: *const u64,
+            list_len: usize,
+            out: *mut u8,
+            out_len: usize,
+            answer: *mut [u64; 4],
+        );
+        pub fn pavuneshil_write_plan(
+            list: *const u64,
+            list_len: usize,
+            out: *mut u8,
+            out_len: usize,
+            answer: *mut [u64; 4],
+        );
+        pub fn pavuneshil_make_plan(
+            network: *const u64,
+            network_len: usize,
+            out: *mut u64,
+            out_len: usize,
+            answer: *mut [u64; 4],
+        );
+        pub fn pavuneshil_check_plan(
+            network: *const u64,
+            network_len: usize,
+            plan: *const u64,
+            plan_len: usize,
+            marks: *mut u8,
+            marks_len: usize,
+            answer: *mut [u64; 4],
+        );
+        pub fn pavuneshil_step_bound(scratch: u64, overrun: u64, answer: *mut [u64; 4]);
+    }
+}
+
+/// Four numbers that are no answer, so that one not written cannot be taken for one.
+const UNWRITTEN: [u64; 4] = [u64::MAX; 4];
+
+fn refusal(number: u64, place: u64, second: u64) -> Refusal {
+    Refusal {
+        number,
+        place,
+        second,
+    }
+}
+
+/// The answer that four numbers tell. The library's contract allows no others.
+fn answer(four: [u64; 4]) -> Answer {
+    match four {
+        [0, length, 0, 0] => Answer::Done(length as usize),
+        [1, length, 0, 0] => Answer::Plan(length as usize),
+        [2, number, place, second] => Answer::Refused(refusal(number, place, second)),
+        _ => unreachable!("no answer: {four:?}"),
+    }
+}
+
+/// An operation from one slice to another.
+macro_rules! convert {
+    ($operation:ident, $input:expr, $out:expr) => {{
+        let mut four = UNWRITTEN;
+        // Sound: the pointers and lengths are those of live slices that do not overlap, and the
+        // function, which has no precondition, touches nothing beyond them.
+        unsafe {
+            archive::$operation(
+                $input.as_ptr(),
+                $input.len(),
+                $out.as_mut_ptr(),
+                $out.len(),
+                &mut four,
+            );
+        }
+        answer(four)
+    }};
+}
+
+/// Reads a network text into a list of numbers, one for each line. Refusals 1 to 4 and 10.
+pub fn read_network(text: &[u8], out: &mut [u64]) -> Answer {
+    convert!(pavuneshil_read_network, text, out)
+}
+
+/// Reads a plan text into a list of numbers, one for each line. Refusals 1 to 3 and 10.
+pub fn read_plan(text: &[u8], out: &mut [u64]) -> Answer {
+    convert!(pavuneshil_read_plan, text, out)
+}
+
+/// Writes the text of a network's list. Refusals 2 to 4 and 10.
+pub fn write_network(list: &[u64], out: &mut [u8]) -> Answer {
+    convert!(pavuneshil_write_network, list, out)
+}
+
+/// Writes the text of a plan's list. Refusals 2, 3 and 10.
+pub fn write_plan(list: &[u64], out: &mut [u8]) -> Answer {
+    convert!(pavuneshil_write_plan, list, out)
+}
+
+/// Makes the even plan of fewest steps for a network's list. Refusals 2 to 4, 9 and 10.
+pub fn make_plan(network: &[u64], out: &mut [u64]) -> Answer {
+    convert!(pavuneshil_make_plan, network, out)
+}
+
+/// Checks anybody's plan against a network. Done: no choice of tunnels in any step overloads a
+/// link, and the marks, one for each tunnel, are 0. Refusals 2 to 8 and 10; after 7 and 8 the
+/// marked tunnels, showing the later row while all others show the earlier, overload the link
+/// named.
+pub fn check_plan(network: &[u64], plan: &[u64], marks: &mut [u8]) -> Answer {
+    let mut four = UNWRITTEN;
+    // Sound: as in `convert`.
+    unsafe {
+        archive::pavuneshil_check_plan(
+            network.as_ptr(),
+            network.len(),
+            plan.as_ptr(),
+            plan.len(),
+            marks.as_mut_ptr(),
+            marks.len(),
+            &mut four,
+        );
+    }
+    answer(four)
+}
+
+/// How many even steps suffice for a network that keeps its scratch. Refusal 2.
+pub fn step_bound(scratch: u64, overrun: u64) -> StepBound {
+    let mut four = UNWRITTEN;
+    // Sound: `four` is live for the call, and the function has no precondition.
+    unsafe { archive::pavuneshil_step_bound(scratch, overrun, &mut four) };
+    match four {
+        [0, steps, 0, 0] => StepBound::Steps(steps),
+        [2, number, place, second] => StepBound::Refused(refusal(number, place, second)),
+        _ => unreachable!("no answer: {four:?}"),
+    }
+}

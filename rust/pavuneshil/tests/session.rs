@@ -1,0 +1,96 @@
+//! The session of the paper, its edges and some refusals, through the wrapper.
+
+use pavuneshil::*;
+
+/// The swap: two flows of rate 10 change places on two links of this capacity.
+fn swap(cap: u64, class: u64, overrun: u64) -> Vec<u64> {
+    let mut list = vec![1, 333, overrun, 2, 2, 4, cap, cap, class, 10, class, 10];
+    list.extend([0, 1, 10, 0, 0, 2, 0, 10, 1, 2, 10, 0, 1, 1, 0, 10]);
+    list
+}
+
+fn refused(number: u64, place: u64, second: u64) -> Answer {
+    Answer::Refused(Refusal {
+        number,
+        place,
+        second,
+    })
+}
+
+#[test]
+fn session_in_full() {
+    let text = b"net=1\nscratch=333\noverrun=0\nlinks=2\nflows=2\ntunnels=4\ncap=15\ncap=15\n\
+        class=0\nrate=10\nclass=0\nrate=10\n\
+        flow=0\nvia=0000000000000001\nold=10\nnew=0\n\
+        flow=0\nvia=0000000000000002\nold=0\nnew=10\n\
+        flow=1\nvia=0000000000000002\nold=10\nnew=0\n\
+        flow=1\nvia=0000000000000001\nold=0\nnew=10\n";
+    let mut network = [0; NETWORK_NUMBERS];
+    assert_eq!(read_network(text, &mut network), Answer::Done(28));
+    assert_eq!(network[..28], swap(15, 0, 0));
+    let mut plan = [0; PLAN_NUMBERS];
+    assert_eq!(make_plan(&network[..28], &mut plan), Answer::Plan(8));
+    let mut printed = [0; TEXT_BYTES];
+    let Answer::Done(length) = write_plan(&plan[..8], &mut printed) else {
+        panic!("a plan is written");
+    };
+    let expected = b"plan=1\nparts=2\nsteps=2\ntunnels=4\nat=10\nat=10\nat=10\nat=10\n";
+    assert_eq!(printed[..length], expected[..]);
+    let mut again = [0; PLAN_NUMBERS];
+    assert_eq!(read_plan(expected, &mut again), Answer::Done(8));
+    assert_eq!(again[..8], plan[..8]);
+    let mut marks = [7; MARKS];
+    assert_eq!(
+        check_plan(&network[..28], &plan[..8], &mut marks),
+        Answer::Done(4)
+    );
+    assert_eq!(marks[..5], [0, 0, 0, 0, 7]);
+    let Answer::Done(length) = write_network(&network[..28], &mut printed) else {
+        panic!("a network is written");
+    };
+    assert_eq!(printed[..length], text[..]);
+}
+
+#[test]
+fn edges() {
+    for (scratch, steps) in [(500, 1), (334, 2), (333, 3), (100, 9), (20, 49)] {
+        assert_eq!(step_bound(scratch, 0), StepBound::Steps(steps));
+    }
+    let mut plan = [0; PLAN_NUMBERS];
+    let mut steps = |network: &[u64]| match make_plan(network, &mut plan) {
+        Answer::Plan(_) => Ok(plan[2]),
+        other => Err(other),
+    };
+    for (cap, fewest) in [(20, 1), (19, 2), (15, 2), (14, 3), (11, 10)] {
+        assert_eq!(steps(&swap(cap, 0, 0)), Ok(fewest));
+    }
+    assert_eq!(steps(&swap(10, 0, 0)), Err(refused(9, 1, 0)));
+    assert_eq!(steps(&swap(10, 2, 100)), Ok(10));
+    assert_eq!(steps(&swap(10, 2, 20)), Ok(50));
+    let mut marks = [9; 4];
+    assert_eq!(
+        check_plan(&swap(15, 0, 0), &[1, 1, 1, 4], &mut marks),
+        refused(7, 1, 0)
+    );
+    assert_eq!(marks, [0, 0, 0, 1]);
+}
+
+#[test]
+fn refusals_leave_all_as_it_was() {
+    let mut out = [5; 28];
+    assert_eq!(read_network(b"", &mut out), refused(3, 1, 0));
+    assert_eq!(read_plan(b"plan=2\n", &mut out), refused(2, 1, 1));
+    assert_eq!(make_plan(&[], &mut out), refused(3, 1, 0));
+    assert_eq!(make_plan(&swap(11, 0, 0), &mut out), refused(10, 40, 0));
+    assert_eq!(make_plan(&swap(15, 0, 0), &mut []), refused(10, 8, 0));
+    assert_eq!(out, [5; 28]);
+    let two = |place| {
+        StepBound::Refused(Refusal {
+            number: 2,
+            place,
+            second: 0,
+        })
+    };
+    assert_eq!(step_bound(19, 19), two(2));
+    assert_eq!(step_bound(20, 19), two(3));
+}
