@@ -28,8 +28,11 @@ use Rattle.checker.proofs.Marking.{marks-length}
 use Rattle.planner.specs.Planned.{planned}
 use Rattle.planner.proofs.Main as planner
 use Rattle.checker.specs.Check.{verdict, checked, marksOf, marksAfter}
+use Rattle.checker.specs.Claim.{Reaches}
 use Rattle.checker.proofs.Main.{checker}
 use Rattle.product.proofs.Causes.{NotOver, verdict-all, over-number, same-bound}
+use Rattle.model.proofs.Choices.{none-kept}
+use Rattle.product.specs.Accepted.{Accepted}
 use Rattle.product.specs.Demand3.{Network, PlanOf, as-list, as-text, byMarks, Demand3}
 
 -- ---- what an answer tells of an outcome
@@ -154,3 +157,11 @@ demand3 = record {
   bounded = λ n v k z. let r = bounded n v k in (r .0, subst (λ (m : ℕ). at (r .0) 2 ≤ stepBound (networkOf n .scratch) m) z (r .1), r .2);
   bounded-overrun = bounded;
 }
+
+-- ---- what the planner returns, the checker accepts
+
+pub accepted : Accepted
+accepted n p room e h =
+    let s = planner.claim .safe n p e in
+    let r : Reaches n p room = record { network = s .network; plan = s .judged; tunnels = s .tunnels; rows = s .rows; room = h } in
+    ap (checked n) (checker .done n p room .1 (r, none-kept (networkOf n) (planOf p) (s .overload)))
