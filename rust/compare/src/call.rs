@@ -2,8 +2,8 @@
 //! that is filled with a pattern, and all of the buffer is compared: what was written, what lies
 //! beyond it, and what lies around what was lent.
 
-use crate::inputs;
 use crate::Outcome;
+use compare::inputs;
 use pavuneshil::{Answer, Refusal, StepBound};
 use second::gen::Rng;
 use second::{Checked, Rules};

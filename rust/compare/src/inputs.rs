@@ -139,7 +139,7 @@ fn any_text(rng: &mut Rng, text: Vec<u8>, other: Vec<u8>) -> Vec<u8> {
 }
 
 /// A text that goes on, in one line or in many, for more than 65,536 bytes.
-fn too_long(rng: &mut Rng, text: Vec<u8>) -> Vec<u8> {
+pub fn too_long(rng: &mut Rng, text: Vec<u8>) -> Vec<u8> {
     let more = match rng.below(4) {
         0 => b"9".repeat(70_000),
         1 => b"\n".repeat(70_000),

@@ -11,7 +11,6 @@
 
 mod call;
 mod choices;
-mod inputs;
 
 use second::gen::Rng;
 use std::collections::BTreeMap;
