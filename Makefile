@@ -1,4 +1,4 @@
-.PHONY: help test check plan check-plan compare
+.PHONY: help test check plan check-plan compare bench
 
 NETWORK ?= samples/swap/network.txt
 PLAN ?= samples/swap/plan.txt
@@ -13,6 +13,7 @@ help:
 	@echo 'make plan NETWORK=FILE                  print the plan for a network, as make plan NETWORK=samples/swap/network.txt'
 	@echo 'make check-plan NETWORK=FILE PLAN=FILE  print whether a plan is accepted for a network'
 	@echo 'make compare CASES=10000000 SEED=1      hold every operation against the second implementation on so many cases'
+	@echo 'make bench   print the time of every operation beside the second implementation'
 
 test:
 	@tools/test
@@ -35,3 +36,9 @@ compare:
 	@rt staticlib pavuneshil >target/staticlib.log 2>&1 || { cat target/staticlib.log; exit 1; }
 	@CARGO_TARGET_DIR='$(CURDIR)/target/rust' cargo run --release --offline --quiet \
 		--manifest-path rust/compare/Cargo.toml -- $(CASES) $(SEED)
+
+# A program of its own: nothing fails for being slow.
+bench:
+	@tools/library 1>&2
+	@CARGO_TARGET_DIR='$(CURDIR)/target/rust' cargo run --release --offline --quiet \
+		--manifest-path rust/bench/Cargo.toml

@@ -1,0 +1,170 @@
+//! The inputs: networks of the largest size, each with its plan of 50 steps, and the swap.
+
+use second::gen::Rng;
+
+const ROOM: usize = usize::MAX;
+const LINKS: usize = 64;
+const FLOWS: usize = 32;
+const TUNNELS: usize = 96;
+const STEPS: u64 = 50;
+const OVERRUN: u64 = 100;
+
+/// A network with the plan that the planner makes for it, as lists and as texts.
+pub struct Input {
+    pub network: Vec<u64>,
+    pub plan: Vec<u64>,
+    pub network_text: Vec<u8>,
+    pub plan_text: Vec<u8>,
+    /// The network with link 63 (1 of the swap) cut down, so that no plan fits.
+    pub stuck: Vec<u64>,
+    /// The network with one Mbit/s less than the plan needs on a link, late in the plan if it can be.
+    pub tight: Vec<u64>,
+}
+
+impl Input {
+    fn of(network: Vec<u64>, tight: Vec<u64>) -> Input {
+        let plan = second::make_plan(&network, ROOM).expect("a plan");
+        let mut stuck = network.clone();
+        stuck[6 + network[3] as usize - 1] = 0;
+        Input {
+            network_text: second::write_network(&network, ROOM).expect("a valid network"),
+            plan_text: second::write_plan(&plan, ROOM).expect("a valid plan"),
+            network,
+            plan,
+            stuck,
+            tight,
+        }
+    }
+}
+
+/// So many networks of 64 links, 32 flows and 96 tunnels, each tunnel over so many links, for
+/// which the plan of fewest steps has 50.
+pub fn largest(count: usize, hops: u32, seed: u64) -> Vec<Input> {
+    let mut rng = Rng::new(seed);
+    let mut inputs = Vec::new();
+    while inputs.len() < count {
+        let Some((network, tight)) = network(&mut rng, hops) else {
+            continue;
+        };
+        let input = Input::of(network, tight);
+        if input.plan[2] == STEPS {
+            inputs.push(input);
+        }
+    }
+    inputs
+}
+
+/// The swap: two flows of 10 Mbit/s change places on two links of 15.
+pub fn swap() -> Input {
+    let network = |cap| {
+        vec![
+            1, 333, 0, 2, 2, 4, cap, cap, 0, 10, 0, 10, //
+            0, 1, 10, 0, 0, 2, 0, 10, 1, 2, 10, 0, 1, 1, 0, 10,
+        ]
+    };
+    Input::of(network(15), network(14))
+}
+
+/// Three parts of a rate, any of them 0 now and then.
+fn parts(rng: &mut Rng, rate: u64) -> [u64; 3] {
+    let mut cuts = [rng.below(rate + 1), rng.below(rate + 1)];
+    cuts.sort_unstable();
+    [cuts[0], cuts[1] - cuts[0], rate - cuts[1]]
+}
+
+/// A via set of exactly so many links.
+fn via(rng: &mut Rng, hops: u32) -> u64 {
+    let mut set = 0u64;
+    while set.count_ones() < hops {
+        set |= 1 << rng.below(LINKS as u64);
+    }
+    set
+}
+
+/// A network in which every link has just what the even plan of 50 steps needs, and the same with
+/// one less on the link that needs its capacity latest. `None` where a capacity is out of range.
+fn network(rng: &mut Rng, hops: u32) -> Option<(Vec<u64>, Vec<u64>)> {
+    // amounts of all lengths, and the capacities still in range
+    let most = 28_000_000 / u64::from(hops) / 8;
+    let mut flows = Vec::new();
+    let mut tunnels = Vec::new();
+    for flow in 0..FLOWS as u64 {
+        let most = rng.pick(&[most, most, most / 10, most / 100]);
+        let rate = rng.between(most / 2, most);
+        flows.push((rng.below(3), rate));
+        let (old, new) = (parts(rng, rate), parts(rng, rate));
+        for part in 0..TUNNELS / FLOWS {
+            tunnels.push((flow, via(rng, hops), old[part], new[part]));
+        }
+    }
+    // a flow's tunnels need not lie together
+    for last in (1..tunnels.len()).rev() {
+        tunnels.swap(last, rng.below(last as u64 + 1) as usize);
+    }
+    let mut list = vec![1, 20, OVERRUN, LINKS as u64, FLOWS as u64, TUNNELS as u64];
+    let mut latest = (0, 0);
+    for link in 0..LINKS {
+        let (mut cap, mut at) = (0, 0);
+        for step in 1..=STEPS {
+            let (mut protected, mut all) = (0, 0);
+            for &(flow, via, old, new) in &tunnels {
+                if (via >> link) & 1 == 1 {
+                    let row = |a| (STEPS - a) * old + a * new;
+                    let worst = row(step - 1).max(row(step));
+                    all += worst;
+                    if flows[flow as usize].0 < 2 {
+                        protected += worst;
+                    }
+                }
+            }
+            let needed = protected
+                .div_ceil(STEPS)
+                .max((1000 * all).div_ceil((1000 + OVERRUN) * STEPS));
+            if needed > cap {
+                (cap, at) = (needed, step);
+            }
+        }
+        if cap == 0 || cap > 10_000_000 {
+            return None;
+        }
+        if at >= latest.0 {
+            latest = (at, link);
+        }
+        list.push(cap);
+    }
+    for (class, rate) in flows {
+        list.extend([class, rate]);
+    }
+    for (flow, via, old, new) in tunnels {
+        list.extend([flow, via, old, new]);
+    }
+    let mut tight = list.clone();
+    tight[6 + latest.1] -= 1;
+    Some((list, tight))
+}
+
+/// Pairs for the step bound, both in range.
+pub fn shares(count: usize, seed: u64) -> Vec<(u64, u64)> {
+    let mut rng = Rng::new(seed);
+    (0..count)
+        .map(|_| {
+            let overrun = rng.between(20, 500);
+            (rng.between(20, 500), rng.pick(&[0, overrun]))
+        })
+        .collect()
+}
+
+#[cfg(test)]
+mod tests {
+    use super::*;
+
+    #[test]
+    fn of_the_largest_size() {
+        for hops in [4, 32] {
+            for input in largest(2, hops, 1) {
+                assert_eq!(input.network.len(), pavuneshil::NETWORK_NUMBERS);
+                assert_eq!(input.plan.len(), pavuneshil::PLAN_NUMBERS);
+            }
+        }
+    }
+}

@@ -1,0 +1,6 @@
+//! What the bench measures on, and how it takes the time.
+
+#![forbid(unsafe_code)]
+
+pub mod clock;
+pub mod inputs;

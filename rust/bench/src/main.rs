@@ -1,0 +1,182 @@
+//! Prints the time of every operation beside the second implementation's. No test: nothing fails for being slow.
+//!
+//! Our operations write into buffers that are lent again and again and are not cleared in between;
+//! the second implementation allocates what it returns.
+
+#![forbid(unsafe_code)]
+
+use bench::clock::medians;
+use bench::inputs::{self, Input};
+use pavuneshil::{Answer, Refusal, StepBound, MARKS, PLAN_NUMBERS, TEXT_BYTES};
+use second::Checked;
+use std::hint::black_box;
+
+const ROOM: usize = usize::MAX;
+
+/// The networks of a size, and the seed of the inputs.
+const COUNT: usize = 40;
+const SEED: u64 = 431;
+
+fn row(name: &str, calls: usize, ours: &mut dyn FnMut(), second: &mut dyn FnMut()) {
+    let times = medians(calls, &mut [ours, second]);
+    let ratio = times[1] / times[0];
+    println!(
+        "{name:<44} {:>12.1} {:>14.1} {ratio:>12.1}",
+        times[0], times[1]
+    );
+}
+
+fn refused(refusal: second::Refusal) -> Answer {
+    Answer::Refused(Refusal {
+        number: refusal.number,
+        place: refusal.place,
+        second: refusal.second,
+    })
+}
+
+/// Both answers must agree, or the times compare nothing.
+fn agree<T: PartialEq>(ours: Answer, out: &[T], second: Result<Vec<T>, second::Refusal>) {
+    match (ours, second) {
+        (Answer::Done(length) | Answer::Plan(length), Ok(written)) => {
+            assert!(out[..length] == written[..], "another output")
+        }
+        (_, Err(refusal)) => assert_eq!(ours, refused(refusal)),
+        (_, Ok(_)) => panic!("{ours:?}, and the second implementation does it"),
+    }
+}
+
+fn agree_checked(ours: Answer, marks: &[u8], second: Checked) {
+    match second {
+        Checked::Accepted { marks: those } => {
+            assert_eq!(ours, Answer::Done(those.len()));
+            assert_eq!(marks[..those.len()], those[..]);
+        }
+        Checked::Refused {
+            refusal,
+            marks: those,
+        } => {
+            assert_eq!(ours, refused(refusal));
+            let those = those.unwrap_or_default();
+            assert_eq!(marks[..those.len()], those[..]);
+        }
+    }
+}
+
+/// Rows of one set of inputs, each pass going over all of them `repeat` times.
+fn rows(inputs: &[Input], repeat: usize) {
+    let calls = inputs.len() * repeat;
+    let mut numbers = vec![0u64; PLAN_NUMBERS];
+    let mut text = vec![0u8; TEXT_BYTES];
+    let mut marks = [0u8; MARKS];
+
+    // an operation from one slice to another, over a field of the inputs
+    macro_rules! convert {
+        ($name:expr, $operation:ident, $field:ident, $out:ident) => {
+            for input in inputs {
+                let answer = pavuneshil::$operation(&input.$field, &mut $out);
+                agree(answer, &$out, second::$operation(&input.$field, ROOM));
+            }
+            row(
+                $name,
+                calls,
+                &mut || {
+                    for input in (0..repeat).flat_map(|_| inputs) {
+                        black_box(pavuneshil::$operation(black_box(&input.$field), &mut $out));
+                    }
+                },
+                &mut || {
+                    for input in (0..repeat).flat_map(|_| inputs) {
+                        black_box(second::$operation(black_box(&input.$field), ROOM)).ok();
+                    }
+                },
+            );
+        };
+    }
+    macro_rules! check {
+        ($name:expr, $network:ident, $room:expr) => {
+            for input in inputs {
+                let answer =
+                    pavuneshil::check_plan(&input.$network, &input.plan, &mut marks[..$room]);
+                agree_checked(
+                    answer,
+                    &marks,
+                    second::check_plan(&input.$network, &input.plan, $room),
+                );
+            }
+            row(
+                $name,
+                calls,
+                &mut || {
+                    for input in (0..repeat).flat_map(|_| inputs) {
+                        black_box(pavuneshil::check_plan(
+                            black_box(&input.$network),
+                            black_box(&input.plan),
+                            &mut marks[..$room],
+                        ));
+                    }
+                },
+                &mut || {
+                    for input in (0..repeat).flat_map(|_| inputs) {
+                        black_box(second::check_plan(
+                            black_box(&input.$network),
+                            black_box(&input.plan),
+                            $room,
+                        ));
+                    }
+                },
+            );
+        };
+    }
+    convert!("read_network", read_network, network_text, numbers);
+    convert!("read_plan", read_plan, plan_text, numbers);
+    convert!("write_network", write_network, network, text);
+    convert!("write_plan", write_plan, plan, text);
+    convert!("make_plan", make_plan, network, numbers);
+    convert!("make_plan, refused 9", make_plan, stuck, numbers);
+    check!("check_plan, accepted", network, MARKS);
+    check!("check_plan, refused 7 or 8", tight, MARKS);
+    check!("check_plan, judging alone (no marks, 10)", network, 0);
+}
+
+fn main() {
+    println!("nanoseconds of one call, medians of one run; the inputs in turn; buffers lent again, not cleared");
+    println!(
+        "{:<44} {:>12} {:>14} {:>12}",
+        "operation", "ours", "second", "second/ours"
+    );
+    for (name, hops) in [("sparse via, 4 links", 4), ("dense via, 32 links", 32)] {
+        println!(
+            "-- {COUNT} networks of 64 links, 32 flows, 96 tunnels; 50 steps; {name} a tunnel"
+        );
+        rows(&inputs::largest(COUNT, hops, SEED), 1);
+    }
+    println!("-- the swap");
+    rows(&[inputs::swap()], 500);
+
+    let shares = inputs::shares(4096, SEED);
+    println!("-- {} pairs of scratch and overrun", shares.len());
+    for &(scratch, overrun) in &shares {
+        let second = second::step_bound(scratch, overrun).expect("in range");
+        assert_eq!(
+            pavuneshil::step_bound(scratch, overrun),
+            StepBound::Steps(second)
+        );
+    }
+    row(
+        "step_bound",
+        shares.len(),
+        &mut || {
+            for &(scratch, overrun) in &shares {
+                black_box(pavuneshil::step_bound(
+                    black_box(scratch),
+                    black_box(overrun),
+                ));
+            }
+        },
+        &mut || {
+            for &(scratch, overrun) in &shares {
+                black_box(second::step_bound(black_box(scratch), black_box(overrun))).ok();
+            }
+        },
+    );
+}
