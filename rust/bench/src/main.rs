@@ -11,8 +11,6 @@ use pavuneshil::{Answer, Refusal, StepBound, MARKS, PLAN_NUMBERS, TEXT_BYTES};
 use second::Checked;
 use std::hint::black_box;
 
-const ROOM: usize = usize::MAX;
-
 /// The networks of a size, and the seed of the inputs.
 const COUNT: usize = 40;
 const SEED: u64 = 431;
@@ -71,22 +69,27 @@ fn rows(inputs: &[Input], repeat: usize) {
 
     // an operation from one slice to another, over a field of the inputs
     macro_rules! convert {
-        ($name:expr, $operation:ident, $field:ident, $out:ident) => {
+        ($name:expr, $operation:ident, $field:ident, $out:ident, $room:expr) => {
+            let room: fn(&Input) -> usize = $room;
             for input in inputs {
-                let answer = pavuneshil::$operation(&input.$field, &mut $out);
-                agree(answer, &$out, second::$operation(&input.$field, ROOM));
+                let room = room(input);
+                let answer = pavuneshil::$operation(&input.$field, &mut $out[..room]);
+                agree(answer, &$out, second::$operation(&input.$field, room));
             }
             row(
                 $name,
                 calls,
                 &mut || {
                     for input in (0..repeat).flat_map(|_| inputs) {
-                        black_box(pavuneshil::$operation(black_box(&input.$field), &mut $out));
+                        black_box(pavuneshil::$operation(
+                            black_box(&input.$field),
+                            &mut $out[..room(input)],
+                        ));
                     }
                 },
                 &mut || {
                     for input in (0..repeat).flat_map(|_| inputs) {
-                        black_box(second::$operation(black_box(&input.$field), ROOM)).ok();
+                        black_box(second::$operation(black_box(&input.$field), room(input))).ok();
                     }
                 },
             );
@@ -127,12 +130,28 @@ fn rows(inputs: &[Input], repeat: usize) {
             );
         };
     }
-    convert!("read_network", read_network, network_text, numbers);
-    convert!("read_plan", read_plan, plan_text, numbers);
-    convert!("write_network", write_network, network, text);
-    convert!("write_plan", write_plan, plan, text);
-    convert!("make_plan", make_plan, network, numbers);
-    convert!("make_plan, refused 9", make_plan, stuck, numbers);
+    convert!("read_network", read_network, network_text, numbers, |_| {
+        PLAN_NUMBERS
+    });
+    convert!("read_plan", read_plan, plan_text, numbers, |_| PLAN_NUMBERS);
+    convert!("write_network", write_network, network, text, |_| {
+        TEXT_BYTES
+    });
+    convert!(
+        "write_network, room exact",
+        write_network,
+        network,
+        text,
+        |input| input.network_text.len()
+    );
+    convert!("write_plan", write_plan, plan, text, |_| TEXT_BYTES);
+    convert!("write_plan, room exact", write_plan, plan, text, |input| {
+        input.plan_text.len()
+    });
+    convert!("make_plan", make_plan, network, numbers, |_| PLAN_NUMBERS);
+    convert!("make_plan, refused 9", make_plan, stuck, numbers, |_| {
+        PLAN_NUMBERS
+    });
     check!("check_plan, accepted", network, MARKS);
     check!("check_plan, refused 7 or 8", tight, MARKS);
     check!("check_plan, judging alone (no marks, 10)", network, 0);
