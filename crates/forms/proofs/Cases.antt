@@ -9,7 +9,7 @@ use Rattle.model.specs.Rule as rule
 use Rattle.lists.specs.Lists.{networkOf}
 use Rattle.forms.specs.Bytes.{bytes}
 use Rattle.forms.specs.Line.{lines, onFirst, valuePart, beforeFeed, digitOf, numberFrom, decimalOf, hexOf}
-use Rattle.forms.specs.Form.{fieldOf, networkField, networkBody, planField}
+use Rattle.forms.specs.Form.{fieldOf, networkBody}
 use Rattle.forms.specs.Read.{walk, readLines, addUp, readNetwork, readPlan}
 use Rattle.forms.specs.Write.{render, renderFrom, digitsIn, widthOf, widthFrom}
 use Rattle.forms.specs.declared.form.Form.the-variants.{Network}
@@ -33,45 +33,45 @@ network : List ℕ
 network = 1 ∷ 333 ∷ 0 ∷ 2 ∷ 2 ∷ 4 ∷ 15 ∷ 15 ∷ 0 ∷ 10 ∷ 0 ∷ 10 ∷ 0 ∷ 1 ∷ 10 ∷ 0 ∷ 0 ∷ 2 ∷ 0 ∷ 10 ∷ 1 ∷ 2 ∷ 10 ∷ 0 ∷ 1 ∷ 1 ∷ 0 ∷ 10 ∷ []
 
 reads : readNetwork session ≡ good network
-unfolding network session readLines walk lines onFirst valuePart beforeFeed digitOf numberFrom decimalOf hexOf fieldOf networkField networkBody addUp networkOf rule.missedRate rule.missedBy rule.flowSum sumOver onlyIf orElse first
+unfolding network session readLines walk lines onFirst valuePart beforeFeed digitOf numberFrom decimalOf hexOf fieldOf networkBody addUp networkOf rule.missedRate rule.missedBy rule.flowSum sumOver onlyIf orElse first
 reads = refl
 
 writes : render Network network ≡ session
-unfolding network session render renderFrom digitsIn widthOf widthFrom fieldOf networkField networkBody
+unfolding network session render renderFrom digitsIn widthOf widthFrom fieldOf networkBody
 writes = refl
 
 -- "Empty network text: 3 at line 1. `cap=007`: 1. `cap=10000001`: 2."
 empty-text : readNetwork [] ≡ refused missing 1 0
-unfolding readLines walk lines fieldOf networkField networkBody
+unfolding readLines walk lines fieldOf networkBody
 empty-text = refl
 
 leading-zero : readNetwork (head ++ bytes "cap=007\n") ≡ refused malformed 7 0
-unfolding readLines walk lines onFirst valuePart beforeFeed digitOf numberFrom decimalOf hexOf fieldOf networkField networkBody
+unfolding readLines walk lines onFirst valuePart beforeFeed digitOf numberFrom decimalOf hexOf fieldOf networkBody
 leading-zero = refl
 
 large-cap : readNetwork (head ++ bytes "cap=10000001\n") ≡ refused outOfRange 7 0
-unfolding readLines walk lines onFirst valuePart beforeFeed digitOf numberFrom decimalOf hexOf fieldOf networkField networkBody
+unfolding readLines walk lines onFirst valuePart beforeFeed digitOf numberFrom decimalOf hexOf fieldOf networkBody
 large-cap = refl
 
 wrong-key : readNetwork (head ++ bytes "cup=7\n") ≡ refused malformed 7 0
-unfolding readLines walk lines onFirst valuePart beforeFeed digitOf numberFrom decimalOf hexOf fieldOf networkField networkBody
+unfolding readLines walk lines onFirst valuePart beforeFeed digitOf numberFrom decimalOf hexOf fieldOf networkBody
 wrong-key = refl
 
 -- `flow` when `flows` is 0
 no-flow : readNetwork (bytes "net=1\nscratch=20\noverrun=20\nlinks=1\nflows=0\ntunnels=1\ncap=0\nflow=0\n") ≡ refused outOfRange 8 0
-unfolding readLines walk lines onFirst valuePart beforeFeed digitOf numberFrom decimalOf hexOf fieldOf networkField networkBody
+unfolding readLines walk lines onFirst valuePart beforeFeed digitOf numberFrom decimalOf hexOf fieldOf networkBody
 no-flow = refl
 
 -- a missing last line feed, and bytes after the last line
 no-feed : readPlan (bytes "plan=1\nparts=1\nsteps=1\ntunnels=0") ≡ refused malformed 4 1
-unfolding readLines walk lines onFirst valuePart beforeFeed digitOf numberFrom decimalOf hexOf fieldOf planField
+unfolding readLines walk lines onFirst valuePart beforeFeed digitOf numberFrom decimalOf hexOf fieldOf
 no-feed = refl
 
 more-bytes : readPlan (bytes "plan=1\nparts=1\nsteps=1\ntunnels=0\n\n") ≡ refused missing 5 1
-unfolding readLines walk lines onFirst valuePart beforeFeed digitOf numberFrom decimalOf hexOf fieldOf planField
+unfolding readLines walk lines onFirst valuePart beforeFeed digitOf numberFrom decimalOf hexOf fieldOf
 more-bytes = refl
 
 -- a flow's new amounts miss its rate
 missed-new : readNetwork (bytes "net=1\nscratch=20\noverrun=0\nlinks=1\nflows=1\ntunnels=1\ncap=0\nclass=2\nrate=5\nflow=0\nvia=0000000000000001\nold=5\nnew=4\n") ≡ refused missedRate 0 1
-unfolding readLines walk lines onFirst valuePart beforeFeed digitOf numberFrom decimalOf hexOf fieldOf networkField networkBody addUp networkOf rule.missedRate rule.missedBy rule.flowSum sumOver onlyIf orElse first
+unfolding readLines walk lines onFirst valuePart beforeFeed digitOf numberFrom decimalOf hexOf fieldOf networkBody addUp networkOf rule.missedRate rule.missedBy rule.flowSum sumOver onlyIf orElse first
 missed-new = refl

@@ -13,8 +13,7 @@ use lib.Seq.{take-take, getD-take, length-take-le, take-append-le, take-append-s
 use borrow.Author.Tests.{ne-eqb, lt-ltb, le-ltb}
 use Rattle.model.specs.Limits.{mostLinks, mostFlows, mostTunnels, mostSteps, mostAmount}
 use Rattle.lists.specs.Lists.{at}
-use Rattle.forms.specs.Keys.{At}
-use Rattle.forms.specs.Form.{isHex, admitsOf, Sound, allows, fieldOf, capLine, networkLines, networkHead, flowLines, flowGroup, tunnelLines, tunnelGroup, planLines, planHead, networkField, networkBody, planField, mostNumbers}
+use Rattle.forms.specs.Form.{line, planBody, isHex, admitsOf, Sound, allows, fieldOf, networkLines, flowLines, tunnelLines, planLines, networkBody, mostNumbers}
 use Rattle.forms.specs.declared.form.Form.{Form}
 use Rattle.forms.specs.declared.form.Form.the-variants.{Network, Plan}
 use Rattle.forms.specs.declared.form.Range.{Range}
@@ -76,11 +75,11 @@ sound-more form l v s t i h = go (decLt i (length l))
 -- ---- the network's fields
 
 module _ (links flows tunnels : ℕ) where
-  pub body-cap : (k : ℕ) → k < links → networkBody links flows tunnels k ≡ capLine
+  pub body-cap : (k : ℕ) → k < links → networkBody links flows tunnels k ≡ line "cap=" (Between 0 mostAmount)
   unfolding networkBody
   body-cap k h = rw (lt-ltb k links h)
 
-  pub body-flow : (f j : ℕ) → f < flows → j < 2 → networkBody links flows tunnels (links + 2 * f + j) ≡ flowGroup j
+  pub body-flow : (f j : ℕ) → f < flows → j < 2 → networkBody links flows tunnels (links + 2 * f + j) ≡ getD flowLines j End
   unfolding networkBody
   body-flow f j h k =
       let x : links ≤ links + 2 * f + j = omega arith in
@@ -88,7 +87,7 @@ module _ (links flows tunnels : ℕ) where
       let z : (links + 2 * f + j - links) % 2 ≡ j = omega arith in
       rw (le-ltb (links + 2 * f + j) links x, lt-ltb ((links + 2 * f + j - links) / 2) flows y, z)
 
-  pub body-tunnel : (t j : ℕ) → t < tunnels → j < 4 → networkBody links flows tunnels (links + 2 * flows + 4 * t + j) ≡ tunnelGroup links flows j
+  pub body-tunnel : (t j : ℕ) → t < tunnels → j < 4 → networkBody links flows tunnels (links + 2 * flows + 4 * t + j) ≡ getD (tunnelLines links flows) j End
   unfolding networkBody
   body-tunnel t j h k =
       let n : ℕ = links + 2 * flows + 4 * t + j in
@@ -110,14 +109,14 @@ module _ (links flows tunnels : ℕ) where
 
 -- a sound network's number in the head, and after it
 module _ (l : List ℕ) (s : Sound Network l) where
-  pub network-head-at : (i : ℕ) → i < length l → i < 6 → T (allows (networkHead i) (at l i))
-  unfolding fieldOf networkField
+  pub network-head-at : (i : ℕ) → i < length l → i < 6 → T (allows (getD networkLines i End) (at l i))
+  unfolding fieldOf
   network-head-at i h k =
       let n : length (take i l) ≡ i = length-take-le i l (le-of-lt h) in
       rw (n, lt-ltb i 6 k) at (sound-at Network l i h s)
 
   pub network-body-at : (n : ℕ) → 6 + n < length l → T (allows (networkBody (at l 3) (at l 4) (at l 5) n) (at l (6 + n)))
-  unfolding fieldOf networkField
+  unfolding fieldOf
   network-body-at n h =
       let m : length (take (6 + n) l) ≡ 6 + n = length-take-le (6 + n) l (le-of-lt h) in
       let k : 6 ≤ 6 + n = omega arith in
@@ -140,22 +139,19 @@ head-of-network l s h =
 
 -- ---- the plan's fields
 
--- how many lines follow the head, and the field after n of them
+-- how many lines follow the head
 abbrev pub rowLines : List ℕ → ℕ
 rowLines l = (at l 2 - 1) * at l 3
 
-abbrev pub planBody : List ℕ → ℕ → Field
-planBody l n = cond (ltb n (rowLines l)) (Line At (Between 0 (mostAmount * at l 1))) End
-
 module _ (l : List ℕ) (s : Sound Plan l) where
-  pub plan-head-at : (i : ℕ) → i < length l → i < 4 → T (allows (planHead i) (at l i))
-  unfolding fieldOf planField
+  pub plan-head-at : (i : ℕ) → i < length l → i < 4 → T (allows (getD planLines i End) (at l i))
+  unfolding fieldOf
   plan-head-at i h k =
       let n : length (take i l) ≡ i = length-take-le i l (le-of-lt h) in
       rw (n, lt-ltb i 4 k) at (sound-at Plan l i h s)
 
   pub plan-body-at : (n : ℕ) → 4 + n < length l → T (allows (planBody l n) (at l (4 + n)))
-  unfolding fieldOf planField
+  unfolding fieldOf
   plan-body-at n h =
       let m : length (take (4 + n) l) ≡ 4 + n = length-take-le (4 + n) l (le-of-lt h) in
       let k : 4 ≤ 4 + n = omega arith in
@@ -179,7 +175,7 @@ head-of-plan l s h =
 -- ---- no list of a form is longer than the most numbers
 
 pub full : (form : Form) (l : List ℕ) → Sound form l → mostNumbers ≤ length l → fieldOf form l ≡ End
-unfolding fieldOf networkField planField
+unfolding fieldOf
 full Network l s h =
     let b = head-of-network l s (omega arith) in
     let w : 6 ≤ length l = omega arith in
@@ -230,16 +226,16 @@ low-body : (links flows tunnels n : ℕ) → links ≤ mostLinks → flows ≤ m
 unfolding networkBody
 low-body links flows tunnels n hl h =
     let m : ℕ = n - links in
-    low-cond (ltb n links) capLine _ (lit mostAmount tt)
+    low-cond (ltb n links) (line "cap=" (Between 0 mostAmount)) _ (lit mostAmount tt)
     (low-cond (ltb (m / 2) flows) (getD flowLines (m % 2) End) _ (low-at flowLines (m % 2) (lit 2 tt, (lit mostAmount tt, tt)))
     (low-cond (ltb ((m - 2 * flows) / 4) tunnels) (getD (tunnelLines links flows) ((m - 2 * flows) % 4) End) End
     (low-at (tunnelLines links flows) ((m - 2 * flows) % 4) (omega arith, (hl, (lit mostAmount tt, (lit mostAmount tt, tt))))) tt))
 
 low-field : (form : Form) (l : List ℕ) → Sound form l → Low (fieldOf form l)
-unfolding fieldOf networkField planField
+unfolding fieldOf
 low-field Network l s = go (decLt (length l) 6)
   where
-    go : Dec (length l < 6) → Low (networkField l)
+    go : Dec (length l < 6) → Low (fieldOf Network l)
     go (yes h) = rw (lt-ltb (length l) 6 h) (low-at networkLines (length l) (lit 1 tt, (lit 500 tt, (lit 500 tt, (lit 64 tt, (lit 32 tt, (lit 96 tt, tt)))))))
     go (no h) =
         let k : 6 ≤ length l = omega arith in
@@ -247,12 +243,12 @@ low-field Network l s = go (decLt (length l) 6)
         rw (le-ltb (length l) 6 k) (low-body (at l 3) (at l 4) (at l 5) (length l - 6) (b .links .1) (b .flows))
 low-field Plan l s = go (decLt (length l) 4)
   where
-    go : Dec (length l < 4) → Low (planField l)
+    go : Dec (length l < 4) → Low (fieldOf Plan l)
     go (yes h) = rw (lt-ltb (length l) 4 h) (low-at planLines (length l) (lit 1 tt, (lit 50 tt, (lit 50 tt, (lit 96 tt, tt)))))
     go (no h) =
         let k : 4 ≤ length l = omega arith in
         let b = head-of-plan l s k in
-        rw (le-ltb (length l) 4 k) (low-cond (ltb (length l - 4) (rowLines l)) (Line At (Between 0 (mostAmount * at l 1))) End (omega (arith, b .parts .1)) tt)
+        rw (le-ltb (length l) 4 k) (low-cond (ltb (length l - 4) (rowLines l)) (line "at=" (Between 0 (mostAmount * at l 1))) End (omega (arith, b .parts .1)) tt)
 
 -- no number that is written in decimal has more than 10 digits, and none in hexadecimal more than 16
 pub zero-or : (low high v : ℕ) → T (eqb v 0 || (leb low v && leb v high)) → v ≤ high

@@ -16,15 +16,15 @@ use Rattle.model.specs.Limits.{mostLinks, mostFlows, mostTunnels, mostSteps, mo
 use Rattle.model.specs.Outcome.{good}
 use Rattle.model.specs.Rule as rule
 use Rattle.lists.specs.Lists.{at, flowAt, tunnelAt, networkOf, GoodNetwork, GoodPlan}
-use Rattle.forms.specs.Keys.{At}
-use Rattle.forms.specs.Form.{Sound, Whole, allows, fieldOf, networkLines, networkHead, flowLines, flowGroup, tunnelLines, tunnelGroup, planLines, planHead, networkField, networkBody, planField}
+use Rattle.forms.specs.Keys.{keys, placeIn}
+use Rattle.forms.specs.Form.{planBody, Sound, Whole, allows, fieldOf, networkLines, flowLines, tunnelLines, planLines, networkBody}
 use Rattle.forms.specs.Read.{addUp, unlessMissed, judgeNetwork, judgePlan}
 use Rattle.forms.specs.Good.{NetworkRanges}
 use Rattle.forms.specs.declared.form.Form.the-variants.{Network, Plan}
 use Rattle.forms.specs.declared.form.Range.the-variants.{Between}
 use Rattle.forms.specs.declared.form.Field.{Field}
 use Rattle.forms.specs.declared.form.Field.the-variants.{Line, End}
-use Rattle.forms.proofs.Forms.{both, between, network-head-at, network-body-at, plan-head-at, plan-body-at, planBody, rowLines, body-cap, body-flow, body-tunnel, body-end}
+use Rattle.forms.proofs.Forms.{both, between, network-head-at, network-body-at, plan-head-at, plan-body-at, rowLines, body-cap, body-flow, body-tunnel, body-end}
 use Rattle.forms.proofs.Walks.{judged-good, good-judged}
 
 -- ---- no field of a group is the end
@@ -90,7 +90,7 @@ module _ (links flows tunnels : ℕ) where
 
 module _ (l : List ℕ) (w : Whole Network l) where
   network-long : 6 ≤ length l
-  unfolding fieldOf networkField
+  unfolding fieldOf
   network-long = go (decLt (length l) 6)
     where
       go : Dec (length l < 6) → 6 ≤ length l
@@ -98,7 +98,7 @@ module _ (l : List ℕ) (w : Whole Network l) where
       go (no h) = omega arith
 
   network-body-ends : networkBody (at l 3) (at l 4) (at l 5) (length l - 6) ≡ End
-  unfolding fieldOf networkField
+  unfolding fieldOf
   network-body-ends = rw (le-ltb (length l) 6 network-long) at (w .ends)
 
   pub network-size : length l ≡ 6 + at l 3 + 2 * at l 4 + 4 * at l 5
@@ -113,15 +113,15 @@ module _ (l : List ℕ) (w : Whole Network l) where
   body-line : (n i : ℕ) → i ≡ 6 + n → i < length l → T (allows (networkBody (at l 3) (at l 4) (at l 5) n) (at l i))
   body-line n i e h = rw e (network-body-at l (w .sound) n (rw e at h))
 
-  flow-line : (f j i : ℕ) → f < at l 4 → j < 2 → i ≡ 6 + at l 3 + 2 * f + j → T (allows (flowGroup j) (at l i))
+  flow-line : (f j i : ℕ) → f < at l 4 → j < 2 → i ≡ 6 + at l 3 + 2 * f + j → T (allows (getD flowLines j End) (at l i))
   flow-line f j i h k e =
       rw (body-flow (at l 3) (at l 4) (at l 5) f j h k) at (body-line (at l 3 + 2 * f + j) i (omega arith) (omega (arith, network-size)))
 
-  tunnel-line : (t j i : ℕ) → t < at l 5 → j < 4 → i ≡ 6 + at l 3 + 2 * at l 4 + 4 * t + j → T (allows (tunnelGroup (at l 3) (at l 4) j) (at l i))
+  tunnel-line : (t j i : ℕ) → t < at l 5 → j < 4 → i ≡ 6 + at l 3 + 2 * at l 4 + 4 * t + j → T (allows (getD (tunnelLines (at l 3) (at l 4)) j End) (at l i))
   tunnel-line t j i h k e =
       rw (body-tunnel (at l 3) (at l 4) (at l 5) t j h k) at (body-line (at l 3 + 2 * at l 4 + 4 * t + j) i (omega arith) (omega (arith, network-size)))
 
-  head-line : (i : ℕ) → i < 6 → T (allows (networkHead i) (at l i))
+  head-line : (i : ℕ) → i < 6 → T (allows (getD networkLines i End) (at l i))
   head-line i h = network-head-at l (w .sound) i (omega (arith, network-long)) h
 
   pub network-ranges : NetworkRanges l
@@ -177,7 +177,7 @@ cond-end false k v e = refl
 
 module _ (l : List ℕ) (w : Whole Plan l) where
   plan-long : 4 ≤ length l
-  unfolding fieldOf planField
+  unfolding fieldOf
   plan-long = go (decLt (length l) 4)
     where
       go : Dec (length l < 4) → 4 ≤ length l
@@ -185,7 +185,7 @@ module _ (l : List ℕ) (w : Whole Plan l) where
       go (no h) = omega arith
 
   plan-body-ends : planBody l (length l - 4) ≡ End
-  unfolding fieldOf planField
+  unfolding fieldOf
   plan-body-ends = rw (le-ltb (length l) 4 plan-long) at (w .ends)
 
   body-in : (n : ℕ) → n < rowLines l → 4 + n < length l → at l (4 + n) ≤ mostAmount * at l 1
@@ -195,13 +195,13 @@ module _ (l : List ℕ) (w : Whole Plan l) where
   plan-size = go (decLt (length l - 4) (rowLines l)) (decLt (4 + rowLines l) (length l))
     where
       go : Dec (length l - 4 < rowLines l) → Dec (4 + rowLines l < length l) → length l ≡ 4 + rowLines l
-      go (yes h) d = let z : _≡_ {A = Bool} true false = sym (lt-ltb (length l - 4) (rowLines l) h) ∙ cond-end (ltb (length l - 4) (rowLines l)) At (mostAmount * at l 1) plan-body-ends in let z′ : _≡_ {A = ℕ} 0 1 = cc in absurd (omega arith)
+      go (yes h) d = let z : _≡_ {A = Bool} true false = sym (lt-ltb (length l - 4) (rowLines l) h) ∙ cond-end (ltb (length l - 4) (rowLines l)) (placeIn keys "at=") (mostAmount * at l 1) plan-body-ends in let z′ : _≡_ {A = ℕ} 0 1 = cc in absurd (omega arith)
       go (no h) (yes k) =
           let same : rowLines l ≤ rowLines l = omega arith in
           absurd (rw (le-ltb (rowLines l) (rowLines l) same) at (plan-body-at l (w .sound) (rowLines l) k))
       go (no h) (no k) = omega (arith, plan-long)
 
-  plan-head-line : (i : ℕ) → i < 4 → T (allows (planHead i) (at l i))
+  plan-head-line : (i : ℕ) → i < 4 → T (allows (getD planLines i End) (at l i))
   plan-head-line i h = plan-head-at l (w .sound) i (omega (arith, plan-long)) h
 
   pub plan-ranges : GoodPlan l
@@ -225,7 +225,7 @@ good-plan l g e =
 
 -- and a good plan is judged good
 module _ (l : List ℕ) (g : GoodPlan l) where
-  head-in : (i : ℕ) → i < 4 → T (allows (planHead i) (at l i))
+  head-in : (i : ℕ) → i < 4 → T (allows (getD planLines i End) (at l i))
   head-in zero h = let e : at l 0 ≡ 1 = g .edition in rw e tt
   head-in (suc zero) h = in-between 1 mostSteps (at l 1) (g .parts .0) (g .parts .1)
   head-in (suc (suc zero)) h = in-between 1 mostSteps (at l 2) (g .steps .0) (g .steps .1)
@@ -233,7 +233,7 @@ module _ (l : List ℕ) (g : GoodPlan l) where
   head-in (suc (suc (suc (suc i)))) h = absurd (omega arith)
 
   plan-sound : (i : ℕ) → i < length l → Dec (i < 4) → T (allows (fieldOf Plan (take i l)) (getD l i 0))
-  unfolding fieldOf planField
+  unfolding fieldOf
   plan-sound i h (yes k) = rw (length-take-le i l (le-of-lt h), lt-ltb i 4 k) (head-in i k)
   plan-sound i h (no k) =
       let four : 4 ≤ i = omega arith in
@@ -242,7 +242,7 @@ module _ (l : List ℕ) (g : GoodPlan l) where
       (in-between 0 (mostAmount * at l 1) (at l i) (omega arith) (g .amounts i four h))
 
   plan-ends : fieldOf Plan l ≡ End
-  unfolding fieldOf planField
+  unfolding fieldOf
   plan-ends =
       let four : 4 ≤ length l = omega (arith, g .size) in
       let n : (at l 2 - 1) * at l 3 ≤ length l - 4 = omega (arith, g .size) in

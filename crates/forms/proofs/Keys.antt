@@ -4,7 +4,9 @@ use mathlib.Core.List.{List, [], _∷_}
 use Prim.Native.Nat.{ℕ, zero, suc, _≤_}
 use lib.Dec.{T, leb, eqb, leb→le}
 use lib.ListN.{length, getD}
-use Rattle.forms.specs.Keys.{keyTable, prefixOf}
+use Prim.Native.String.{String}
+use Rattle.forms.specs.Bytes.{bytes}
+use Rattle.forms.specs.Keys.{keys, prefixOf}
 use Rattle.forms.proofs.Forms.{both}
 
 abbrev pub no-feeds : List ℕ → Bool
@@ -14,18 +16,18 @@ no-feeds (b ∷ l) = not (eqb b 10) && no-feeds l
 abbrev plain : List ℕ → Bool
 plain k = leb (length k) 9 && no-feeds k
 
-abbrev all-plain : List (List ℕ) → Bool
+abbrev all-plain : List String → Bool
 all-plain [] = true
-all-plain (k ∷ ks) = plain k && all-plain ks
+all-plain (k ∷ ks) = plain (bytes k) && all-plain ks
 
-plain-at : (ks : List (List ℕ)) (n : ℕ) → T (all-plain ks) → T (plain (getD ks n []))
+plain-at : (ks : List String) (n : ℕ) → T (all-plain ks) → T (plain (bytes (getD ks n "")))
 plain-at [] n t = tt
-plain-at (k ∷ ks) zero t = both (plain k) (all-plain ks) t .0
-plain-at (k ∷ ks) (suc n) t = plain-at ks n (both (plain k) (all-plain ks) t .1)
+plain-at (k ∷ ks) zero t = both (plain (bytes k)) (all-plain ks) t .0
+plain-at (k ∷ ks) (suc n) t = plain-at ks n (both (plain (bytes k)) (all-plain ks) t .1)
 
 module _ (k : ℕ) where
   plain-key : T (leb (length (prefixOf k)) 9) × T (no-feeds (prefixOf k))
-  plain-key = both (leb (length (prefixOf k)) 9) (no-feeds (prefixOf k)) (plain-at keyTable k tt)
+  plain-key = both (leb (length (prefixOf k)) 9) (no-feeds (prefixOf k)) (plain-at keys k tt)
 
   pub key-length : length (prefixOf k) ≤ 9
   key-length = leb→le _ _ (plain-key .0)

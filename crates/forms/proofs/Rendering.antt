@@ -11,8 +11,8 @@ use lib.Seq.{take-suc, length-take-le, getD-take}
 use borrow.Author.Tests.{lt-ltb, le-ltb}
 use Rattle.model.specs.Limits.{mostAmount}
 use Rattle.lists.specs.Lists.{at}
-use Rattle.forms.specs.Keys.{prefixOf, At}
-use Rattle.forms.specs.Form.{isHex, fieldOf, Sound, Whole, mostNumbers, planField}
+use Rattle.forms.specs.Keys.{prefixOf, keys, placeIn}
+use Rattle.forms.specs.Form.{isHex, fieldOf, Sound, Whole, mostNumbers}
 use Rattle.forms.specs.Laws.{mostBytes}
 use Rattle.forms.specs.Write.{baseOf, digitCount, valueDigits, lineOf, renderFrom, render}
 use Rattle.forms.specs.declared.form.Form.{Form}
@@ -98,13 +98,13 @@ module _ (form : Form) (l : List ℕ) (s : Sound form l) where
 -- and an `at` line at most 13
 module _ (l : List ℕ) (w : Whole Plan l) where
   at-line : (j : ℕ) → 4 ≤ j → j < length l → length (lineOf (fieldOf Plan (take j l)) (getD l j 0)) ≤ 13
-  unfolding fieldOf planField
+  unfolding fieldOf
   at-line j four h =
       let g = plan-ranges l w in
       let n : j - 4 < (at l 2 - 1) * at l 3 = omega (arith, g .size) in
       let v : getD l j 0 < 10 ^ 9 = omega (arith, g .amounts j four h, g .parts .1) in
       rw (length-take-le j l (le-of-lt h), le-ltb j 4 four, getD-take j l 1 0 (omega arith), getD-take j l 2 0 (omega arith), getD-take j l 3 0 (omega arith), lt-ltb (j - 4) ((at l 2 - 1) * at l 3) n)
-      (omega (arith, line-length At (Between 0 (mostAmount * at l 1)) (getD l j 0), width-most (getD l j 0) 9 (omega arith) (omega arith) v))
+      (omega (arith, line-length (placeIn keys "at=") (Between 0 (mostAmount * at l 1)) (getD l j 0), width-most (getD l j 0) 9 (omega arith) (omega arith) v))
 
   plan-short : length (render Plan l) ≤ mostBytes
   unfolding render

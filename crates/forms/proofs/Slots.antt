@@ -5,7 +5,8 @@ use mathlib.Core.List.{List, [], _∷_}
 use Prim.Native.Nat.{ℕ, _+_, _*_, _≤_, _<_}
 use lib.Dec.{T, eqb, leb, leb→le, eqb→eq}
 use lib.ListN.{replicate, getD, take, drop}
-use Rattle.forms.specs.Keys.{keyBytes, prefixOf}
+use Rattle.forms.specs.Keys.{prefixOf}
+use Rattle.forms.specs.Slots.{keyBytes}
 use Rattle.forms.proofs.Table.{at}
 
 -- the number at the end of a slot

@@ -7,7 +7,8 @@ use lib.ListN.{length, getD, take}
 use lib.Dec.{T, eqb, leb, ltb}
 use Rattle.model.specs.Limits.{mostLinks, mostFlows, mostTunnels, mostSteps, mostAmount, leastShare, mostShare}
 use Rattle.lists.specs.Lists.{at}
-use Rattle.forms.specs.Keys.{Net, Scratch, Overrun, Links, Flows, Tunnels, Cap, Class, Rate, Flow, Via, Old, New, Plan, Parts, Steps, At}
+use Prim.Native.String.{String}
+use Rattle.forms.specs.Keys.{keys, placeIn}
 use Rattle.forms.specs.declared.form.Form.{Form}
 use Rattle.forms.specs.declared.form.Form.the-variants.{Network as network, Plan as plan}
 use Rattle.forms.specs.declared.form.Range.{Range}
@@ -36,75 +37,49 @@ isHex (ZeroOr low high) = false
 isHex (Below n) = false
 isHex (Set n) = true
 
--- ---- the network
+-- ---- the lines of a network and of a plan
+
+abbrev pub line : String → Range → Field
+line key range = Line (placeIn keys key) range
 
 -- "`net` 1; `scratch` 20..500; `overrun` 0 or 20..500; `links` 1..64; `flows` 0..32; `tunnels` 0..96"
 abbrev pub networkLines : List Field
 networkLines =
-    Line Net (Between 1 1)
-    ∷ Line Scratch (Between leastShare mostShare)
-    ∷ Line Overrun (ZeroOr leastShare mostShare)
-    ∷ Line Links (Between 1 mostLinks)
-    ∷ Line Flows (Between 0 mostFlows)
-    ∷ Line Tunnels (Between 0 mostTunnels)
-    ∷ []
-
--- "for each link: `cap` 0..10,000,000"
-abbrev pub capLine : Field
-capLine = Line Cap (Between 0 mostAmount)
+    line "net=" (Between 1 1)
+    ∷ line "scratch=" (Between leastShare mostShare) ∷ line "overrun=" (ZeroOr leastShare mostShare)
+    ∷ line "links=" (Between 1 mostLinks) ∷ line "flows=" (Between 0 mostFlows) ∷ line "tunnels=" (Between 0 mostTunnels) ∷ []
 
 -- "for each flow: `class` 0 interactive, 1 elastic, 2 background; `rate` 0..10,000,000"
 abbrev pub flowLines : List Field
-flowLines = Line Class (Between 0 2) ∷ Line Rate (Between 0 mostAmount) ∷ []
+flowLines = line "class=" (Between 0 2) ∷ line "rate=" (Between 0 mostAmount) ∷ []
 
 -- "for each tunnel: `flow` 0..flows-1; `via` ..; `old` and `new`, each 0..10,000,000"
 abbrev pub tunnelLines : ℕ → ℕ → List Field
 tunnelLines links flows =
-    Line Flow (Below flows) ∷ Line Via (Set links) ∷ Line Old (Between 0 mostAmount) ∷ Line New (Between 0 mostAmount) ∷ []
+    line "flow=" (Below flows) ∷ line "via=" (Set links) ∷ line "old=" (Between 0 mostAmount) ∷ line "new=" (Between 0 mostAmount) ∷ []
 
-abbrev pub networkHead : ℕ → Field
-networkHead n = getD networkLines n End
-
-abbrev pub flowGroup : ℕ → Field
-flowGroup n = getD flowLines n End
-
-abbrev pub tunnelGroup : ℕ → ℕ → ℕ → Field
-tunnelGroup links flows n = getD (tunnelLines links flows) n End
-
--- after the head: a line for each link, then 2 for each flow, then 4 for each tunnel
+-- "for each link: `cap` 0..10,000,000"; then 2 lines for each flow, then 4 for each tunnel
 unfoldable pub networkBody : ℕ → ℕ → ℕ → ℕ → Field
 networkBody links flows tunnels n =
-    cond (ltb n links) capLine
-    (cond (ltb ((n - links) / 2) flows) (flowGroup ((n - links) % 2))
-    (cond (ltb ((n - links - 2 * flows) / 4) tunnels) (tunnelGroup links flows ((n - links - 2 * flows) % 4)) End))
-
-unfoldable pub networkField : List ℕ → Field
-unfolding networkBody
-networkField done =
-    cond (ltb (length done) 6) (networkHead (length done)) (networkBody (at done 3) (at done 4) (at done 5) (length done - 6))
-
--- ---- the plan
+    cond (ltb n links) (line "cap=" (Between 0 mostAmount))
+    (cond (ltb ((n - links) / 2) flows) (getD flowLines ((n - links) % 2) End)
+    (cond (ltb ((n - links - 2 * flows) / 4) tunnels) (getD (tunnelLines links flows) ((n - links - 2 * flows) % 4) End) End))
 
 -- "`plan` 1; `parts` 1..50; `steps` 1..50; `tunnels` 0..96"
 abbrev pub planLines : List Field
-planLines = Line Plan (Between 1 1) ∷ Line Parts (Between 1 mostSteps) ∷ Line Steps (Between 1 mostSteps) ∷ Line Tunnels (Between 0 mostTunnels) ∷ []
-
-abbrev pub planHead : ℕ → Field
-planHead n = getD planLines n End
+planLines =
+    line "plan=" (Between 1 1)
+    ∷ line "parts=" (Between 1 mostSteps) ∷ line "steps=" (Between 1 mostSteps) ∷ line "tunnels=" (Between 0 mostTunnels) ∷ []
 
 -- "then for each row 1 to steps-1, for each tunnel, `at` 0..10,000,000 × parts"
-unfoldable pub planField : List ℕ → Field
-planField done =
-    cond (ltb (length done) 4) (planHead (length done))
-    (cond (ltb (length done - 4) ((at done 2 - 1) * at done 3)) (Line At (Between 0 (mostAmount * at done 1))) End)
-
--- ---- either form
+abbrev pub planBody : List ℕ → ℕ → Field
+planBody l n = cond (ltb n ((at l 2 - 1) * at l 3)) (line "at=" (Between 0 (mostAmount * at l 1))) End
 
 -- the line that stands after some numbers
 unfoldable pub fieldOf : Form → List ℕ → Field
-unfolding networkField planField
-fieldOf network done = networkField done
-fieldOf plan done = planField done
+unfolding networkBody
+fieldOf network l = cond (ltb (length l) 6) (getD networkLines (length l) End) (networkBody (at l 3) (at l 4) (at l 5) (length l - 6))
+fieldOf plan l = cond (ltb (length l) 4) (getD planLines (length l) End) (planBody l (length l - 4))
 
 -- whether a number may stand in a field
 abbrev pub allows : Field → ℕ → Bool

@@ -1,7 +1,9 @@
 // The forms: which line stands at a position, given the numbers before it.
 ghost use mathlib.Core.Path.{_≡_};
-ghost use Rattle.forms.specs.Keys.{keyBytes, prefixOf};
-ghost use Rattle.forms.specs.Form.{fieldOf, networkField, networkHead, networkBody, planField, planHead, flowGroup, tunnelGroup, admitsOf, isHex, secondOf, Sound};
+ghost use lib.ListN.{getD};
+ghost use Rattle.forms.specs.Keys.{prefixOf};
+ghost use Rattle.forms.specs.Slots.{keyBytes};
+ghost use Rattle.forms.specs.Form.{fieldOf, networkBody, admitsOf, isHex, secondOf, Sound, networkLines, flowLines, tunnelLines, planLines};
 use lists::Network;
 
 pub enum Form {
@@ -94,7 +96,7 @@ pub fn second(form: Form) -> u64
 }
 
 fn network_head(n: usize) -> Field
-    ensures { λ r. ⌜ r ≡ networkHead n ⌝ }
+    ensures { λ r. ⌜ r ≡ getD networkLines n Field.End ⌝ }
 {
     match n {
         0 => Field::Line(NET, Range::Between(1, 1)),
@@ -114,7 +116,7 @@ fn network_head(n: usize) -> Field
 }
 
 fn flow_group(n: u64) -> Field
-    ensures { λ r. ⌜ r ≡ flowGroup n ⌝ }
+    ensures { λ r. ⌜ r ≡ getD flowLines n Field.End ⌝ }
 {
     match n {
         0 => Field::Line(CLASS, Range::Between(0, 2)),
@@ -124,7 +126,7 @@ fn flow_group(n: u64) -> Field
 }
 
 fn tunnel_group(links: u64, flows: u64, n: u64) -> Field
-    ensures { λ r. ⌜ r ≡ tunnelGroup links flows n ⌝ }
+    ensures { λ r. ⌜ r ≡ getD (tunnelLines links flows) n Field.End ⌝ }
 {
     match n {
         0 => Field::Line(FLOW, Range::Below(flows)),
@@ -153,7 +155,7 @@ fn network_body(links: u64, flows: u64, tunnels: u64, n: u64) -> Field
 }
 
 fn network_field(done: &[u64]) -> Field
-    ensures { λ r. ⌜ r ≡ networkField (now (done .entry)) ⌝ }
+    ensures { λ r. ⌜ r ≡ fieldOf Form.Network (now (done .entry)) ⌝ }
 {
     let n = done.len();
     if n < 6 {
@@ -163,7 +165,7 @@ fn network_field(done: &[u64]) -> Field
 }
 
 fn plan_head(n: usize) -> Field
-    ensures { λ r. ⌜ r ≡ planHead n ⌝ }
+    ensures { λ r. ⌜ r ≡ getD planLines n Field.End ⌝ }
 {
     match n {
         0 => Field::Line(PLAN, Range::Between(1, 1)),
@@ -176,7 +178,7 @@ fn plan_head(n: usize) -> Field
 
 fn plan_field(done: &[u64]) -> Field
     requires { ⌜ Sound Form.Plan (now done) ⌝ }
-    ensures { λ r. ⌜ r ≡ planField (now (done .entry)) ⌝ }
+    ensures { λ r. ⌜ r ≡ fieldOf Form.Plan (now (done .entry)) ⌝ }
 {
     let n = done.len();
     if n < 4 {

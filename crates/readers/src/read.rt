@@ -5,7 +5,7 @@ ghost use Prim.Native.Nat.{_≤_};
 ghost use lib.ListN.{length, drop};
 ghost use Rattle.model.specs.Outcome.{Outcome};
 ghost use Rattle.lists.specs.Answers.{done, withRoom, lent};
-ghost use Rattle.forms.specs.Keys.{keyBytes};
+ghost use Rattle.forms.specs.Slots.{keyBytes};
 ghost use Rattle.forms.specs.Form.{mostNumbers, secondOf};
 ghost use Rattle.forms.specs.Read.{readLines, readNetwork, readPlan};
 ghost use Rattle.readers.specs.Read.{takenOf, stopOf, Holds};

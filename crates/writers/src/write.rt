@@ -6,7 +6,7 @@ ghost use Prim.Native.Nat.{_+_, _≤_, _<_};
 ghost use lib.ListN.{length, drop};
 ghost use Rattle.model.specs.Outcome.{Outcome};
 ghost use Rattle.lists.specs.Answers.{done, withRoom, lent};
-ghost use Rattle.forms.specs.Keys.{keyBytes};
+ghost use Rattle.forms.specs.Slots.{keyBytes};
 ghost use Rattle.forms.specs.Form.{isHex, Sound, Whole};
 ghost use Rattle.forms.specs.Write.{digitChar, digitsIn, widthOf, baseOf, digitCount, lineOf, render, writeNetwork, writePlan};
 ghost use Rattle.writers.specs.Write.{placed};

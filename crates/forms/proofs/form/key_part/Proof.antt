@@ -4,8 +4,8 @@ use Prim.Native.Nat.{_+_, _*_, _-_, _≤_}
 use native.Mathlib.Omega.{arith}
 use native.Mathlib.Nat.{add-sub-cancel-left}
 use lib.ListN.{length, List·getD-eq-default}
-use mathlib.Core.List.{[]}
-use Rattle.forms.specs.Keys.{keyTable}
+use Rattle.forms.specs.Keys.{keys}
+use Rattle.forms.specs.Bytes.{bytes}
 use Rattle.forms.proofs.Slots.{slot}
 use borrow.Author.Needs.{needs}
 use Rattle.forms.proofs.form.key_part.Statement.{statement}
@@ -46,7 +46,7 @@ returns c =
 returns-2 : tie.Need-returns-2
 returns-2 c =
     let h : 17 ≤ c .before .before .args .key = c .before .if1 .left in
-    sym (List·getD-eq-default keyTable [] h)
+    ap bytes (sym (List·getD-eq-default keys "" h))
 
 pub key-part-spec : {M : Type 1} → statement M
 key-part-spec =

@@ -2,7 +2,7 @@
 use native.Mathlib.Nat.{mul-le-mul, le-trans, sub-le}
 use native.Mathlib.Omega.{arith}
 use Rattle.forms.proofs.Forms.{PlanHead, head-of-plan}
-use Rattle.forms.specs.Form.{planField}
+use Rattle.forms.specs.Form.{fieldOf}
 use borrow.Author.Tests.{lt-ltb, le-ltb}
 use borrow.Author.Needs.{needs}
 use Rattle.forms.proofs.form.plan_field.Statement.{statement}
@@ -15,7 +15,7 @@ plan-head-requires : tie.Need-plan-head-requires
 plan-head-requires c κs = search needs
 
 returns : tie.Need-returns
-unfolding planField
+unfolding fieldOf
 returns c = rw (lt-ltb _ _ (c .before .if1 .taken)) (c .plan-head .ensures)
 
 shared-slice-read-if2 : tie.Need-shared-slice-read-if2
@@ -41,11 +41,11 @@ mul-high c =
     omega (arith, b .parts .1)
 
 returns-2 : tie.Need-returns-2
-unfolding planField
+unfolding fieldOf
 returns-2 c = simp (le-ltb _ _ (c .before .before .before .before .if1 .left), lt-ltb _ _ (c .before .if2 .taken))
 
 returns-3 : tie.Need-returns-3
-unfolding planField
+unfolding fieldOf
 returns-3 c = simp (le-ltb _ _ (c .before .before .before .if1 .left), le-ltb _ _ (c .if2 .left))
 
 pub plan-field-spec : {M : Type 1} → statement M
