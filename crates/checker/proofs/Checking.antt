@@ -12,7 +12,8 @@ use lib.ListN.{length, drop}
 use Rattle.model.specs.Outcome.{Outcome, good, refused, andThen, number, otherTunnels, missedRow, noRoom}
 use Rattle.model.specs.Net.{Net, Plan}
 use Rattle.model.specs.Scan.{Overload, cause}
-use Rattle.model.specs.Rule.{Place, stepCount, firstOverload, mark}
+use Rattle.model.specs.Outcome.{Place}
+use Rattle.model.specs.Rule.{stepCount, firstOverload, mark}
 use Rattle.model.specs.Rule as rule
 use Rattle.model.proofs.Choices.{marked-overloads}
 use Rattle.lists.specs.Lists.{at, networkOf, planOf, GoodNetwork, GoodPlan}
@@ -22,7 +23,8 @@ use Rattle.lists.specs.declared.Answer.the-variants.{Done, Plan as Planned, Ref
 use Rattle.forms.specs.Read.{judgeNetwork, judgePlan}
 use Rattle.forms.proofs.Answers.{done-good}
 use Rattle.forms.proofs.Good.{good-network, good-plan}
-use Rattle.checker.specs.Check.{foundOf, missedOf, weighSteps, weigh, weighPlan, verdict, checked, marksOf, marksAfter, marksAt}
+use Rattle.checker.specs.Check.{weighSteps, weigh, verdict, checked, marksAfter}
+use Rattle.checker.specs.Inner.{foundOf, missedOf, weighPlan, marksOf, marksAt}
 use Rattle.checker.specs.declared.steps.Found.the-variants.{Nothing, At}
 use Rattle.checker.specs.declared.sums.Missed.the-variants as missed
 

@@ -10,7 +10,7 @@ use Rattle.model.specs.Net.{row}
 use Rattle.lists.specs.Lists.{at, tunnelAt, networkOf, planOf, GoodNetwork}
 use Rattle.model.proofs.Rows.{row-first, row-last, row-between, row-cases}
 use Rattle.checker.specs.Columns.{Column, Holds, Small, classOf}
-use Rattle.checker.specs.Check.{Checkable}
+use Rattle.checker.specs.Inner.{Checkable}
 
 -- the place of line j of tunnel t, from where the tunnels begin
 place : (l : List ℕ) (start j t : ℕ) → start ≡ 6 + at l 3 + 2 * at l 4 + j → start + 4 * t ≡ tunnelAt l t + j

@@ -5,30 +5,31 @@ use mathlib.Core.List.{List}
 use mathlib.Core.Option.{Option, none, some}
 use borrow.Author.Tests.{leb-true, le-leb, eqb-true, eq-eqb}
 use lib.Dec.{eqb, leb}
-use Rattle.model.specs.Outcome.{Outcome, good}
+use Rattle.model.specs.Outcome.{Outcome, good, Cause, unless, Place, andThen}
 use Rattle.model.specs.Scan.{Overload}
-use Rattle.model.specs.Rule.{Place, firstOverload, missedRow}
+use Rattle.model.specs.Outcome.{Place}
+use Rattle.model.specs.Rule.{firstOverload, missedRow}
 use Rattle.model.proofs.Outcomes.{good-refused, then-good, cond-good, good-same}
 use Rattle.model.proofs.Choices.{none-kept, kept-none, safe, marked-overloads, found}
 use Rattle.lists.specs.Lists.{at, networkOf, planOf}
 use Rattle.forms.specs.Read.{judgeNetwork, judgePlan}
 use Rattle.forms.proofs.Good.{good-network, good-plan}
-use Rattle.checker.specs.Check.{unlessMissed, weighSteps, weigh, weighPlan, verdict}
+use Rattle.checker.specs.Check.{weighSteps, weigh, verdict}
 use Rattle.checker.specs.Claim.{Reaches, Checker}
 
-missed-good : (q : Option Place) (o : Outcome (Option Overload)) (x : Option Overload) → unlessMissed q o ≡ good x → (q ≡ none) × (o ≡ good x)
+missed-good : (q : Option Place) (o : Outcome (Option Overload)) (x : Option Overload) → unless Cause.missedRow q o ≡ good x → (q ≡ none) × (o ≡ good x)
 missed-good none o x e = (refl, e)
 missed-good (some q) o x e = absurd (good-refused x _ _ _ e)
 
 -- what a verdict on the steps tells
 reached : (n p : List ℕ) (room : ℕ) (x : Option Overload) → verdict n p room ≡ good x → Reaches n p room × (firstOverload (networkOf n) (planOf p) ≡ x)
 reached n p room x e =
-    let a = then-good (judgeNetwork n) (λ m. weighPlan m p room) x e in
+    let a = then-good (judgeNetwork n) (λ m. andThen (judgePlan p) (λ q. weigh m q room)) x e in
     let b = then-good (judgePlan p) (λ q. weigh (a .0) q room) x (a .2) in
     let en : a .0 ≡ n = good-network n (a .0) (a .1) .0 in
     let ep : b .0 ≡ p = good-plan p (b .0) (b .1) .0 in
     let w : weigh n p room ≡ good x = ap₂ (λ (m q : List ℕ). weigh m q room) (sym en) (sym ep) ∙ b .2 in
-    let c = cond-good (eqb (at p 3) (at n 5)) (unlessMissed (missedRow (networkOf n) (planOf p)) (weighSteps n p room)) _ 4 1 x w in
+    let c = cond-good (eqb (at p 3) (at n 5)) (unless Cause.missedRow (missedRow (networkOf n) (planOf p)) (weighSteps n p room)) _ 4 1 x w in
     let d = missed-good (missedRow (networkOf n) (planOf p)) (weighSteps n p room) x (c .1) in
     let f = cond-good (leb (at n 5) room) (good (firstOverload (networkOf n) (planOf p))) _ (at n 5) 0 x (d .1) in (
       record {

@@ -16,7 +16,7 @@ use Rattle.model.specs.Scan.{Bound, Overload, test, testLink}
 use Rattle.model.specs.Rule.{crosses, onLink, counts, load, exceeds, worst, worstOver}
 use Rattle.lists.specs.Lists.{at, networkOf, planOf}
 use Rattle.checker.specs.Columns.{Holds, Small, linkSum, counted}
-use Rattle.checker.specs.Check.{Checkable, overNumber, overBy, foundOf}
+use Rattle.checker.specs.Inner.{Checkable, overNumber, overBy, foundOf}
 use Rattle.checker.specs.declared.steps.Found.the-variants.{At}
 use Rattle.checker.proofs.Good.{row-small}
 

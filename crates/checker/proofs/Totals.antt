@@ -19,7 +19,7 @@ use Rattle.lists.specs.Lists.{at, flowAt, tunnelAt, networkOf, GoodNetwork}
 use Rattle.forms.specs.Sums.{Gathered}
 use Rattle.forms.proofs.Gathering.{gathered-more}
 use Rattle.checker.specs.Columns.{Holds}
-use Rattle.checker.specs.Check.{FirstMissed}
+use Rattle.checker.specs.Inner.{FirstMissed}
 
 -- ---- gathering
 

@@ -1,3 +1,4 @@
 pub mod Columns
 pub mod Check
+pub mod Inner
 pub mod Claim

@@ -6,7 +6,7 @@ ghost use Prim.Native.Nat.{_/_, _%_, _^_, _≤_, _<_};
 ghost use lib.Dec.{eqb, ltb};
 ghost use lib.ListN.{length, getD, drop};
 ghost use Rattle.lists.specs.Lists.{at, networkOf, planOf};
-ghost use Rattle.checker.specs.Check.{Checkable, marksOf, marksAt};
+ghost use Rattle.checker.specs.Inner.{Checkable, marksOf, marksAt};
 use crate::rows;
 
 // Whether a tunnel crosses link l and its amount rises.

@@ -5,7 +5,7 @@ ghost use lib.ListN.{length};
 ghost use Rattle.model.specs.Net;
 ghost use Rattle.lists.specs.Lists.{at, tunnelAt, networkOf, planOf, GoodNetwork};
 ghost use Rattle.checker.specs.Columns.{Holds, classOf, counted};
-ghost use Rattle.checker.specs.Check.{Checkable};
+ghost use Rattle.checker.specs.Inner.{Checkable};
 ghost use Rattle.model.specs.Scan.{Bound};
 use crate::columns;
 use lists::Network;

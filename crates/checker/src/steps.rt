@@ -6,7 +6,7 @@ ghost use Rattle.model.specs.Scan.{Bound};
 ghost use Rattle.model.specs.Rule.{exceeds, firstOverload};
 ghost use Rattle.lists.specs.Lists.{at, networkOf, planOf, GoodNetwork};
 ghost use Rattle.checker.specs.Columns.{Small, linkSum};
-ghost use Rattle.checker.specs.Check.{Checkable, overBy, foundOf};
+ghost use Rattle.checker.specs.Inner.{Checkable, overBy, foundOf};
 use crate::columns;
 use crate::rows;
 use lists::Network;

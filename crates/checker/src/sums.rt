@@ -6,7 +6,7 @@ ghost use Rattle.model.specs.Rule.{missedRow};
 ghost use Rattle.forms.specs.Sums.{Gathered};
 ghost use Rattle.lists.specs.Lists.{at, flowAt, networkOf, planOf, GoodNetwork};
 ghost use Rattle.checker.specs.Columns.{Small};
-ghost use Rattle.checker.specs.Check.{Checkable, FirstMissed, missedOf};
+ghost use Rattle.checker.specs.Inner.{Checkable, FirstMissed, missedOf};
 use crate::rows;
 use lists::Network;
 

@@ -13,13 +13,14 @@ use Rattle.model.specs.Limits.{mostFlows, mostTunnels, mostAmount}
 use Rattle.model.specs.Sum.{sumOver}
 use Rattle.model.specs.Search.{onlyIf, orElse, first}
 use Rattle.model.specs.Net.{Net}
-use Rattle.model.specs.Rule.{Place, flowSum, missedBy, missedRate}
+use Rattle.model.specs.Outcome.{Place, Cause, unless, good}
+use Rattle.model.specs.Rule.{flowSum, missedBy, missedRate}
 use Rattle.model.proofs.Sums.{sum-zero, sum-take, sum-skip, sum-bound}
 use Rattle.model.proofs.Searches.{first-at}
 use Rattle.lists.specs.Lists.{networkOf}
 use Rattle.lists.specs.Answers.{done}
 use Rattle.lists.specs.declared.Answer.the-variants.{Done, Refused}
-use Rattle.forms.specs.Read.{addUp, unlessMissed}
+use Rattle.forms.specs.Read.{addUp}
 use Rattle.forms.specs.Sums.{Gathered}
 use Rattle.forms.specs.declared.form.Form.the-variants.{Network}
 
@@ -79,8 +80,8 @@ module _ (l : List ℕ) where
   pub missed-at : (f : ℕ) (p : Place) → first f (missedBy (networkOf l)) ≡ none → missedBy (networkOf l) f ≡ some p → f < networkOf l .flows
       → done (addUp Network l) ≡ Refused 4 (p .place) (p .second)
   unfolding addUp missedRate
-  missed-at f p e m h = ap (λ (o : Option Place). done (unlessMissed l o)) (first-at (missedBy (networkOf l)) f (networkOf l .flows) p e m h)
+  missed-at f p e m h = ap (λ (o : Option Place). done (unless Cause.missedRate o (good l))) (first-at (missedBy (networkOf l)) f (networkOf l .flows) p e m h)
 
   pub missed-none : first (networkOf l .flows) (missedBy (networkOf l)) ≡ none → done (addUp Network l) ≡ Done (length l)
   unfolding addUp missedRate
-  missed-none e = ap (λ (o : Option Place). done (unlessMissed l o)) e
+  missed-none e = ap (λ (o : Option Place). done (unless Cause.missedRate o (good l))) e

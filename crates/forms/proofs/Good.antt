@@ -13,12 +13,12 @@ use lib.ListN.{length, getD, take}
 use lib.Seq.{getD-take, length-take-le}
 use borrow.Author.Tests.{le-leb, lt-ltb, le-ltb}
 use Rattle.model.specs.Limits.{mostLinks, mostFlows, mostTunnels, mostSteps, mostAmount, leastShare, mostShare}
-use Rattle.model.specs.Outcome.{good}
+use Rattle.model.specs.Outcome.{good, Cause, unless, Place}
 use Rattle.model.specs.Rule as rule
 use Rattle.lists.specs.Lists.{at, flowAt, tunnelAt, networkOf, GoodNetwork, GoodPlan}
 use Rattle.forms.specs.Keys.{keys, placeIn}
 use Rattle.forms.specs.Form.{planBody, Sound, Whole, allows, fieldOf, networkLines, flowLines, tunnelLines, planLines, networkBody}
-use Rattle.forms.specs.Read.{addUp, unlessMissed, judgeNetwork, judgePlan}
+use Rattle.forms.specs.Read.{addUp, judgeNetwork, judgePlan}
 use Rattle.forms.specs.Good.{NetworkRanges}
 use Rattle.forms.specs.declared.form.Form.the-variants.{Network, Plan}
 use Rattle.forms.specs.declared.form.Range.the-variants.{Between}
@@ -143,7 +143,7 @@ module _ (l : List ℕ) (w : Whole Network l) where
         new = λ t h. between 0 mostAmount _ (tunnel-line t 3 (tunnelAt l t + 3) h (omega arith) refl) .1;
       }
 
-sums-good : (l g : List ℕ) (o : Option rule.Place) → unlessMissed l o ≡ good g → o ≡ none
+sums-good : (l g : List ℕ) (o : Option Place) → unless Cause.missedRate o (good l) ≡ good g → o ≡ none
 sums-good l g none e = refl
 sums-good l g (some p) e = let z : _≡_ {A = ℕ} 0 1 = cc in absurd (omega arith)
 

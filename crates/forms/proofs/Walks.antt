@@ -9,12 +9,12 @@ use native.Mathlib.Omega.{arith}
 use lib.Dec.{T}
 use lib.ListN.{length, getD, drop, drop-of-length-le, length-append}
 use lib.Seq.{drop-cons, append-snoc, take-append-seam, getD-append-seam}
-use Rattle.model.specs.Outcome.{Outcome, good, refused, outOfRange, missing, malformed}
+use Rattle.model.specs.Outcome.{Outcome, good, refused, outOfRange, missing, malformed, Cause, unless, Place}
 use Rattle.model.specs.Rule as rule
 use Rattle.lists.specs.Lists.{networkOf}
 use Rattle.forms.specs.Form.{fieldOf, admitsOf, allows, secondOf, Sound, Whole}
 use Rattle.model.specs.Outcome.{andThen}
-use Rattle.forms.specs.Read.{walk, itself, onField, onValue, judgeNumbers, judgeList, addUp, unlessMissed}
+use Rattle.forms.specs.Read.{walk, onField, onValue, judgeNumbers, judgeList, addUp, itself}
 use Rattle.forms.specs.declared.form.Form.{Form}
 use Rattle.forms.specs.declared.form.Form.the-variants.{Network, Plan}
 use Rattle.forms.specs.declared.form.Range.{Range}
@@ -120,7 +120,7 @@ pub add-up-same : (form : Form) (l g : List ℕ) → addUp form l ≡ good g →
 unfolding addUp
 add-up-same Network l g e = go (rule.missedRate (networkOf l)) e
   where
-    go : (o : Option rule.Place) → unlessMissed l o ≡ good g → g ≡ l
+    go : (o : Option Place) → unless Cause.missedRate o (good l) ≡ good g → g ≡ l
     go none e = cc
     go (some p) e = let z : _≡_ {A = ℕ} 0 1 = cc in absurd (omega arith)
 add-up-same Plan l g e = cc

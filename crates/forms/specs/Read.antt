@@ -3,7 +3,7 @@ use Prim.Native.Nat.{ℕ, _+_}
 use mathlib.Core.Bool.{cond}
 use mathlib.Core.List.{List, [], _∷_, _++_}
 use mathlib.Core.Option.{Option, none, some}
-use Rattle.model.specs.Outcome.{Outcome, good, refused, andThen, malformed, outOfRange, missing, missedRate}
+use Rattle.model.specs.Outcome.{Outcome, good, refused, unless, andThen, malformed, outOfRange, missing, missedRate}
 use Rattle.model.specs.Rule as rule
 use Rattle.lists.specs.Lists.{networkOf}
 use Rattle.forms.specs.Line.{lines, lineValue}
@@ -46,12 +46,8 @@ unfolding walk
 judgeNumbers form l = walk itself form 1 [] l
 
 -- "then 4 (lowest flow, old before new)": "a flow's amounts miss its rate | 4 | flow; 0 old, 1 new"
-abbrev pub unlessMissed : List ℕ → Option rule.Place → Outcome (List ℕ)
-unlessMissed l none = good l
-unlessMissed l (some p) = refused missedRate (p .place) (p .second)
-
 unfoldable pub addUp : Form → List ℕ → Outcome (List ℕ)
-addUp Network l = unlessMissed l (rule.missedRate (networkOf l))
+addUp Network l = unless missedRate (rule.missedRate (networkOf l)) (good l)
 addUp Plan l = good l
 
 -- ---- what a text is read as, and what a list is judged to be

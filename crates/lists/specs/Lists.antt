@@ -1,7 +1,7 @@
 -- How a list of numbers is seen as a network or as a plan. "Either text is also held as a list of 64-bit numbers, one for each line in line order."
-use Prim.Native.Nat.{ℕ, _+_, _-_, _*_, _^_, _≤_, _<_}
+use Prim.Native.Nat.{ℕ, zero, suc, _+_, _-_, _*_, _^_, _≤_, _<_}
 use mathlib.Core.Path.{_≡_}
-use mathlib.Core.List.{List}
+use mathlib.Core.List.{List, [], _∷_, _++_}
 use lib.ListN.{length, getD}
 use Rattle.model.specs.Limits.{mostLinks, mostFlows, mostTunnels, mostSteps, mostAmount}
 use Rattle.model.specs.Net.{Net, Plan}
@@ -10,6 +10,11 @@ use Rattle.model.specs.Claim.{Valid}
 -- the number at a position
 abbrev pub at : List ℕ → ℕ → ℕ
 at l i = getD l i 0
+
+-- x 0, x 1, .. x (n - 1)
+unfoldable pub listed : ℕ → (ℕ → ℕ) → List ℕ
+listed zero x = []
+listed (suc n) x = listed n x ++ x n ∷ []
 
 -- where the two lines of flow f begin, and the four of tunnel t
 abbrev pub flowAt : List ℕ → ℕ → ℕ

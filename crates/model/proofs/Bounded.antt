@@ -12,12 +12,13 @@ use Rattle.model.specs.Limits.{mostSteps}
 use Rattle.model.specs.Net.{Net}
 use Rattle.model.specs.Scan.{Bound}
 use Rattle.model.specs.Rule.{onLink, load, accepted}
-use Rattle.model.specs.Even.{even, tryEven, fewest, ceilDiv, stepBound, leavesScratch, keepsScratch}
+use Rattle.model.specs.Even.{even, fewest, ceilDiv, stepBound, leavesScratch, keepsScratch}
 use Rattle.model.specs.ThreeSums.{oldLoad, newLoad, peakLoad, endLoad}
 use Rattle.model.specs.Claim.{Valid}
 use Rattle.model.proofs.Searches.{only-true, only-some, only-none, first-none, first-some, first-least, none-true, not-false, and-true}
 use Rattle.model.proofs.Choices.{load-mono, load-add, factor, room}
 use Rattle.model.proofs.Evens.{either, even-accepted}
+use Rattle.model.specs.Search.{onlyIf}
 
 -- ---- what is rounded up
 
@@ -158,24 +159,24 @@ module _ (N : Net) (q : ℕ) (k : keepsScratch N ≡ true) (hs : N .scratch ≤ 
 module _ (N : Net) where
   -- the fewest even steps are 1 to 50, and their plan is accepted
   pub fewest-some : (q : ℕ) → fewest N ≡ some q → (0 < q) × (q ≤ mostSteps) × (accepted N (even N q) ≡ true)
-  unfolding fewest tryEven
+  unfolding fewest
   fewest-some q e =
-      let s = first-some (λ i. tryEven N (suc i)) mostSteps q e in
+      let s = first-some (λ i. onlyIf (accepted N (even N (suc i))) (suc i)) mostSteps q e in
       let o = only-some (accepted N (even N (suc (s .0)))) (suc (s .0)) q (s .2) in
       (omega (arith, o .1), omega (arith, s .1, o .1), subst (λ (k : ℕ). accepted N (even N k) ≡ true) (o .1) (o .0))
 
   -- where there are none, no even plan of 1 to 50 steps is accepted
   pub fewest-none : fewest N ≡ none → (q : ℕ) → 0 < q → q ≤ mostSteps → accepted N (even N q) ≡ false
-  unfolding fewest tryEven
+  unfolding fewest
   fewest-none e zero h m = absurd (omega arith)
-  fewest-none e (suc q) h m = only-none _ _ (first-none (λ i. tryEven N (suc i)) mostSteps e q m)
+  fewest-none e (suc q) h m = only-none _ _ (first-none (λ i. onlyIf (accepted N (even N (suc i))) (suc i)) mostSteps e q m)
 
   -- an even plan that is accepted bounds them
   pub fewest-least : (q : ℕ) → 0 < q → q ≤ mostSteps → accepted N (even N q) ≡ true → (p : ℕ) × (fewest N ≡ some p) × (p ≤ q)
-  unfolding fewest tryEven
+  unfolding fewest
   fewest-least zero h m e = absurd (omega arith)
   fewest-least (suc q) h m e =
-      let s = first-least (λ i. tryEven N (suc i)) mostSteps q (suc q) m (only-true (accepted N (even N (suc q))) (suc q) e) in
+      let s = first-least (λ i. onlyIf (accepted N (even N (suc i))) (suc i)) mostSteps q (suc q) m (only-true (accepted N (even N (suc q))) (suc q) e) in
       (s .2, s .4, omega (arith, s .1, only-some (accepted N (even N (suc (s .0)))) (suc (s .0)) (s .2) (s .3) .1))
 
 pub bounded : (N : Net) → Valid N → keepsScratch N ≡ true

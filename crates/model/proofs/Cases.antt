@@ -10,7 +10,8 @@ use Rattle.model.specs.Search.{onlyIf, isNone, orElse, first}
 use Rattle.model.specs.Net.{Net, row}
 use Rattle.model.specs.Scan.{Bound, Overload, scan, testStep, testLink, test}
 use Rattle.model.specs.Rule.{crosses, onLink, counts, load, exceeds, flowSum, missedIn, missedRow, stepCount, worst, worstOver, firstOverload, accepted, mark}
-use Rattle.model.specs.Even.{evenRow, even, tryEven, fewest, stuckAt, ceilDiv, stepBound, leavesScratch, keepsScratch}
+use Rattle.model.specs.Even.{evenRow, even, fewest, ceilDiv, stepBound, leavesScratch, keepsScratch}
+use Rattle.model.specs.Limits.{mostSteps}
 
 -- two links of the same cap and flows of the same class and of rate 10; of the tunnels, lists
 unfoldable pub network : ℕ → ℕ → ℕ → ℕ → List ℕ → List ℕ → List ℕ → List ℕ → Net
@@ -59,12 +60,12 @@ pub record Cases : Type 0 where
   -- P8 and P9; class 0 in place of 2, or class 2 without an overrun, has no plan
   pub background : fewest (swap 10 2 100) ∷ fewest (swap 10 2 20) ∷ fewest (swap 10 0 100) ∷ fewest (swap 10 2 0) ∷ [] ≡ some 10 ∷ some 50 ∷ none ∷ none ∷ []
   -- what refusal 9 names in P7 and where class 2 has no overrun; P10 and P11 in one step
-  pub overloads : stuckAt (swap 10 0 0) ∷ stuckAt (swap 10 2 0) ∷ firstOverload (swap 15 0 0) (even (swap 15 0 0) 1) ∷ firstOverload longer (even longer 1) ∷ []
+  pub overloads : firstOverload (swap 10 0 0) (even (swap 10 0 0) mostSteps) ∷ firstOverload (swap 10 2 0) (even (swap 10 2 0) mostSteps) ∷ firstOverload (swap 15 0 0) (even (swap 15 0 0) 1) ∷ firstOverload longer (even longer 1) ∷ []
       ≡ inStep1 Bound.protected ∷ inStep1 Bound.total ∷ inStep1 Bound.protected ∷ inStep1 Bound.protected ∷ []
   pub marked : marks (swap 15 0 0) 4 ∷ marks longer 2 ∷ [] ≡ (false ∷ false ∷ false ∷ true ∷ []) ∷ (false ∷ true ∷ []) ∷ []
   -- 10 of 15 leave 333 thousandths of the capacity free, 10 of 14 do not; with an overrun all classes may fill it
   pub scratch : keepsScratch (swap 15 0 0) ∷ keepsScratch (swap 14 0 0) ∷ keepsScratch (swap 10 2 20) ∷ keepsScratch (swap 9 2 20) ∷ [] ≡ true ∷ false ∷ true ∷ false ∷ []
 
 pub cases : Cases
-unfolding network swap longer empty marks inStep1 stepBound ceilDiv fewest stuckAt tryEven even evenRow keepsScratch leavesScratch accepted missedRow missedIn flowSum firstOverload stepCount scan testStep testLink test worstOver exceeds load counts worst mark row onLink crosses sumOver onlyIf isNone orElse first
+unfolding network swap longer empty marks inStep1 stepBound ceilDiv fewest even evenRow keepsScratch leavesScratch accepted missedRow missedIn flowSum firstOverload stepCount scan testStep testLink test worstOver exceeds load counts worst mark row onLink crosses sumOver onlyIf isNone orElse first
 cases = record { bounds = refl; protected = refl; background = refl; overloads = refl; marked = refl; scratch = refl }

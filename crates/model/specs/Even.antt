@@ -6,8 +6,8 @@ use lib.Dec.{leb, eqb}
 use Rattle.model.specs.Limits.{mostSteps}
 use Rattle.model.specs.Search.{onlyIf, isNone, first}
 use Rattle.model.specs.Net.{Net, Plan}
-use Rattle.model.specs.Scan.{protected, total, Overload}
-use Rattle.model.specs.Rule.{onLink, load, firstOverload, accepted}
+use Rattle.model.specs.Scan.{protected, total}
+use Rattle.model.specs.Rule.{onLink, load, accepted}
 
 -- "q × old + a × (new - old)": for a up to q nothing is cut off
 unfoldable pub evenRow : Net → ℕ → ℕ → ℕ → ℕ
@@ -17,16 +17,9 @@ evenRow N q a t = q * N .old t + a * N .new t - a * N .old t
 unfoldable pub even : Net → ℕ → Plan
 even N q = record { parts = q; steps = q; at = evenRow N q }
 
--- the fewest even steps: the least q from 1 to 50 whose even plan is accepted
-unfoldable pub tryEven : Net → ℕ → Option ℕ
-tryEven N q = onlyIf (accepted N (even N q)) q
-
+-- the fewest even steps: the least number from 1 to 50 whose even plan is accepted
 unfoldable pub fewest : Net → Option ℕ
-fewest N = first mostSteps (λ i. tryEven N (suc i))
-
--- what refusal 9 names: "where the 50-step plan first overloads"
-unfoldable pub stuckAt : Net → Option Overload
-stuckAt N = firstOverload N (even N mostSteps)
+fewest N = first mostSteps (λ i. onlyIf (accepted N (even N (suc i))) (suc i))
 
 -- ---- the step bound
 

@@ -1,5 +1,6 @@
 -- What an operation comes to: what it gives, or a refusal. "Every answer is one of: done, a plan, or a refusal that carries its number, place and second."
 use Prim.Native.Nat.{ℕ}
+use mathlib.Core.Option.{Option, none, some}
 
 -- the causes of "Turned down, and why", in the order of their numbers
 pub data Cause : Type 0 where
@@ -21,6 +22,16 @@ number noRoom = 10
 pub data Outcome (A : Type 0) : Type 0 where
   good : A → Outcome A
   refused : Cause → ℕ → ℕ → Outcome A
+
+-- where a refusal points
+pub record Place : Type 0 where
+  pub place : ℕ
+  pub second : ℕ
+
+-- a refusal where a place is found, else what comes after
+abbrev pub unless : {A : Type 0} → Cause → Option Place → Outcome A → Outcome A
+unless c none next = next
+unless c (some p) next = refused c (p .place) (p .second)
 
 -- what comes after, where nothing is refused
 abbrev pub andThen : {A B : Type 0} → Outcome A → (A → Outcome B) → Outcome B

@@ -5,6 +5,7 @@ use mathlib.Core.Option.{Option}
 use lib.Dec.{leb, ltb, eqb}
 use Rattle.model.specs.Sum.{sumOver}
 use Rattle.model.specs.Search.{onlyIf, isNone, orElse, first}
+use Rattle.model.specs.Outcome.{Place}
 use Rattle.model.specs.Net.{Net, Plan, row}
 use Rattle.model.specs.Scan.{Bound, protected, total, Overload, scan}
 
@@ -34,11 +35,6 @@ exceeds N total parts l w = ltb ((1000 + N .overrun) * (parts * N .cap l)) (1000
 
 unfoldable pub flowSum : Net → (ℕ → ℕ) → ℕ → ℕ
 flowSum N x f = sumOver (N .tunnels) (λ t. eqb (N .flow t) f) x
-
--- a refusal's place and second
-pub record Place : Type 0 where
-  pub place : ℕ
-  pub second : ℕ
 
 -- "A flow's `old` amounts add up to its rate, and so do its `new` amounts": the first that do not ("lowest flow, old before new")
 unfoldable pub missedBy : Net → ℕ → Option Place

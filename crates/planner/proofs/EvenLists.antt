@@ -11,32 +11,14 @@ use lib.Seq.{getD-at, getD-append-add, drop-cons, drop-length, append-snoc, set-
 use Rattle.model.specs.Net.{Net}
 use Rattle.model.specs.Even.{evenRow}
 use Rattle.model.proofs.Rows.{even-at}
-use Rattle.lists.specs.Lists.{at, tunnelAt, networkOf, planOf}
-use Rattle.planner.specs.Planned.{listed, evenRows, evenList}
+use Rattle.lists.specs.Lists.{at, tunnelAt, networkOf, planOf, listed}
+use Rattle.planner.specs.Planned.{evenRows, evenList}
+use Rattle.lists.proofs.Listed.{listed-length, listed-to}
 
 -- ---- one row
 
-pub listed-length : (n : ℕ) (x : ℕ → ℕ) → length (listed n x) ≡ n
-unfolding listed
-listed-length zero x = refl
-listed-length (suc n) x = length-append (listed n x) (x n ∷ []) ∙ add-one _ ∙ ap suc (listed-length n x)
-
-pub listed-none : (x : ℕ → ℕ) (r : List ℕ) → r ≡ listed 0 x ++ drop 0 r
-unfolding listed
-listed-none x r = refl
-
--- a store of the next number
-pub listed-on : (x : ℕ → ℕ) (t v : ℕ) (s r : List ℕ) → r ≡ listed t x ++ drop t s → t < length s → v ≡ x t → set r t v ≡ listed (t + 1) x ++ drop (t + 1) s
-unfolding listed
-listed-on x t v s r e h k =
-    ap (λ (l : List ℕ). set l t v) (e ∙ ap (λ (l : List ℕ). listed t x ++ l) (drop-cons s t 0 h))
-    ∙ set-at (listed t x) (getD s t 0) (drop (suc t) s) v t (listed-length t x)
-    ∙ sym (append-snoc (listed t x) v (drop (suc t) s))
-    ∙ ap (λ (u : ℕ). (listed t x ++ u ∷ []) ++ drop (suc t) s) k
-    ∙ ap (λ (n : ℕ). listed n x ++ drop n s) (sym (add-one t))
-
 pub listed-all : (x : ℕ → ℕ) (t : ℕ) (s r : List ℕ) → r ≡ listed t x ++ drop t s → t ≡ length s → r ≡ listed (length s) x
-listed-all x t s r e h = e ∙ ap (λ (n : ℕ). listed n x ++ drop n s) h ∙ ap (λ (l : List ℕ). listed (length s) x ++ l) (drop-length s) ∙ append-nil _
+listed-all x t s r e h = listed-to x t (length s) s r e h ∙ ap (λ (l : List ℕ). listed (length s) x ++ l) (drop-length s) ∙ append-nil _
 
 -- the number that is written is that of the even plan
 pub even-number : (l : List ℕ) (q a t : ℕ) → a ≤ q → (q - a) * at l (tunnelAt l t + 2) + a * at l (tunnelAt l t + 3) ≡ evenRow (networkOf l) q a t

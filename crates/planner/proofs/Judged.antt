@@ -6,14 +6,15 @@ use mathlib.Core.Bool.{Bool, true, false, cond}
 use mathlib.Core.List.{List, [], _∷_, _++_}
 use mathlib.Core.Option.{Option, none, some}
 use native.Mathlib.Omega.{arith}
-use Rattle.model.specs.Outcome.{Outcome, good, refused, number, noEvenPlan}
-use Rattle.model.specs.Rule.{Place, missedRate}
+use Rattle.model.specs.Outcome.{Outcome, good, refused, number, noEvenPlan, Cause, unless, Place}
+use Rattle.model.specs.Outcome.{Place}
+use Rattle.model.specs.Rule.{missedRate}
 use Rattle.lists.specs.Answers.{withRoom, done, plan, lent}
 use Rattle.lists.specs.Lists.{networkOf}
 use Rattle.lists.specs.declared.Answer.{Answer}
 use Rattle.forms.specs.Form.{fieldOf, admitsOf}
 use Rattle.model.specs.Outcome.{andThen}
-use Rattle.forms.specs.Read.{onField, onValue, walk, itself, judgeNumbers, unlessMissed, addUp, judgeNetwork}
+use Rattle.forms.specs.Read.{onField, onValue, walk, itself, judgeNumbers, addUp, judgeNetwork}
 use Rattle.forms.specs.declared.form.Form.{Form}
 use Rattle.forms.specs.declared.form.Form.the-variants.{Network}
 use Rattle.forms.specs.declared.form.Range.{Range}
@@ -65,7 +66,7 @@ walk-early value form n before (x ∷ xs) =
     value-early (value k r x) _ _ (omega arith) (λ v.
     cond-early (admitsOf r v) _ _ (walk-early value form (n + 1) (before ++ (v ∷ [])) xs) (omega arith)))
 
-missed-early : (l : List ℕ) (o : Option Place) → Early (unlessMissed l o)
+missed-early : (l : List ℕ) (o : Option Place) → Early (unless Cause.missedRate o (good l))
 missed-early l none = tt
 missed-early l (some p) = omega arith
 

@@ -13,7 +13,7 @@ use Rattle.model.specs.Outcome.{Outcome, good, refused, noEvenPlan}
 use Rattle.model.specs.Net.{Net}
 use Rattle.model.specs.Scan.{Overload, step}
 use Rattle.model.specs.Rule.{missedRate, firstOverload, accepted}
-use Rattle.model.specs.Even.{evenRow, even, tryEven, fewest, stuckAt, keepsScratch, stepBound}
+use Rattle.model.specs.Even.{evenRow, even, fewest, keepsScratch, stepBound}
 use Rattle.model.proofs.Searches.{option-cases, only-some, only-none, first-some, first-none, none-first, only-false}
 use Rattle.model.proofs.Choices as choices
 use Rattle.model.proofs.Rows.{Same, row-missed-same, overload-same, accepted-both, even-at, even-adds-up}
@@ -28,6 +28,7 @@ use Rattle.planner.specs.Planned.{evenList, stuck, byFewest, evenPlan, p
 use Rattle.planner.specs.Claim.{FewestSteps, NoneBelow, Safe, Claim}
 use Rattle.planner.proofs.EvenLists.{list-length, list-head, list-at, rows-most, list-beyond}
 use Rattle.planner.proofs.Judged.{planned-good, planned-nine}
+use Rattle.model.specs.Search.{onlyIf}
 
 -- ---- the cases of the outcome
 
@@ -38,7 +39,7 @@ stuck-no-plan (some o) p e = let z : _≡_ {A = ℕ} 0 1 = cc in omega arith
 
 by-fewest : (N : Net) (o : Option ℕ) (p : List ℕ) → byFewest N o ≡ good p → (q : ℕ) × (o ≡ some q) × (p ≡ evenList N q)
 unfolding byFewest
-by-fewest N none p e = absurd (stuck-no-plan (stuckAt N) p e)
+by-fewest N none p e = absurd (stuck-no-plan (firstOverload N (even N mostSteps)) p e)
 by-fewest N (some q) p e = (q, refl, cc)
 
 passed-good : (o : Outcome (List ℕ)) (next : List ℕ → Outcome (List ℕ)) (p : List ℕ) → andThen o next ≡ good p → (g : List ℕ) × (o ≡ good g) × (next g ≡ good p)
@@ -64,16 +65,16 @@ made l p e =
 -- ---- the fewest steps
 
 below-fewest : (N : Net) (q : ℕ) → fewest N ≡ some q → NoneBelow N q
-unfolding fewest tryEven
+unfolding fewest
 below-fewest N q e r one less =
-    let s = first-some (λ i. tryEven N (suc i)) mostSteps q e in
+    let s = first-some (λ i. onlyIf (accepted N (even N (suc i))) (suc i)) mostSteps q e in
     let t = only-some _ (suc (s .0)) q (s .2) in
     let k : suc (r - 1) ≡ r = omega arith in
-    ap (λ (i : ℕ). accepted N (even N i)) (sym k) ∙ only-none _ (suc (r - 1)) (first-none (λ i. tryEven N (suc i)) (s .0) (s .3) (r - 1) (omega (arith, t .1)))
+    ap (λ (i : ℕ). accepted N (even N i)) (sym k) ∙ only-none _ (suc (r - 1)) (first-none (λ i. onlyIf (accepted N (even N (suc i))) (suc i)) (s .0) (s .3) (r - 1) (omega (arith, t .1)))
 
 accepted-none : (N : Net) → ((q : ℕ) → 1 ≤ q → q ≤ mostSteps → accepted N (even N q) ≡ false) → fewest N ≡ none
-unfolding fewest tryEven
-accepted-none N h = none-first (λ i. tryEven N (suc i)) mostSteps (λ i k. only-false _ (suc i) (h (suc i) (omega arith) k))
+unfolding fewest
+accepted-none N h = none-first (λ i. onlyIf (accepted N (even N (suc i))) (suc i)) mostSteps (λ i k. only-false _ (suc i) (h (suc i) (omega arith) k))
 
 pub fewest-steps : (l p : List ℕ) → planned l ≡ good p → FewestSteps (networkOf l) p
 fewest-steps l p e =
@@ -127,8 +128,7 @@ safe l p e =
 -- ---- refusal 9
 
 -- where no even plan is accepted, that of 50 steps overloads somewhere, since its rows add up
-pub stuck-somewhere : (N : Net) → missedRate N ≡ none → fewest N ≡ none → (o : Overload) × (stuckAt N ≡ some o)
-unfolding stuckAt
+pub stuck-somewhere : (N : Net) → missedRate N ≡ none → fewest N ≡ none → (o : Overload) × (firstOverload N (even N mostSteps) ≡ some o)
 stuck-somewhere N r e =
     ⊎-elim
     (λ z. absurd (true≢false (sym (accepted-both N (even N mostSteps) .1 (even-adds-up N mostSteps r, z)) ∙ model.fewest-none N e mostSteps (omega arith) (omega arith))))
@@ -136,7 +136,7 @@ stuck-somewhere N r e =
     (option-cases (firstOverload N (even N mostSteps)))
 
 pub nine : (l : List ℕ) → judgeNetwork l ≡ good l → ((q : ℕ) → 1 ≤ q → q ≤ mostSteps → accepted (networkOf l) (even (networkOf l) q) ≡ false)
-    → (o : Overload) × (stuckAt (networkOf l) ≡ some o) × (planned l ≡ refused noEvenPlan (step o) (o .link))
+    → (o : Overload) × (firstOverload (networkOf l) (even (networkOf l) mostSteps) ≡ some o) × (planned l ≡ refused noEvenPlan (step o) (o .link))
 unfolding evenPlan byFewest stuck
 nine l j h =
     let N = networkOf l in

@@ -10,11 +10,13 @@ use borrow.Author.Tests.{le-leb, lt-leb}
 use Rattle.model.specs.Outcome.{Outcome, good, refused, noRoom}
 use Rattle.model.specs.Net.{Net}
 use Rattle.model.specs.Scan.{Overload}
-use Rattle.model.specs.Even.{fewest, stuckAt}
+use Rattle.model.specs.Even.{fewest, even}
 use Rattle.lists.specs.Answers.{withRoom, plan, lent}
 use Rattle.planner.specs.Planned.{evenList, stuck, byFewest, evenPlan}
 use Rattle.planner.specs.Search.{answered}
 use Rattle.planner.specs.declared.steps.Fewest.the-variants.{Steps, NoPlan}
+use Rattle.model.specs.Rule.{firstOverload}
+use Rattle.model.specs.Limits.{mostSteps}
 
 -- ---- what the search answers
 
@@ -41,10 +43,10 @@ module _ (N : Net) (out : List ℕ) where
   stuck-lent none = (refl, refl)
   stuck-lent (some o) = (refl, refl)
 
-  pub no-plan : fewest N ≡ none → (plan (withRoom (length out) (evenPlan N)) ≡ plan (stuck (stuckAt N))) × (lent (withRoom (length out) (evenPlan N)) out ≡ out)
+  pub no-plan : fewest N ≡ none → (plan (withRoom (length out) (evenPlan N)) ≡ plan (stuck (firstOverload N (even N mostSteps)))) × (lent (withRoom (length out) (evenPlan N)) out ≡ out)
   unfolding evenPlan byFewest
   no-plan e =
-      let s = stuck-lent (stuckAt N) in
+      let s = stuck-lent (firstOverload N (even N mostSteps)) in
       let k = comes _ (ap (λ o. withRoom (length out) (byFewest N o)) e ∙ s .0) in
       (k .0, k .1 ∙ s .1)
 

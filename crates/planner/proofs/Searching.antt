@@ -11,11 +11,11 @@ use native.Mathlib.Numerals.{add-one}
 use lib.Dec.{ltb}
 use borrow.Author.Tests.{lt-ltb, le-ltb}
 use Rattle.model.specs.Limits.{mostLinks, mostTunnels, mostSteps, mostAmount, mostShare}
-use Rattle.model.specs.Search.{first}
+use Rattle.model.specs.Search.{first, onlyIf}
 use Rattle.model.specs.Net.{Net}
 use Rattle.model.specs.Scan.{Bound, testLink, testStep}
 use Rattle.model.specs.Rule.{load, exceeds, missedRate, stepCount, worstOver, firstOverload, accepted}
-use Rattle.model.specs.Even.{even, tryEven, fewest, stuckAt}
+use Rattle.model.specs.Even.{even, fewest}
 use Rattle.model.specs.ThreeSums.{oldLoad, newLoad, peakLoad, stepLoad, endLoad}
 use Rattle.model.proofs.Searches.{bool-cases, only-true, only-false, first-on, first-at}
 use Rattle.model.proofs.Scans.{link-protected, link-total, link-neither, scan-at, scan-end}
@@ -100,16 +100,15 @@ module _ {l p a : List ℕ} {q k : ℕ} (h : AtLink l p a q k) where
 -- ---- the fewest steps
 
 abbrev pub untried : Net → ℕ → Type 0
-untried N i = first i (λ k. tryEven N (suc k)) ≡ none
+untried N i = first i (λ k. onlyIf (accepted N (even N (suc k))) (suc k)) ≡ none
 
 pub fewest-at : (N : Net) (i : ℕ) → untried N i → accepted N (even N (i + 1)) ≡ true → i < mostSteps → fewest N ≡ some (i + 1)
-unfolding fewest tryEven
+unfolding fewest
 fewest-at N i e h k =
-    rw (add-one i) (first-at (λ k. tryEven N (suc k)) i mostSteps (suc i) e (only-true _ (suc i) (rw (add-one i) at h)) k)
+    rw (add-one i) (first-at (λ k. onlyIf (accepted N (even N (suc k))) (suc k)) i mostSteps (suc i) e (only-true _ (suc i) (rw (add-one i) at h)) k)
 
 pub fewest-on : (N : Net) (i : ℕ) → untried N i → accepted N (even N (i + 1)) ≡ false → untried N (i + 1)
-unfolding tryEven
-fewest-on N i e h = first-on (λ k. tryEven N (suc k)) i e (only-false _ (suc i) (rw (add-one i) at h))
+fewest-on N i e h = first-on (λ k. onlyIf (accepted N (even N (suc k))) (suc k)) i e (only-false _ (suc i) (rw (add-one i) at h))
 
 pub fewest-none : (N : Net) → untried N mostSteps → fewest N ≡ none
 unfolding fewest
@@ -167,13 +166,13 @@ module _ (N : Net) where
       (λ e. (Bound.total, link-total mostSteps (N .links) bad i l e (sym (ap (λ (b : Bool). b || bad i l Bound.total) e) ∙ h)))
       (bool-cases (bad i l Bound.protected))
 
-  pub stuck-here : (i l : ℕ) → stepsKept i → linksKept i l → isOver N i l ≡ true → i < mostSteps → l < N .links → Refused 9 (i + 1) l ≡ plan (stuck (stuckAt N))
-  unfolding stuckAt firstOverload stepCount even stuck bad
+  pub stuck-here : (i l : ℕ) → stepsKept i → linksKept i l → isOver N i l ≡ true → i < mostSteps → l < N .links → Refused 9 (i + 1) l ≡ plan (stuck (firstOverload N (even N mostSteps)))
+  unfolding firstOverload stepCount even stuck bad
   stuck-here i l ei el h hi hl =
       let f = found-at i l h in
       ap (λ (n : ℕ). Refused 9 n l) (add-one i)
       ∙ sym (ap (λ o. plan (stuck o)) (scan-at mostSteps (N .links) bad i l _ ei el (f .1) hi hl))
 
-  pub stuck-nowhere : stepsKept mostSteps → Refused 9 0 0 ≡ plan (stuck (stuckAt N))
-  unfolding stuckAt firstOverload stepCount even stuck
+  pub stuck-nowhere : stepsKept mostSteps → Refused 9 0 0 ≡ plan (stuck (firstOverload N (even N mostSteps)))
+  unfolding firstOverload stepCount even stuck
   stuck-nowhere e = sym (ap (λ o. plan (stuck o)) (scan-end mostSteps (N .links) (worstOver N (even N mostSteps)) e))

@@ -10,7 +10,7 @@ use Rattle.model.specs.Outcome.{good, refused, noEvenPlan}
 use Rattle.model.specs.Net.{Net}
 use Rattle.model.specs.Scan.{Bound, Overload, step}
 use Rattle.model.specs.Rule.{Choice, overloads, stepCount, missedRow, firstOverload, accepted}
-use Rattle.model.specs.Even.{even, stuckAt, keepsScratch, stepBound}
+use Rattle.model.specs.Even.{even, keepsScratch, stepBound}
 use Rattle.lists.specs.Answers.{withRoom}
 use Rattle.lists.specs.Lists.{at, networkOf, planOf}
 use Rattle.forms.specs.Read.{judgeNetwork, judgePlan}
@@ -48,7 +48,7 @@ pub record Claim : Type 0 where
   pub fewest : (l p : List ℕ) → planned l ≡ good p → FewestSteps (networkOf l) p
   -- "no even plan of 1 to 50 steps is accepted | 9 | where the 50-step plan first overloads: step; link": it is refused then
   pub nine : (l : List ℕ) → judgeNetwork l ≡ good l → ((q : ℕ) → 1 ≤ q → q ≤ mostSteps → accepted (networkOf l) (even (networkOf l) q) ≡ false)
-      → (o : Overload) × (stuckAt (networkOf l) ≡ some o) × (planned l ≡ refused noEvenPlan (step o) (o .link))
+      → (o : Overload) × (firstOverload (networkOf l) (even (networkOf l) mostSteps) ≡ some o) × (planned l ≡ refused noEvenPlan (step o) (o .link))
   -- and only then
   pub nine-only : (l : List ℕ) (place second : ℕ) → planned l ≡ refused noEvenPlan place second
       → (judgeNetwork l ≡ good l) × ((q : ℕ) → 1 ≤ q → q ≤ mostSteps → accepted (networkOf l) (even (networkOf l) q) ≡ false)

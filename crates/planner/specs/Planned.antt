@@ -5,15 +5,12 @@ use mathlib.Core.Option.{Option, none, some}
 use Rattle.model.specs.Outcome.{Outcome, good, refused, noEvenPlan}
 use Rattle.model.specs.Net.{Net}
 use Rattle.model.specs.Scan.{Overload, step}
-use Rattle.model.specs.Even.{evenRow, fewest, stuckAt}
-use Rattle.lists.specs.Lists.{networkOf}
+use Rattle.model.specs.Even.{evenRow, fewest, even}
+use Rattle.lists.specs.Lists.{networkOf, listed}
 use Rattle.model.specs.Outcome.{andThen}
 use Rattle.forms.specs.Read.{judgeNetwork}
-
--- x 0, x 1, .. x (n - 1)
-unfoldable pub listed : ℕ → (ℕ → ℕ) → List ℕ
-listed zero x = []
-listed (suc n) x = listed n x ++ x n ∷ []
+use Rattle.model.specs.Limits.{mostSteps}
+use Rattle.model.specs.Rule.{firstOverload}
 
 -- the rows 1 to n of the even plan of q steps, each tunnel by tunnel
 unfoldable pub evenRows : Net → ℕ → ℕ → List ℕ
@@ -31,7 +28,7 @@ stuck (some o) = refused noEvenPlan (step o) (o .link)
 
 -- "The planner fills a plan list": the even plan of fewest steps, or refusal 9
 unfoldable pub byFewest : Net → Option ℕ → Outcome (List ℕ)
-byFewest N none = stuck (stuckAt N)
+byFewest N none = stuck (firstOverload N (even N mostSteps))
 byFewest N (some q) = good (evenList N q)
 
 unfoldable pub evenPlan : Net → Outcome (List ℕ)

@@ -4,8 +4,8 @@
 ghost use mathlib.Core.Path.{_≡_};
 ghost use Prim.Native.Nat.{_≤_, _<_};
 ghost use Rattle.model.specs.Limits.{mostLinks, mostTunnels, mostSteps};
-ghost use Rattle.model.specs.Rule.{accepted};
-ghost use Rattle.model.specs.Even.{even, fewest, stuckAt};
+ghost use Rattle.model.specs.Rule.{accepted, firstOverload};
+ghost use Rattle.model.specs.Even.{even, fewest};
 ghost use Rattle.lists.specs.Answers.{plan};
 ghost use Rattle.lists.specs.Lists.{at, networkOf};
 ghost use Rattle.planner.specs.Tables.{Room, Ready, stepSum, endSum};
@@ -94,7 +94,7 @@ fn is_over(network: &[u64], protected: &[u64], all: &[u64], row: u64, link: usiz
 // Where the plan of 50 steps first overloads: steps ascending, within a step links ascending.
 pub fn first_overload(network: &[u64], protected: &[u64], all: &[u64]) -> Answer
     requires { ⌜ Ready (now network) (now protected) (now all) ⌝ }
-    ensures { λ r. ⌜ r ≡ plan (stuck (stuckAt (networkOf (now (network .entry))))) ⌝ }
+    ensures { λ r. ⌜ r ≡ plan (stuck (firstOverload (networkOf (now (network .entry))) (even (networkOf (now (network .entry))) mostSteps))) ⌝ }
 {
     let links = network[3] as usize;
     let mut place: u64 = 0;

@@ -7,12 +7,12 @@ use mathlib.Core.List.{List, [], _∷_, _++_}
 use mathlib.Core.Option.{Option, none, some}
 use native.Mathlib.Omega.{arith}
 use lib.Dec.{eqb, leb}
-use Rattle.model.specs.Outcome.{Outcome, good, refused, andThen, Cause, number}
+use Rattle.model.specs.Outcome.{Outcome, good, refused, andThen, Cause, number, unless, Place}
 use Rattle.model.specs.Scan.{Bound, Overload, cause}
 use Rattle.model.specs.Rule as rule
 use Rattle.lists.specs.Lists.{at, networkOf, planOf}
 use Rattle.forms.specs.Form.{fieldOf, admitsOf, secondOf}
-use Rattle.forms.specs.Read.{walk, onField, onValue, itself, judgeNumbers, addUp, unlessMissed, judgeNetwork, judgePlan}
+use Rattle.forms.specs.Read.{walk, onField, onValue, itself, judgeNumbers, addUp, judgeNetwork, judgePlan}
 use Rattle.forms.specs.declared.form.Form.{Form}
 use Rattle.forms.specs.declared.form.Form.the-variants.{Network, Plan}
 use Rattle.forms.specs.declared.form.Range.{Range}
@@ -51,7 +51,7 @@ walk-all form n done (x ∷ xs) =
     (inl (omega arith))
     (λ k r. cond-all (admitsOf r x) (walk itself form (n + 1) (done ++ (x ∷ [])) xs) (refused Cause.outOfRange n (secondOf form)) (walk-all form (n + 1) (done ++ (x ∷ [])) xs) (inl (omega arith)))
 
-missed-all : (l : List ℕ) (q : Option rule.Place) → NotOver (unlessMissed l q)
+missed-all : (l : List ℕ) (q : Option Place) → NotOver (unless Cause.missedRate q (good l))
 missed-all l none = tt
 missed-all l (some q) = inl (omega arith)
 
@@ -63,13 +63,13 @@ judged-plan : (l : List ℕ) → NotOver (judgePlan l)
 unfolding judgeNumbers addUp
 judged-plan l = then-all (judgeNumbers Plan l) (addUp Plan) (walk-all Plan 1 [] l) (λ g. tt)
 
-rows-all : (q : Option rule.Place) (o : Outcome (Option Overload)) → NotOver o → NotOver (check.unlessMissed q o)
+rows-all : (q : Option Place) (o : Outcome (Option Overload)) → NotOver o → NotOver (unless Cause.missedRow q o)
 rows-all none o h = h
 rows-all (some q) o h = inl (omega arith)
 
 weighed : (n p : List ℕ) (room : ℕ) → NotOver (check.weigh n p room)
 weighed n p room =
-    cond-all (eqb (at p 3) (at n 5)) (check.unlessMissed (rule.missedRow (networkOf n) (planOf p)) (check.weighSteps n p room)) (refused Cause.otherTunnels 4 1)
+    cond-all (eqb (at p 3) (at n 5)) (unless Cause.missedRow (rule.missedRow (networkOf n) (planOf p)) (check.weighSteps n p room)) (refused Cause.otherTunnels 4 1)
     (rows-all (rule.missedRow (networkOf n) (planOf p)) (check.weighSteps n p room) (cond-all (leb (at n 5) room) (good (rule.firstOverload (networkOf n) (planOf p))) (refused Cause.noRoom (at n 5) 0) tt (inr (omega arith))))
     (inl (omega arith))
 

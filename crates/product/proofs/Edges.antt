@@ -6,15 +6,15 @@ use Rattle.model.specs.Search.{onlyIf, isNone, orElse, first}
 use Rattle.model.specs.Net.{row}
 use Rattle.model.specs.Scan.{scan, testStep, testLink, test}
 use Rattle.model.specs.Rule.{crosses, onLink, counts, load, exceeds, flowSum, missedBy, missedRate, missedIn, missedRow, stepCount, worst, worstOver, firstOverload, accepted, mark}
-use Rattle.model.specs.Even.{evenRow, even, tryEven, fewest, stuckAt, ceilDiv, stepBound}
-use Rattle.lists.specs.Lists.{networkOf, planOf}
+use Rattle.model.specs.Even.{evenRow, even, fewest, ceilDiv, stepBound}
+use Rattle.lists.specs.Lists.{networkOf, planOf, listed}
 use Rattle.bound.specs.Bound.{boundOf}
 use Rattle.forms.specs.Form.{networkBody, fieldOf}
 use Rattle.forms.specs.Read.{walk, judgeNumbers, addUp}
-use Rattle.planner.specs.Planned.{listed, evenRows, evenList, stuck, byFewest, evenPlan, planned}
-use Rattle.checker.specs.Check.{marksOf}
+use Rattle.planner.specs.Planned.{evenRows, evenList, stuck, byFewest, evenPlan, planned}
+use Rattle.checker.specs.Inner.{marksOf}
 use Rattle.product.specs.Edges.{edges, same, hold}
 
 pub edges-hold : hold edges ≡ true
-unfolding edges same hold boundOf stepBound ceilDiv planned evenPlan byFewest stuck evenList evenRows listed judgeNumbers walk fieldOf networkBody addUp networkOf planOf missedRate missedBy missedRow missedIn flowSum fewest tryEven stuckAt accepted even evenRow firstOverload stepCount scan testStep testLink test worstOver exceeds load counts worst onLink crosses mark marksOf row sumOver onlyIf isNone orElse first
+unfolding edges same hold boundOf stepBound ceilDiv planned evenPlan byFewest stuck evenList evenRows listed judgeNumbers walk fieldOf networkBody addUp networkOf planOf missedRate missedBy missedRow missedIn flowSum fewest accepted even evenRow firstOverload stepCount scan testStep testLink test worstOver exceeds load counts worst onLink crosses mark listed row sumOver onlyIf isNone orElse first
 edges-hold = refl

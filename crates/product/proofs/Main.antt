@@ -17,7 +17,7 @@ use Rattle.model.specs.Scan.{Bound, Overload, cause, step}
 use Rattle.model.specs.Rule.{earlier, later, onLink, load, counts, shown, rowShown, overloads, exceeds, mark, marked, stepCount}
 use Rattle.model.specs.Even.{keepsScratch, stepBound}
 use Rattle.model.proofs.Sums.{sum-cong}
-use Rattle.lists.specs.Lists.{at, networkOf, planOf}
+use Rattle.lists.specs.Lists.{at, networkOf, planOf, listed}
 use Rattle.lists.specs.Answers.{withRoom, plan, lent}
 use Rattle.lists.specs.declared.Answer.the-variants.{Done, Plan as Planned, Refused}
 use Rattle.forms.specs.Read.{readText, judgeList, judgeNetwork, judgePlan}
@@ -27,7 +27,8 @@ use Rattle.model.proofs.Outcomes.{good-same}
 use Rattle.checker.proofs.Marking.{marks-length}
 use Rattle.planner.specs.Planned.{planned}
 use Rattle.planner.proofs.Main as planner
-use Rattle.checker.specs.Check.{verdict, checked, marksOf, marksAfter}
+use Rattle.checker.specs.Check.{verdict, checked, marksAfter}
+use Rattle.checker.specs.Inner.{marksOf}
 use Rattle.checker.specs.Claim.{Reaches}
 use Rattle.checker.proofs.Main.{checker}
 use Rattle.product.proofs.Causes.{NotOver, verdict-all, over-number, same-bound}
@@ -76,7 +77,7 @@ bit true = refl
 bit false = refl
 
 mark-at : (m : ℕ → Bool) (n t : ℕ) (rest : List ℕ) → t < n → eqb (getD (marksOf m n ++ rest) t 0) 1 ≡ m t
-unfolding marksOf
+unfolding listed
 mark-at m zero t rest h = absurd (omega arith)
 mark-at m (suc n) t rest h =
     rw (append-assoc (marksOf m n) (cond (m n) 1 0 ∷ []) rest)

@@ -6,8 +6,8 @@ use mathlib.Core.List.{_++_}
 use native.Mathlib.Omega.{arith}
 use borrow.Author.Needs.{needs}
 use lib.ListN.{length, drop, length-set}
-use Rattle.checker.specs.Check.{marksOf}
-use Rattle.checker.proofs.Marking.{marks-none, marks-more, marks-at}
+use Rattle.checker.specs.Inner.{marksOf}
+use Rattle.lists.proofs.Listed.{listed-none, listed-on, listed-to}
 use Rattle.checker.proofs.marks.clear.Statement.{statement}
 use Rattle.checker.proofs.marks.clear.Tie as tie
 
@@ -18,7 +18,7 @@ abbrev μ-loop : tie.MeasureT-loop
 μ-loop n marks₀ t₀ marks t = n - t
 
 loop-holds : tie.Need-loop-holds Inv-loop μ-loop
-loop-holds c = (omega arith, refl, marks-none _ _)
+loop-holds c = (omega arith, refl, listed-none _ _)
 
 slice-write-marks : tie.Need-slice-write-marks Inv-loop μ-loop
 slice-write-marks c = search needs
@@ -32,13 +32,13 @@ loop-less c = search needs
 loop-again : tie.Need-loop-again Inv-loop μ-loop
 loop-again c =
     let l = c .before in
-    (omega arith, simp length-set (l .loop .inv .1), marks-more _ _ _ _ _ (omega arith) refl (l .loop .inv .2))
+    (omega arith, simp length-set (l .loop .inv .1), listed-on _ _ _ _ _ (l .loop .inv .2) (omega arith) refl)
 
 same-length : tie.Need-same-length Inv-loop μ-loop
 same-length c = search needs
 
 returns : tie.Need-returns Inv-loop μ-loop
-returns c = marks-at _ _ _ _ _ (omega arith) (c .before .loop .inv .2)
+returns c = listed-to _ _ _ _ _ (c .before .loop .inv .2) (omega arith)
 
 pub clear-spec : {M : Type 1} → statement M
 clear-spec =

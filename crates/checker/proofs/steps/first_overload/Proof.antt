@@ -6,7 +6,7 @@ use native.Mathlib.Omega.{arith}
 use borrow.Author.Needs.{needs}
 use lib.ListN.{length}
 use Rattle.checker.specs.declared.steps.Found.the-variants.{At, Nothing}
-use Rattle.checker.specs.Check.{overBy, foundOf}
+use Rattle.checker.specs.Inner.{overBy, foundOf}
 use Rattle.checker.proofs.Overloads.{overIn, load-sum, over-none, over-some, counted-small}
 use Rattle.model.specs.Search.{first}
 use Rattle.model.specs.Net.{Net, Plan}

@@ -10,7 +10,7 @@ use Rattle.model.specs.Net.{Net, Plan}
 use Rattle.model.specs.Rule.{missedIn, missedRow}
 use Rattle.model.proofs.Searches.{first-zero, first-on, first-at}
 use Rattle.lists.specs.Lists.{at, networkOf, planOf}
-use Rattle.checker.specs.Check.{missedOf}
+use Rattle.checker.specs.Inner.{missedOf}
 use Rattle.checker.proofs.Good.{row-column-small}
 use Rattle.checker.proofs.Totals.{row-met, row-missed}
 use Rattle.checker.proofs.sums.missed_row.Statement.{statement}
