@@ -1,11 +1,13 @@
 -- Laws of a list that is filled from the front: `listed t x` at the front of what it had.
 use Prim.Native.Nat.{ℕ, zero, suc, _+_, _<_}
 use mathlib.Core.Path.{_≡_, refl, sym, ap, ap₂, _∙_}
+use mathlib.Core.Logic.{⊎-elim}
 use mathlib.Core.List.{List, [], _∷_, _++_}
+use native.Mathlib.Nat.{eq-or-lt-of-le, le-of-suc-le-suc}
 use native.Mathlib.Numerals.{add-one}
 use native.Mathlib.Omega.{arith}
-use lib.ListN.{length, getD, set, drop, length-append}
-use lib.Seq.{drop-cons, set-at, append-snoc}
+use lib.ListN.{length, getD, set, drop, length-append, List·getD-append}
+use lib.Seq.{drop-cons, set-at, append-snoc, getD-at}
 use Rattle.lists.specs.Lists.{listed}
 
 pub listed-length : (n : ℕ) (x : ℕ → ℕ) → length (listed n x) ≡ n
@@ -29,6 +31,15 @@ listed-on x t v s r e h k =
 
 pub listed-to : (x : ℕ → ℕ) (t n : ℕ) (s r : List ℕ) → r ≡ listed t x ++ drop t s → t ≡ n → r ≡ listed n x ++ drop n s
 listed-to x t n s r e h = e ∙ ap (λ (k : ℕ). listed k x ++ drop k s) h
+
+pub listed-at : (n : ℕ) (x : ℕ → ℕ) (t : ℕ) → t < n → getD (listed n x) t 0 ≡ x t
+unfolding listed
+listed-at zero x t h = absurd (omega arith)
+listed-at (suc n) x t h =
+    ⊎-elim
+    (λ (e : t ≡ n). ap (λ (i : ℕ). getD (listed n x ++ x n ∷ []) i 0) e ∙ getD-at (listed n x) (x n) [] 0 n (listed-length n x) ∙ ap x (sym e))
+    (λ k. List·getD-append (listed n x) (x n ∷ []) 0 t (rw (listed-length n x) k) ∙ listed-at n x t k)
+    (eq-or-lt-of-le (le-of-suc-le-suc h))
 
 pub listed-cong : (x y : ℕ → ℕ) (n : ℕ) → ((t : ℕ) → t < n → x t ≡ y t) → listed n x ≡ listed n y
 unfolding listed

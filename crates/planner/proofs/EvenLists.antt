@@ -13,7 +13,7 @@ use Rattle.model.specs.Even.{evenRow}
 use Rattle.model.proofs.Rows.{even-at}
 use Rattle.lists.specs.Lists.{at, tunnelAt, networkOf, planOf, listed}
 use Rattle.planner.specs.Planned.{evenRows, evenList}
-use Rattle.lists.proofs.Listed.{listed-length, listed-to}
+use Rattle.lists.proofs.Listed.{listed-length, listed-to, listed-at}
 
 -- ---- one row
 
@@ -100,15 +100,6 @@ module _ (N : Net) (q : ℕ) (s : List ℕ) where
       ∙ ap (λ (k : ℕ). evenList N q ++ drop k s) (sym (list-length N q))
 
 -- ---- the numbers of the list, at their places
-
-listed-at : (n : ℕ) (x : ℕ → ℕ) (t : ℕ) → t < n → getD (listed n x) t 0 ≡ x t
-unfolding listed
-listed-at zero x t h = absurd (omega arith)
-listed-at (suc n) x t h =
-    ⊎-elim
-    (λ (e : t ≡ n). ap (λ (i : ℕ). getD (listed n x ++ x n ∷ []) i 0) e ∙ getD-at (listed n x) (x n) [] 0 n (listed-length n x) ∙ ap x (sym e))
-    (λ k. List·getD-append (listed n x) (x n ∷ []) 0 t (rw (listed-length n x) k) ∙ listed-at n x t k)
-    (eq-or-lt-of-le (le-of-suc-le-suc h))
 
 rows-at : (N : Net) (q n i t : ℕ) → i < n → t < N .tunnels → getD (evenRows N q n) (i * N .tunnels + t) 0 ≡ evenRow N q (suc i) t
 unfolding evenRows

@@ -75,7 +75,7 @@ weighed n p room =
 
 pub verdict-all : (n p : List ℕ) (room : ℕ) → NotOver (check.verdict n p room)
 verdict-all n p room =
-    then-all (judgeNetwork n) (λ m. check.weighPlan m p room) (judged-network n) (λ m. then-all (judgePlan p) (λ q. check.weigh m q room) (judged-plan p) (λ q. weighed m q room))
+    then-all (judgeNetwork n) (λ m. andThen (judgePlan p) (λ q. check.weigh m q room)) (judged-network n) (λ m. then-all (judgePlan p) (λ q. check.weigh m q room) (judged-plan p) (λ q. weighed m q room))
 
 -- so a refusal by 7 or 8 is an overload
 pub over-number : (b : Bound) (k : ℕ) → k ≡ number (cause b) → (k < 7) ⊎ (8 < k) → ⊥

@@ -16,5 +16,5 @@ use Rattle.checker.specs.Inner.{marksOf}
 use Rattle.product.specs.Edges.{edges, same, hold}
 
 pub edges-hold : hold edges ≡ true
-unfolding edges same hold boundOf stepBound ceilDiv planned evenPlan byFewest stuck evenList evenRows listed judgeNumbers walk fieldOf networkBody addUp networkOf planOf missedRate missedBy missedRow missedIn flowSum fewest accepted even evenRow firstOverload stepCount scan testStep testLink test worstOver exceeds load counts worst onLink crosses mark listed row sumOver onlyIf isNone orElse first
+unfolding edges same hold boundOf stepBound ceilDiv planned evenPlan byFewest stuck evenList evenRows listed judgeNumbers walk fieldOf networkBody addUp networkOf planOf missedRate missedBy missedRow missedIn flowSum fewest accepted even evenRow firstOverload stepCount scan testStep testLink test worstOver exceeds load counts worst onLink crosses mark row sumOver onlyIf isNone orElse first
 edges-hold = refl

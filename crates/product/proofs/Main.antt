@@ -9,7 +9,7 @@ use native.Mathlib.Omega.{arith}
 use native.Mathlib.Nat.{eq-or-lt-of-le}
 use borrow.Author.Tests.{le-leb}
 use lib.Dec.{eqb, leb}
-use lib.ListN.{length, getD, take, drop}
+use lib.ListN.{length, getD, take, drop, List·getD-append}
 use lib.Seq.{take-append-seam, getD-at}
 use Rattle.model.specs.Outcome.{Outcome, good, refused, Cause, number}
 use Rattle.model.specs.Net.{Net, Plan, row}
@@ -20,11 +20,10 @@ use Rattle.model.proofs.Sums.{sum-cong}
 use Rattle.lists.specs.Lists.{at, networkOf, planOf, listed}
 use Rattle.lists.specs.Answers.{withRoom, plan, lent}
 use Rattle.lists.specs.declared.Answer.the-variants.{Done, Plan as Planned, Refused}
-use Rattle.forms.specs.Read.{readText, judgeList, judgeNetwork, judgePlan}
+use Rattle.forms.specs.Read.{readText, judgeList}
 use Rattle.forms.specs.declared.form.Form.{Form}
 use Rattle.forms.proofs.Round.{file-form}
 use Rattle.model.proofs.Outcomes.{good-same}
-use Rattle.checker.proofs.Marking.{marks-length}
 use Rattle.planner.specs.Planned.{planned}
 use Rattle.planner.proofs.Main as planner
 use Rattle.checker.specs.Check.{verdict, checked, marksAfter}
@@ -34,7 +33,8 @@ use Rattle.checker.proofs.Main.{checker}
 use Rattle.product.proofs.Causes.{NotOver, verdict-all, over-number, same-bound}
 use Rattle.model.proofs.Choices.{none-kept}
 use Rattle.product.specs.Accepted.{Accepted}
-use Rattle.product.specs.Demand3.{Network, PlanOf, as-list, as-text, byMarks, Demand3}
+use Rattle.product.specs.Demand3.{Valid, as-list, as-text, byMarks, Returns, Demand3}
+use Rattle.lists.proofs.Listed.{listed-length, listed-at}
 
 -- ---- what an answer tells of an outcome
 
@@ -77,14 +77,8 @@ bit true = refl
 bit false = refl
 
 mark-at : (m : ℕ → Bool) (n t : ℕ) (rest : List ℕ) → t < n → eqb (getD (marksOf m n ++ rest) t 0) 1 ≡ m t
-unfolding listed
-mark-at m zero t rest h = absurd (omega arith)
-mark-at m (suc n) t rest h =
-    rw (append-assoc (marksOf m n) (cond (m n) 1 0 ∷ []) rest)
-    (⊎-elim
-    (λ (e : t ≡ n). rw e (ap (λ (k : ℕ). eqb k 1) (getD-at (marksOf m n) (cond (m n) 1 0) rest 0 n (marks-length m n)) ∙ bit (m n)))
-    (λ (k : t < n). mark-at m n t (cond (m n) 1 0 ∷ rest) k)
-    (eq-or-lt-of-le {n = t} {m = n} (omega arith)))
+mark-at m n t rest h =
+    ap (λ (k : ℕ). eqb k 1) (List·getD-append (marksOf m n) rest 0 t (rw (listed-length n (λ i. cond (m i) 1 0)) h) ∙ listed-at n (λ i. cond (m i) 1 0) t h) ∙ bit (m t)
 
 shows-same : (N : Net) (P : Plan) (o : Overload) (marks : List ℕ) → ((t : ℕ) → t < N .tunnels → eqb (getD marks t 0) 1 ≡ mark N P o t)
     → overloads N P (o .from) (o .link) (λ t. cond (eqb (getD marks t 0) 1) later earlier) (o .bound) ≡ overloads N P (o .from) (o .link) (marked N P o) (o .bound)
@@ -121,39 +115,32 @@ taken form text l e =
     let same : f .list ≡ l = good-same _ _ (sym (file-form form .read text f) ∙ e) in
     subst (λ (m : List ℕ). judgeList form m ≡ good m) same (f .judged)
 
-valid-network : (n : List ℕ) → Network n → judgeNetwork n ≡ good n
-valid-network n (as-list e) = e
-valid-network n (as-text text e) = taken Form.Network text n e
-
-valid-plan : (p : List ℕ) → PlanOf p → judgePlan p ≡ good p
-valid-plan p (as-list e) = e
-valid-plan p (as-text text e) = taken Form.Plan text p e
+valid : (form : Form) (l : List ℕ) → Valid form l → judgeList form l ≡ good l
+valid form l (as-list e) = e
+valid form l (as-text text e) = taken form text l e
 
 -- a plan that the planner comes to is answered and written, given the room
-returned : (n p out : List ℕ) → planned n ≡ good p → length p ≤ length out
-    → (plan (withRoom (length out) (planned n)) ≡ Planned (length p)) × (lent (withRoom (length out) (planned n)) out ≡ p ++ drop (length p) out)
+returned : (n p out : List ℕ) → planned n ≡ good p → length p ≤ length out → Returns n p out
 returned n p out e h = (simp (e, le-leb (length p) (length out) h), simp (e, le-leb (length p) (length out) h))
 
-bounded : (n : List ℕ) → Network n → keepsScratch (networkOf n) ≡ true
-    → (p : List ℕ) × (at p 2 ≤ stepBound (networkOf n .scratch) (networkOf n .overrun))
-    × ((out : List ℕ) → length p ≤ length out
-    → (plan (withRoom (length out) (planned n)) ≡ Planned (length p)) × (lent (withRoom (length out) (planned n)) out ≡ p ++ drop (length p) out))
-bounded n v k = let b = planner.claim .bounded n (valid-network n v) k in (b .0, b .3, λ out h. returned n (b .0) out (b .1) h)
+bounded : (n : List ℕ) → Valid Form.Network n → keepsScratch (networkOf n) ≡ true
+    → (p : List ℕ) × (at p 2 ≤ stepBound (networkOf n .scratch) (networkOf n .overrun)) × ((out : List ℕ) → length p ≤ length out → Returns n p out)
+bounded n v k = let b = planner.claim .bounded n (valid Form.Network n v) k in (b .0, b .3, λ out h. returned n (b .0) out (b .1) h)
 
 pub demand3 : Demand3
 unfolding stepBound
 demand3 = record {
-  planner = λ n out p e h.
-      let r = room-planned (planned n) (length out) (length p) e in
-      let q : r .0 ≡ p = same-front p (r .0) out (r .3) (sym (ap (λ (o : Outcome (List ℕ)). lent o out) (r .2)) ∙ h) in
-      planner.claim .safe n p (r .1 ∙ ap good q) .choices;
+  planner = λ n out p r.
+      let w = room-planned (planned n) (length out) (length p) (r .0) in
+      let q : w .0 ≡ p = same-front p (w .0) out (w .3) (sym (ap (λ (o : Outcome (List ℕ)). lent o out) (w .2)) ∙ r .1) in
+      planner.claim .safe n p (w .1 ∙ ap good q) .choices;
   checker = λ n p marks k e. checker .safe n p (length marks) (done-none n (verdict n p (length marks)) k e);
   marked = λ n p marks b a l e.
       let o = over n (verdict n p (length marks)) b a l (verdict-all n p (length marks)) e in
       let s = checker .shown n p (length marks) (o .overload) (o .found) in
       shown-at n p marks b a l o s;
   found = λ n p marks vn vp et er hr i l hi hl c b w.
-      let f = checker .found n p (length marks) (record { network = valid-network n vn; plan = valid-plan p vp; tunnels = et; rows = er; room = hr }) i l hi hl c b w in
+      let f = checker .found n p (length marks) (record { network = valid Form.Network n vn; plan = valid Form.Plan p vp; tunnels = et; rows = er; room = hr }) i l hi hl c b w in
       (f .0 .bound, step (f .0), f .0 .link, ap (checked n) (f .1));
   bounded = λ n v k z. let r = bounded n v k in (r .0, subst (λ (m : ℕ). at (r .0) 2 ≤ stepBound (networkOf n .scratch) m) z (r .1), r .2);
   bounded-overrun = bounded;

@@ -14,18 +14,16 @@ use Rattle.model.specs.Even.{keepsScratch, ceilDiv, stepBound}
 use Rattle.lists.specs.Lists.{at, networkOf, planOf}
 use Rattle.lists.specs.Answers.{withRoom, plan, lent}
 use Rattle.lists.specs.declared.Answer.the-variants.{Done, Plan, Refused}
-use Rattle.forms.specs.Read.{readNetwork, readPlan, judgeNetwork, judgePlan}
+use Rattle.forms.specs.Read.{readText, judgeList}
+use Rattle.forms.specs.declared.form.Form.{Form}
+use Rattle.forms.specs.declared.form.Form.the-variants as forms
 use Rattle.planner.specs.Planned.{planned}
 use Rattle.checker.specs.Check.{verdict, checked, marksAfter}
 
--- "given as lists or as texts that the readers take": the list n is a valid network, the list p a valid plan
-pub data Network (n : List ℕ) : Type 0 where
-  as-list : judgeNetwork n ≡ good n → Network n
-  as-text : (text : List ℕ) → readNetwork text ≡ good n → Network n
-
-pub data PlanOf (p : List ℕ) : Type 0 where
-  as-list : judgePlan p ≡ good p → PlanOf p
-  as-text : (text : List ℕ) → readPlan text ≡ good p → PlanOf p
+-- "given as lists or as texts that the readers take": the list is a valid network, or a valid plan
+pub data Valid (form : Form) (l : List ℕ) : Type 0 where
+  as-list : judgeList form l ≡ good l → Valid form l
+  as-text : (text : List ℕ) → readText form text ≡ good l → Valid form l
 
 -- "no choice in any step overloads a link"
 abbrev pub NoOverload : List ℕ → List ℕ → Type 0
@@ -37,10 +35,13 @@ NoOverload n p =
 abbrev pub byMarks : (n p : List ℕ) (i : ℕ) → List ℕ → Choice (networkOf n) (planOf p) i
 byMarks n p i marks t = cond (eqb (getD marks t 0) 1) later earlier
 
+-- the planner, given the room, returns the plan p: the answer is a plan, and p stands at the front of the output
+abbrev pub Returns : List ℕ → List ℕ → List ℕ → Type 0
+Returns n p out = (plan (withRoom (length out) (planned n)) ≡ Plan (length p)) × (lent (withRoom (length out) (planned n)) out ≡ p ++ drop (length p) out)
+
 pub record Demand3 : Type 0 where
-  -- "If the planner returns a plan, .. no choice in any step overloads a link": the answer is a plan, and p stands at the front of the output
-  pub planner : (n out p : List ℕ) → plan (withRoom (length out) (planned n)) ≡ Plan (length p)
-      → lent (withRoom (length out) (planned n)) out ≡ p ++ drop (length p) out → NoOverload n p
+  -- "If the planner returns a plan, .. no choice in any step overloads a link."
+  pub planner : (n out p : List ℕ) → Returns n p out → NoOverload n p
   -- "If .. the checker answers done, no choice in any step overloads a link."
   pub checker : (n p marks : List ℕ) (k : ℕ) → checked n (verdict n p (length marks)) ≡ Done k → NoOverload n p
   -- "After 7 or 8 from the checker, take the choice in the named step in which the marked tunnels show the later row and all others the earlier:
@@ -50,18 +51,14 @@ pub record Demand3 : Type 0 where
       × (overloads (networkOf n) (planOf p) (a - 1) l (byMarks n p (a - 1) (marksAfter n p (verdict n p (length marks)) marks)) b ≡ true)
   -- "With valid texts or lists, equal `tunnels`, rows that add up and room for the marks, a plan that some choice overloads always meets 7 or 8
   -- from the checker."
-  pub found : (n p marks : List ℕ) → Network n → PlanOf p → at p 3 ≡ at n 5 → missedRow (networkOf n) (planOf p) ≡ none → at n 5 ≤ length marks
+  pub found : (n p marks : List ℕ) → Valid forms.Network n → Valid forms.Plan p → at p 3 ≡ at n 5 → missedRow (networkOf n) (planOf p) ≡ none → at n 5 ≤ length marks
       → (i l : ℕ) → i < stepCount (networkOf n) (planOf p) → l < networkOf n .links
       → (c : Choice (networkOf n) (planOf p) i) (b : Bound) → overloads (networkOf n) (planOf p) i l c b ≡ true
       → (w : Bound) × (a : ℕ) × (k : ℕ) × (checked n (verdict n p (length marks)) ≡ Refused (number (cause w)) a k)
   -- "networks that keep their scratch with overrun 0: for these the planner, given the room, returns a plan, and its steps are the number on that
   -- plan's `steps` line": at most ceil(1000/scratch) - 1
-  pub bounded : (n : List ℕ) → Network n → keepsScratch (networkOf n) ≡ true → networkOf n .overrun ≡ 0
-      → (p : List ℕ) × (at p 2 ≤ ceilDiv 1000 (networkOf n .scratch) - 1)
-      × ((out : List ℕ) → length p ≤ length out
-      → (plan (withRoom (length out) (planned n)) ≡ Plan (length p)) × (lent (withRoom (length out) (planned n)) out ≡ p ++ drop (length p) out))
+  pub bounded : (n : List ℕ) → Valid forms.Network n → keepsScratch (networkOf n) ≡ true → networkOf n .overrun ≡ 0
+      → (p : List ℕ) × (at p 2 ≤ ceilDiv 1000 (networkOf n .scratch) - 1) × ((out : List ℕ) → length p ≤ length out → Returns n p out)
   -- and with an overrun at most the larger of that and ceil(1000/overrun)
-  pub bounded-overrun : (n : List ℕ) → Network n → keepsScratch (networkOf n) ≡ true
-      → (p : List ℕ) × (at p 2 ≤ stepBound (networkOf n .scratch) (networkOf n .overrun))
-      × ((out : List ℕ) → length p ≤ length out
-      → (plan (withRoom (length out) (planned n)) ≡ Plan (length p)) × (lent (withRoom (length out) (planned n)) out ≡ p ++ drop (length p) out))
+  pub bounded-overrun : (n : List ℕ) → Valid forms.Network n → keepsScratch (networkOf n) ≡ true
+      → (p : List ℕ) × (at p 2 ≤ stepBound (networkOf n .scratch) (networkOf n .overrun)) × ((out : List ℕ) → length p ≤ length out → Returns n p out)
