@@ -10,7 +10,7 @@ use lib.Dec.{T, eqb, leb, ltb, leb→le, ltb→lt, eqb·suc-zero}
 use lib.Pow.{pow-mono, pow-pos}
 use lib.ListN.{length, getD, take, length-append, List·getD-append}
 use lib.Seq.{take-take, getD-take, length-take-le, take-append-le, take-append-seam, getD-append-seam}
-use borrow.Author.Tests.{ne-eqb, lt-ltb, le-ltb}
+use borrow.Author.Tests.{ne-eqb, lt-ltb, le-ltb, le-leb}
 use Rattle.model.specs.Limits.{mostLinks, mostFlows, mostTunnels, mostSteps, mostAmount}
 use Rattle.lists.specs.Lists.{at}
 use Rattle.forms.specs.Form.{line, planBody, isHex, admitsOf, Sound, allows, fieldOf, networkLines, flowLines, tunnelLines, planLines, networkBody, mostNumbers}
@@ -43,6 +43,9 @@ both false b t = absurd t
 
 pub between : (low high v : ℕ) → T (leb low v && leb v high) → (low ≤ v) × (v ≤ high)
 between low high v t = (leb→le low v (both (leb low v) (leb v high) t .0), leb→le v high (both (leb low v) (leb v high) t .1))
+
+pub in-between : (low high v : ℕ) → low ≤ v → v ≤ high → T (leb low v && leb v high)
+in-between low high v h k = rw (le-leb low v h, le-leb v high k) tt
 
 -- ---- sound lists
 

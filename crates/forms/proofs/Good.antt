@@ -24,7 +24,7 @@ use Rattle.forms.specs.declared.form.Form.the-variants.{Network, Plan}
 use Rattle.forms.specs.declared.form.Range.the-variants.{Between}
 use Rattle.forms.specs.declared.form.Field.{Field}
 use Rattle.forms.specs.declared.form.Field.the-variants.{Line, End}
-use Rattle.forms.proofs.Forms.{both, between, network-head-at, network-body-at, plan-head-at, plan-body-at, rowLines, body-cap, body-flow, body-tunnel, body-end}
+use Rattle.forms.proofs.Forms.{both, between, in-between, network-head-at, network-body-at, plan-head-at, plan-body-at, rowLines, body-cap, body-flow, body-tunnel, body-end}
 use Rattle.forms.proofs.Walks.{judged-good, good-judged}
 
 -- ---- no field of a group is the end
@@ -55,9 +55,6 @@ set-in n (suc v) t = (omega arith, ltb→lt (suc v) (2 ^ n) (both (not (eqb (suc
 zero-or-in : (low high v : ℕ) → T (eqb v 0 || (leb low v && leb v high)) → (v ≡ 0) ⊎ ((low ≤ v) × (v ≤ high))
 zero-or-in low high zero t = inl refl
 zero-or-in low high (suc v) t = inr (between low high (suc v) (rw (eqb·suc-zero v) at t))
-
-in-between : (low high v : ℕ) → low ≤ v → v ≤ high → T (leb low v && leb v high)
-in-between low high v h k = rw (le-leb low v h, le-leb v high k) tt
 
 -- ---- the network
 

@@ -6,6 +6,7 @@ pub mod Keys
 pub mod Answers
 pub mod Walks
 pub mod Good
+pub mod InRange
 pub mod Gathering
 pub mod Lines
 pub mod Rendering

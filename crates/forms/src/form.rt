@@ -95,7 +95,7 @@ pub fn second(form: Form) -> u64
     }
 }
 
-fn network_head(n: usize) -> Field
+pub(crate) fn network_head(n: usize) -> Field
     ensures { λ r. ⌜ r ≡ getD networkLines n Field.End ⌝ }
 {
     match n {
@@ -204,7 +204,7 @@ pub fn field_after(form: Form, done: &[u64]) -> Field
 }
 
 // Whether v is a set, not empty, of numbers less than n. A shift by 64 is not defined, and every v is a set of numbers less than 64.
-fn is_set(v: u64, n: u64) -> bool
+pub(crate) fn is_set(v: u64, n: u64) -> bool
     ensures { λ r. ⌜ r ≡ admitsOf (Range.Set n) v ⌝ }
 {
     if v == 0 {

@@ -7,6 +7,7 @@ ghost use Rattle.forms.specs.Read.{judgeNumbers, judgeNetwork, judgePlan
 use crate::form;
 use crate::form::Field;
 use crate::form::Form;
+use crate::ranges;
 use crate::sums;
 use lists::Answer;
 
@@ -45,10 +46,14 @@ fn judge_numbers(form: Form, list: &[u64]) -> Answer
     }
 }
 
-// Judges the list of a network. Done carries its length.
+// Judges the list of a network. Done carries its length. Only a list that is not in the form is gone through number by
+// number, for the place of the refusal.
 pub fn judge_network(list: &[u64]) -> Answer
     ensures { λ r. ⌜ r ≡ done (judgeNetwork (now (list .entry))) ⌝ }
 {
+    if ranges::is_network(list) {
+        return sums::add_up(list);
+    }
     let answer = judge_numbers(Form::Network, list);
     let Answer::Done(_) = answer else {
         return answer;

@@ -10,7 +10,7 @@ use borrow.Author.Tests.{ltb-true, ltb-false, lt-ltb, le-ltb}
 use lib.Dec.{ltb}
 use Rattle.model.specs.Net.{Net, Plan, row}
 use Rattle.model.specs.Scan.{Bound, Overload}
-use Rattle.model.specs.Rule.{crosses, onLink, counts, load, exceeds, stepCount, worst, Shows, earlier, later, Choice, rowShown, shown, overloads, worstOver, firstOverload, mark, marked}
+use Rattle.model.specs.Rule.{crosses, onLink, counts, load, exceeds, stepCount, worst, Choice, shown, overloads, worstOver, firstOverload, mark, marked}
 use Rattle.model.proofs.Sums.{sum-mono, sum-cong, sum-add, sum-mul}
 use Rattle.model.proofs.Searches.{bool-cases, option-cases}
 use Rattle.model.proofs.Scans.{scan-none, scan-some, none-scan}
@@ -67,17 +67,15 @@ le-kept N Bound.total parts l w h = le-ltb ((1000 + N .overrun) * (parts * N .ca
 
 -- ---- what is shown, and the worst amounts
 
-shown-either : (f : ℕ → ℕ) (i : ℕ) (s : Shows) → f (rowShown i s) ≤ max (f i) (f (suc i))
-unfolding rowShown
-shown-either f i earlier = omega arith
-shown-either f i later = omega arith
+shown-either : (f : ℕ → ℕ) (i : ℕ) (later : Bool) → f (cond later (suc i) i) ≤ max (f i) (f (suc i))
+shown-either f i true = omega arith
+shown-either f i false = omega arith
 
 pub shown-worst : (N : Net) (P : Plan) (i l : ℕ) (c : Choice N P i) (t : ℕ) → shown N P i l c t ≤ worst N P i l t
 unfolding shown worst
 shown-worst N P i l c t = shown-either (λ a. onLink N l (row N P a) t) i (c t)
 
-larger : (f : ℕ → ℕ) (i : ℕ) → f (rowShown i (cond (ltb (f i) (f (suc i))) later earlier)) ≡ max (f i) (f (suc i))
-unfolding rowShown
+larger : (f : ℕ → ℕ) (i : ℕ) → f (cond (ltb (f i) (f (suc i))) (suc i) i) ≡ max (f i) (f (suc i))
 larger f i =
     ⊎-elim
     (λ e. rw e (omega (arith, ltb-true (f i) (f (suc i)) e)))
@@ -85,7 +83,7 @@ larger f i =
     (bool-cases (ltb (f i) (f (suc i))))
 
 larger-on : (b : Bool) (f : ℕ → ℕ) (i : ℕ)
-    → cond b (f (rowShown i (cond (b && ltb (f i) (f (suc i))) later earlier))) 0 ≡ max (cond b (f i) 0) (cond b (f (suc i)) 0)
+    → cond b (f (cond (b && ltb (f i) (f (suc i))) (suc i) i)) 0 ≡ max (cond b (f i) 0) (cond b (f (suc i)) 0)
 larger-on true f i = larger f i
 larger-on false f i = refl
 

@@ -62,20 +62,13 @@ stepCount N P = P .steps
 unfoldable pub worst : Net → Plan → ℕ → ℕ → ℕ → ℕ
 worst N P i l t = max (onLink N l (row N P i) t) (onLink N l (row N P (suc i)) t)
 
--- "A choice in step a has each tunnel show its amount in row a-1 or its amount in row a, each tunnel for itself."
-pub data Shows : Type 0 where
-  earlier later : Shows
-
+-- "A choice in step a has each tunnel show its amount in row a-1 or its amount in row a, each tunnel for itself": the tunnels that show the later row
 abbrev pub Choice : Net → Plan → ℕ → Type 0
-Choice N P i = ℕ → Shows
-
-unfoldable pub rowShown : ℕ → Shows → ℕ
-rowShown i earlier = i
-rowShown i later = suc i
+Choice N P i = ℕ → Bool
 
 -- the amounts that a choice shows on link l
 unfoldable pub shown : (N : Net) (P : Plan) (i l : ℕ) → Choice N P i → ℕ → ℕ
-shown N P i l c t = onLink N l (row N P (rowShown i (c t))) t
+shown N P i l c t = onLink N l (row N P (cond (c t) (suc i) i)) t
 
 -- "It overloads a link when the amounts shown, taken in place of the worst amounts, break one of the two bounds."
 unfoldable pub overloads : (N : Net) (P : Plan) (i l : ℕ) → Choice N P i → Bound → Bool
@@ -100,4 +93,4 @@ mark N P o t = crosses N (o .link) t && ltb (row N P (o .from) t) (row N P (suc 
 
 -- "the choice in the named step in which the marked tunnels show the later row and all others the earlier"
 unfoldable pub marked : (N : Net) (P : Plan) (o : Overload) → Choice N P (o .from)
-marked N P o t = cond (mark N P o t) later earlier
+marked N P o t = mark N P o t

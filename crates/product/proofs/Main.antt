@@ -14,7 +14,7 @@ use lib.Seq.{take-append-seam, getD-at}
 use Rattle.model.specs.Outcome.{Outcome, good, refused, Cause, number}
 use Rattle.model.specs.Net.{Net, Plan, row}
 use Rattle.model.specs.Scan.{Bound, Overload, cause, step}
-use Rattle.model.specs.Rule.{earlier, later, onLink, load, counts, shown, rowShown, overloads, exceeds, mark, marked, stepCount}
+use Rattle.model.specs.Rule.{onLink, load, counts, shown, overloads, exceeds, mark, marked, stepCount}
 use Rattle.model.specs.Even.{keepsScratch, stepBound}
 use Rattle.model.proofs.Sums.{sum-cong}
 use Rattle.lists.specs.Lists.{at, networkOf, planOf, listed}
@@ -81,11 +81,11 @@ mark-at m n t rest h =
     ap (λ (k : ℕ). eqb k 1) (List·getD-append (marksOf m n) rest 0 t (rw (listed-length n (λ i. cond (m i) 1 0)) h) ∙ listed-at n (λ i. cond (m i) 1 0) t h) ∙ bit (m t)
 
 shows-same : (N : Net) (P : Plan) (o : Overload) (marks : List ℕ) → ((t : ℕ) → t < N .tunnels → eqb (getD marks t 0) 1 ≡ mark N P o t)
-    → overloads N P (o .from) (o .link) (λ t. cond (eqb (getD marks t 0) 1) later earlier) (o .bound) ≡ overloads N P (o .from) (o .link) (marked N P o) (o .bound)
+    → overloads N P (o .from) (o .link) (λ t. eqb (getD marks t 0) 1) (o .bound) ≡ overloads N P (o .from) (o .link) (marked N P o) (o .bound)
 unfolding overloads load shown marked
 shows-same N P o marks h =
     ap (exceeds N (o .bound) (P .parts) (o .link))
-    (sum-cong (N .tunnels) (counts N (o .bound)) (λ t k _. ap (λ (b : Bool). onLink N (o .link) (row N P (rowShown (o .from) (cond b later earlier))) t) (h t k)))
+    (sum-cong (N .tunnels) (counts N (o .bound)) (λ t k _. ap (λ (b : Bool). onLink N (o .link) (row N P (cond b (suc (o .from)) (o .from))) t) (h t k)))
 
 -- what is shown of an overload, in the terms of its answer
 shown-at : (n p marks : List ℕ) (b : Bound) (a l : ℕ) (o : Over (verdict n p (length marks)) b a l)

@@ -2,14 +2,14 @@
 -- Step a of the paper leads from row a - 1; `length marks` is the room for the marks.
 use Prim.Native.Nat.{ℕ, suc, _-_, _≤_, _<_}
 use mathlib.Core.Path.{_≡_}
-use mathlib.Core.Bool.{true, false, cond}
+use mathlib.Core.Bool.{true, false}
 use mathlib.Core.List.{List, _++_}
 use mathlib.Core.Option.{none}
 use lib.Dec.{eqb}
 use lib.ListN.{length, getD, drop}
 use Rattle.model.specs.Outcome.{good, number}
 use Rattle.model.specs.Scan.{Bound, cause}
-use Rattle.model.specs.Rule.{Choice, earlier, later, overloads, missedRow, stepCount}
+use Rattle.model.specs.Rule.{Choice, overloads, missedRow, stepCount}
 use Rattle.model.specs.Even.{keepsScratch, ceilDiv, stepBound}
 use Rattle.lists.specs.Lists.{at, networkOf, planOf}
 use Rattle.lists.specs.Answers.{withRoom, plan, lent}
@@ -33,7 +33,7 @@ NoOverload n p =
 
 -- "the choice in the named step in which the marked tunnels show the later row and all others the earlier", by the bytes of the marks
 abbrev pub byMarks : (n p : List ℕ) (i : ℕ) → List ℕ → Choice (networkOf n) (planOf p) i
-byMarks n p i marks t = cond (eqb (getD marks t 0) 1) later earlier
+byMarks n p i marks t = eqb (getD marks t 0) 1
 
 -- the planner, given the room, returns the plan p: the answer is a plan, and p stands at the front of the output
 abbrev pub Returns : List ℕ → List ℕ → List ℕ → Type 0

@@ -1,0 +1,29 @@
+-- `forms::ranges::is_network` meets its contract.
+use mathlib.Core.Bool.{false≢true}
+use native.Mathlib.Omega.{arith}
+use borrow.Author.Needs.{needs}
+use Rattle.forms.proofs.ranges.is_network.Statement.{statement}
+use Rattle.forms.proofs.ranges.is_network.Tie as tie
+use Rattle.forms.proofs.InRange.{head-of}
+
+returns : tie.Need-returns
+returns c = λ e. absurd (false≢true e)
+
+head-in-requires : tie.Need-head-in-requires
+head-in-requires c κs = search needs
+
+body-in-requires : tie.Need-body-in-requires
+body-in-requires c κs =
+    let h = c .before .head-in .ensures (c .if2 .taken) in
+    let b = head-of _ h in
+    ((omega arith, h), (b .links .1, b .flows, b .tunnels))
+
+returns-2 : tie.Need-returns-2
+returns-2 c = c .body-in .ensures
+
+returns-3 : tie.Need-returns-3
+returns-3 c = λ e. absurd (false≢true e)
+
+pub is-network-spec : {M : Type 1} → statement M
+is-network-spec =
+    tie.close (tie.spec returns head-in-requires body-in-requires returns-2 returns-3)
