@@ -15,9 +15,7 @@ isShare x = leb leastShare x && leb x mostShare
 -- "An operation gives this step bound from `scratch` and `overrun`; one out of its range meets 2, at line 2 or 3, second 0, scratch first."
 unfoldable pub boundOf : ℕ → ℕ → Outcome ℕ
 boundOf scratch overrun =
-    cond (isShare scratch)
-    (cond (eqb overrun 0 || isShare overrun) (good (stepBound scratch overrun)) (refused outOfRange 3 0))
-    (refused outOfRange 2 0)
+    cond (isShare scratch) (cond (eqb overrun 0 || isShare overrun) (good (stepBound scratch overrun)) (refused outOfRange 3 0)) (refused outOfRange 2 0)
 
 -- "The step bound's answer is its number or a refusal."
 abbrev pub told : Outcome ℕ → StepBound

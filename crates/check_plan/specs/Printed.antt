@@ -5,8 +5,8 @@ use Rattle.model.specs.Outcome.{Outcome, good, refused, number}
 use Rattle.model.specs.Limits.{mostTunnels}
 use Rattle.lists.specs.declared.Answer.{Answer}
 use Rattle.lists.specs.declared.Answer.the-variants.{Refused}
-use Rattle.forms.specs.Read.{readNetwork, readPlan}
 use Rattle.checker.specs.Check.{verdict, checked}
+use Rattle.forms.specs.Named.{readNetwork, readPlan}
 
 -- what comes after a text is read; its refusal is the answer
 abbrev pub onRead : Outcome (List ℕ) → (List ℕ → Answer) → Answer

@@ -20,13 +20,13 @@ use Rattle.lists.specs.Lists.{at, networkOf, planOf, GoodNetwork, GoodPlan}
 use Rattle.lists.specs.Answers.{done}
 use Rattle.lists.specs.declared.Answer.{Answer}
 use Rattle.lists.specs.declared.Answer.the-variants.{Done, Plan as Planned, Refused}
-use Rattle.forms.specs.Read.{judgeNetwork, judgePlan}
 use Rattle.forms.proofs.Answers.{done-good}
 use Rattle.forms.proofs.Good.{good-network, good-plan}
 use Rattle.checker.specs.Check.{weighSteps, weigh, verdict, checked, marksAfter}
 use Rattle.checker.specs.Inner.{foundOf, missedOf, weighPlan, marksOf, marksAt}
 use Rattle.checker.specs.declared.steps.Found.the-variants.{Nothing, At}
 use Rattle.checker.specs.declared.sums.Missed.the-variants as missed
+use Rattle.forms.specs.Named.{judgeNetwork, judgePlan}
 
 -- the answer r and the marks m that an outcome comes to
 abbrev pub Gives : List ℕ → List ℕ → Outcome (Option Overload) → List ℕ → Answer → List ℕ → Type 0

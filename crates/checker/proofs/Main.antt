@@ -12,10 +12,10 @@ use Rattle.model.specs.Rule.{firstOverload, missedRow}
 use Rattle.model.proofs.Outcomes.{good-refused, then-good, cond-good, good-same}
 use Rattle.model.proofs.Choices.{none-kept, kept-none, safe, marked-overloads, found}
 use Rattle.lists.specs.Lists.{at, networkOf, planOf}
-use Rattle.forms.specs.Read.{judgeNetwork, judgePlan}
 use Rattle.forms.proofs.Good.{good-network, good-plan}
 use Rattle.checker.specs.Check.{weighSteps, weigh, verdict}
 use Rattle.checker.specs.Claim.{Reaches, Checker}
+use Rattle.forms.specs.Named.{judgeNetwork, judgePlan}
 
 missed-good : (q : Option Place) (o : Outcome (Option Overload)) (x : Option Overload) → unless Cause.missedRow q o ≡ good x → (q ≡ none) × (o ≡ good x)
 missed-good none o x e = (refl, e)

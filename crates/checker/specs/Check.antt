@@ -16,11 +16,12 @@ use Rattle.model.specs.Rule as rule
 use Rattle.lists.specs.Lists.{at, networkOf, planOf, GoodNetwork, GoodPlan, listed}
 use Rattle.lists.specs.declared.Answer.{Answer}
 use Rattle.lists.specs.declared.Answer.the-variants.{Done, Refused}
-use Rattle.forms.specs.Read.{judgeNetwork, judgePlan}
 use Rattle.checker.specs.declared.sums.Missed.{Missed}
 use Rattle.checker.specs.declared.sums.Missed.the-variants as missed
 use Rattle.checker.specs.declared.steps.Found.{Found}
 use Rattle.checker.specs.declared.steps.Found.the-variants.{Nothing, At}
+use Rattle.forms.specs.Read.{judgeList}
+use Rattle.forms.specs.declared.form.Form.the-variants as forms
 
 -- "10 for the marks", then "steps ascending, within a step links ascending, 7 before 8"
 abbrev pub weighSteps : List ℕ → List ℕ → ℕ → Outcome (Option Overload)
@@ -33,7 +34,7 @@ weigh n p room =
 
 -- "The checker reads the whole network first, then the whole plan, then 5, 6 (lowest row, then flow), 10 for the marks."
 abbrev pub verdict : List ℕ → List ℕ → ℕ → Outcome (Option Overload)
-verdict network plan room = andThen (judgeNetwork network) (λ n. andThen (judgePlan plan) (λ p. weigh n p room))
+verdict network plan room = andThen (judgeList forms.Network network) (λ n. andThen (judgeList forms.Plan plan) (λ p. weigh n p room))
 
 -- ---- the answer and the marks
 

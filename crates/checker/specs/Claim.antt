@@ -9,8 +9,8 @@ use Rattle.model.specs.Outcome.{good}
 use Rattle.model.specs.Scan.{Bound, Overload}
 use Rattle.model.specs.Rule.{Choice, overloads, worstOver, stepCount, missedRow, marked}
 use Rattle.lists.specs.Lists.{at, networkOf, planOf}
-use Rattle.forms.specs.Read.{judgeNetwork, judgePlan}
 use Rattle.checker.specs.Check.{verdict}
+use Rattle.forms.specs.Named.{judgeNetwork, judgePlan}
 
 -- "With valid texts or lists, equal `tunnels`, rows that add up and room for the marks"
 pub record Reaches (n p : List ℕ) (lent : ℕ) : Type 0 where

@@ -11,12 +11,12 @@ use Rattle.model.specs.Net.{Net, Plan}
 use Rattle.model.specs.Scan.{Bound, Overload, cause}
 use Rattle.model.specs.Rule.{exceeds, mark}
 use Rattle.lists.specs.Lists.{at, listed, GoodNetwork, GoodPlan}
-use Rattle.forms.specs.Read.{judgePlan}
 use Rattle.checker.specs.Check.{weigh}
 use Rattle.checker.specs.declared.sums.Missed.{Missed}
 use Rattle.checker.specs.declared.sums.Missed.the-variants as missed
 use Rattle.checker.specs.declared.steps.Found.{Found}
 use Rattle.checker.specs.declared.steps.Found.the-variants.{Nothing, At}
+use Rattle.forms.specs.Named.{judgePlan}
 
 -- a network and a plan that are good, of the same number of tunnels
 pub record Checkable (n p : List ℕ) : Type 0 where

@@ -10,9 +10,10 @@ use Rattle.lists.specs.Lists.{networkOf}
 use Rattle.forms.specs.Bytes.{bytes}
 use Rattle.forms.specs.Line.{lines, onFirst, valuePart, beforeFeed, digitOf, numberFrom, decimalOf, hexOf}
 use Rattle.forms.specs.Form.{fieldOf, networkBody}
-use Rattle.forms.specs.Read.{walk, readLines, addUp, readNetwork, readPlan}
+use Rattle.forms.specs.Read.{walk, readLines, addUp}
 use Rattle.forms.specs.Write.{render, renderFrom, digitsIn, widthOf, widthFrom}
 use Rattle.forms.specs.declared.form.Form.the-variants.{Network}
+use Rattle.forms.specs.Named.{readNetwork, readPlan}
 
 -- "One session in full"
 abbrev head : List ℕ

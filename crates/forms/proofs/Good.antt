@@ -18,7 +18,7 @@ use Rattle.model.specs.Rule as rule
 use Rattle.lists.specs.Lists.{at, flowAt, tunnelAt, networkOf, GoodNetwork, GoodPlan}
 use Rattle.forms.specs.Keys.{keys, placeIn}
 use Rattle.forms.specs.Form.{planBody, Sound, Whole, allows, fieldOf, networkLines, flowLines, tunnelLines, planLines, networkBody}
-use Rattle.forms.specs.Read.{addUp, judgeNetwork, judgePlan}
+use Rattle.forms.specs.Read.{addUp}
 use Rattle.forms.specs.Good.{NetworkRanges}
 use Rattle.forms.specs.declared.form.Form.the-variants.{Network, Plan}
 use Rattle.forms.specs.declared.form.Range.the-variants.{Between}
@@ -26,6 +26,7 @@ use Rattle.forms.specs.declared.form.Field.{Field}
 use Rattle.forms.specs.declared.form.Field.the-variants.{Line, End}
 use Rattle.forms.proofs.Forms.{both, between, in-between, network-head-at, network-body-at, plan-head-at, plan-body-at, rowLines, body-cap, body-flow, body-tunnel, body-end}
 use Rattle.forms.proofs.Walks.{judged-good, good-judged}
+use Rattle.forms.specs.Named.{judgeNetwork, judgePlan}
 
 -- ---- no field of a group is the end
 

@@ -5,6 +5,7 @@ pub mod Form
 pub mod Line
 pub mod Read
 pub mod Write
+pub mod Named
 pub mod Sums
 pub mod Good
 pub mod Ranges

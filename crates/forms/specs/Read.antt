@@ -57,15 +57,3 @@ readText form text = andThen (readLines form text) (addUp form)
 
 abbrev pub judgeList : Form → List ℕ → Outcome (List ℕ)
 judgeList form l = andThen (judgeNumbers form l) (addUp form)
-
-abbrev pub readNetwork : List ℕ → Outcome (List ℕ)
-readNetwork text = readText Network text
-
-abbrev pub readPlan : List ℕ → Outcome (List ℕ)
-readPlan text = readText Plan text
-
-abbrev pub judgeNetwork : List ℕ → Outcome (List ℕ)
-judgeNetwork l = judgeList Network l
-
-abbrev pub judgePlan : List ℕ → Outcome (List ℕ)
-judgePlan l = judgeList Plan l

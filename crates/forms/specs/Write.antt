@@ -9,7 +9,6 @@ use Rattle.forms.specs.Form.{fieldOf, isHex}
 use Rattle.model.specs.Outcome.{andThen}
 use Rattle.forms.specs.Read.{judgeList}
 use Rattle.forms.specs.declared.form.Form.{Form}
-use Rattle.forms.specs.declared.form.Form.the-variants.{Network, Plan}
 use Rattle.forms.specs.declared.form.Range.{Range}
 use Rattle.forms.specs.declared.form.Field.{Field}
 use Rattle.forms.specs.declared.form.Field.the-variants.{Line, End}
@@ -59,9 +58,3 @@ render form l = renderFrom form [] l
 -- "Writers .. take lists and judge them by the same rules": the text of a list that is judged good, or its refusal
 abbrev pub writeText : Form → List ℕ → Outcome (List ℕ)
 writeText form l = andThen (judgeList form l) (λ g. good (render form g))
-
-abbrev pub writeNetwork : List ℕ → Outcome (List ℕ)
-writeNetwork l = writeText Network l
-
-abbrev pub writePlan : List ℕ → Outcome (List ℕ)
-writePlan l = writeText Plan l

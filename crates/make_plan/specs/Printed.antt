@@ -2,9 +2,8 @@
 use Prim.Native.Nat.{ℕ}
 use mathlib.Core.List.{List}
 use Rattle.model.specs.Outcome.{Outcome, andThen}
-use Rattle.forms.specs.Read.{readNetwork}
-use Rattle.forms.specs.Write.{writePlan}
 use Rattle.planner.specs.Planned.{planned}
+use Rattle.forms.specs.Named.{readNetwork, writePlan}
 
 abbrev pub planText : List ℕ → Outcome (List ℕ)
 planText text = andThen (readNetwork text) (λ network. andThen (planned network) writePlan)

@@ -8,7 +8,7 @@ use lib.ListN.{length, getD}
 use Rattle.model.specs.Sum.{sumOver}
 use Rattle.model.specs.Search.{onlyIf, isNone, orElse, first}
 use Rattle.model.specs.Net.{Net, row}
-use Rattle.model.specs.Scan.{Bound, Overload, scan, testStep, testLink, test}
+use Rattle.model.specs.Scan.{Bound, Overload, scan, testLink, test}
 use Rattle.model.specs.Rule.{crosses, onLink, counts, load, exceeds, flowSum, missedIn, missedRow, stepCount, worst, worstOver, firstOverload, accepted, mark}
 use Rattle.model.specs.Even.{evenRow, even, fewest, ceilDiv, stepBound, leavesScratch, keepsScratch}
 use Rattle.model.specs.Limits.{mostSteps}
@@ -67,5 +67,5 @@ pub record Cases : Type 0 where
   pub scratch : keepsScratch (swap 15 0 0) ∷ keepsScratch (swap 14 0 0) ∷ keepsScratch (swap 10 2 20) ∷ keepsScratch (swap 9 2 20) ∷ [] ≡ true ∷ false ∷ true ∷ false ∷ []
 
 pub cases : Cases
-unfolding network swap longer empty marks inStep1 stepBound ceilDiv fewest even evenRow keepsScratch leavesScratch accepted missedRow missedIn flowSum firstOverload stepCount scan testStep testLink test worstOver exceeds load counts worst mark row onLink crosses sumOver onlyIf isNone orElse first
+unfolding network swap longer empty marks inStep1 stepBound ceilDiv fewest even evenRow keepsScratch leavesScratch accepted missedRow missedIn flowSum firstOverload stepCount scan testLink test worstOver exceeds load counts worst mark row onLink crosses sumOver onlyIf isNone orElse first
 cases = record { bounds = refl; protected = refl; background = refl; overloads = refl; marked = refl; scratch = refl }

@@ -3,11 +3,15 @@ use Prim.Native.Nat.{ℕ, _+_, _<_}
 use mathlib.Core.Path.{_≡_, refl, sym, ap₂, _∙_, subst}
 use mathlib.Core.Logic.{⊎-elim}
 use mathlib.Core.Bool.{Bool, true, false, true≢false}
-use mathlib.Core.Option.{none, some}
+use mathlib.Core.Option.{Option, none, some}
 use native.Mathlib.Omega.{arith}
 use Rattle.model.specs.Search.{onlyIf, orElse, first}
-use Rattle.model.specs.Scan.{Bound, Overload, test, testLink, testStep, scan}
+use Rattle.model.specs.Scan.{Bound, Overload, test, testLink, scan}
 use Rattle.model.proofs.Searches.{option-cases, only-some, only-none, or-none, or-some, first-none, first-some, first-on, first-at, first-cong}
+
+-- the test of a step
+abbrev pub testStep : ℕ → (ℕ → ℕ → Bound → Bool) → ℕ → Option Overload
+testStep links bad i = first links (testLink bad i)
 
 module _ (steps links : ℕ) (bad : ℕ → ℕ → Bound → Bool) where
   -- what an overload found in the step from row i, on link l, says
@@ -33,13 +37,13 @@ module _ (steps links : ℕ) (bad : ℕ → ℕ → Bound → Bool) where
 
   -- no overload: no step and no link breaks a bound
   pub scan-none : scan steps links bad ≡ none → (i l : ℕ) → i < steps → l < links → (b : Bound) → bad i l b ≡ false
-  unfolding scan testStep
+  unfolding scan
   scan-none e i l hi hl = link-none i l (first-none (testLink bad i) links (first-none (testStep links bad) steps e i hi) l hl)
 
   -- an overload: the named link breaks the named bound in the named step
   pub scan-some : (o : Overload) → scan steps links bad ≡ some o
       → (o .from < steps) × (o .link < links) × (bad (o .from) (o .link) (o .bound) ≡ true)
-  unfolding scan testStep
+  unfolding scan
   scan-some o e =
       let s = first-some (testStep links bad) steps o e in
       let k = first-some (testLink bad (s .0)) links o (s .2) in
@@ -68,12 +72,11 @@ module _ (steps links : ℕ) (bad : ℕ → ℕ → Bound → Bool) where
   link-neither i l e h = rw (e, h) refl
 
   pub step-on : (i : ℕ) → first i (testStep links bad) ≡ none → first links (testLink bad i) ≡ none → first (i + 1) (testStep links bad) ≡ none
-  unfolding testStep
   step-on i e h = first-on (testStep links bad) i e h
 
   pub scan-at : (i l : ℕ) (o : Overload) → first i (testStep links bad) ≡ none → first l (testLink bad i) ≡ none → testLink bad i l ≡ some o
       → i < steps → l < links → scan steps links bad ≡ some o
-  unfolding scan testStep
+  unfolding scan
   scan-at i l o ei el h hi hl = first-at (testStep links bad) i steps o ei (first-at (testLink bad i) l links o el h hl) hi
 
   pub scan-end : first steps (testStep links bad) ≡ none → scan steps links bad ≡ none
@@ -83,7 +86,7 @@ module _ (steps links : ℕ) (bad : ℕ → ℕ → Bound → Bool) where
 -- only the steps and links that are there count
 pub scan-cong : (steps links : ℕ) (bad worse : ℕ → ℕ → Bound → Bool)
     → ((i l : ℕ) → i < steps → l < links → (b : Bound) → bad i l b ≡ worse i l b) → scan steps links bad ≡ scan steps links worse
-unfolding scan testStep testLink test
+unfolding scan testLink test
 scan-cong steps links bad worse h =
     first-cong _ _ steps (λ i hi. first-cong _ _ links (λ l hl.
     ap₂ (λ (p t : Bool). orElse (onlyIf p (record { bound = Bound.protected; from = i; link = l })) (onlyIf t (record { bound = Bound.total; from = i; link = l })))

@@ -30,8 +30,5 @@ test bad i l b = onlyIf (bad i l b) (record { bound = b; from = i; link = l })
 unfoldable pub testLink : (ℕ → ℕ → Bound → Bool) → ℕ → ℕ → Option Overload
 testLink bad i l = orElse (test bad i l protected) (test bad i l total)
 
-unfoldable pub testStep : ℕ → (ℕ → ℕ → Bound → Bool) → ℕ → Option Overload
-testStep links bad i = first links (testLink bad i)
-
 unfoldable pub scan : ℕ → ℕ → (ℕ → ℕ → Bound → Bool) → Option Overload
-scan steps links bad = first steps (testStep links bad)
+scan steps links bad = first steps (λ i. first links (testLink bad i))

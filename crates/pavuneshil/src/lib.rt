@@ -4,12 +4,13 @@
 ghost use mathlib.Core.Path.{_≡_};
 ghost use lib.ListN.{length};
 ghost use Rattle.lists.specs.Answers.{withRoom, done, plan, lent};
-ghost use Rattle.forms.specs.Read.{readNetwork, readPlan};
-ghost use Rattle.forms.specs.Write.{writeNetwork, writePlan};
 ghost use Rattle.planner.specs.Planned.{planned};
 ghost use Rattle.checker.specs.Check.{verdict, checked, marksAfter};
 ghost use Rattle.bound.specs.Bound.{boundOf, told};
 ghost use Rattle.pavuneshil.specs.Four.{four, fourOfBound};
+ghost use Rattle.forms.specs.declared.form.Form.the-variants as forms;
+ghost use Rattle.forms.specs.Read.{readText};
+ghost use Rattle.forms.specs.Write.{writeText};
 use bound::StepBound;
 use lists::Answer;
 
@@ -45,8 +46,8 @@ fn bound_numbers(a: StepBound) -> [u64; 4]
 // Reads a network text into a list of numbers, one for each line.
 #[no_mangle]
 pub extern "C" fn pavuneshil_read_network(text: &[u8], out: &mut [u64], answer: &mut [u64; 4])
-    ensures { λ _. ⌜ now (answer .exit) ≡ four (done (withRoom (length (now (out .entry))) (readNetwork (now (text .entry))))) ⌝ }
-    ensures { λ _. ⌜ now (out .exit) ≡ lent (withRoom (length (now (out .entry))) (readNetwork (now (text .entry)))) (now (out .entry)) ⌝ }
+    ensures { λ _. ⌜ now (answer .exit) ≡ four (done (withRoom (length (now (out .entry))) (readText forms.Network (now (text .entry))))) ⌝ }
+    ensures { λ _. ⌜ now (out .exit) ≡ lent (withRoom (length (now (out .entry))) (readText forms.Network (now (text .entry)))) (now (out .entry)) ⌝ }
 {
     *answer = numbers(product::read_network(text, out));
 }
@@ -54,8 +55,8 @@ pub extern "C" fn pavuneshil_read_network(text: &[u8], out: &mut [u64], answer: 
 // Reads a plan text into a list of numbers, one for each line.
 #[no_mangle]
 pub extern "C" fn pavuneshil_read_plan(text: &[u8], out: &mut [u64], answer: &mut [u64; 4])
-    ensures { λ _. ⌜ now (answer .exit) ≡ four (done (withRoom (length (now (out .entry))) (readPlan (now (text .entry))))) ⌝ }
-    ensures { λ _. ⌜ now (out .exit) ≡ lent (withRoom (length (now (out .entry))) (readPlan (now (text .entry)))) (now (out .entry)) ⌝ }
+    ensures { λ _. ⌜ now (answer .exit) ≡ four (done (withRoom (length (now (out .entry))) (readText forms.Plan (now (text .entry))))) ⌝ }
+    ensures { λ _. ⌜ now (out .exit) ≡ lent (withRoom (length (now (out .entry))) (readText forms.Plan (now (text .entry)))) (now (out .entry)) ⌝ }
 {
     *answer = numbers(product::read_plan(text, out));
 }
@@ -63,8 +64,8 @@ pub extern "C" fn pavuneshil_read_plan(text: &[u8], out: &mut [u64], answer: &mu
 // Writes the text of a network's list.
 #[no_mangle]
 pub extern "C" fn pavuneshil_write_network(list: &[u64], out: &mut [u8], answer: &mut [u64; 4])
-    ensures { λ _. ⌜ now (answer .exit) ≡ four (done (withRoom (length (now (out .entry))) (writeNetwork (now (list .entry))))) ⌝ }
-    ensures { λ _. ⌜ now (out .exit) ≡ lent (withRoom (length (now (out .entry))) (writeNetwork (now (list .entry)))) (now (out .entry)) ⌝ }
+    ensures { λ _. ⌜ now (answer .exit) ≡ four (done (withRoom (length (now (out .entry))) (writeText forms.Network (now (list .entry))))) ⌝ }
+    ensures { λ _. ⌜ now (out .exit) ≡ lent (withRoom (length (now (out .entry))) (writeText forms.Network (now (list .entry)))) (now (out .entry)) ⌝ }
 {
     *answer = numbers(product::write_network(list, out));
 }
@@ -72,8 +73,8 @@ pub extern "C" fn pavuneshil_write_network(list: &[u64], out: &mut [u8], answer:
 // Writes the text of a plan's list.
 #[no_mangle]
 pub extern "C" fn pavuneshil_write_plan(list: &[u64], out: &mut [u8], answer: &mut [u64; 4])
-    ensures { λ _. ⌜ now (answer .exit) ≡ four (done (withRoom (length (now (out .entry))) (writePlan (now (list .entry))))) ⌝ }
-    ensures { λ _. ⌜ now (out .exit) ≡ lent (withRoom (length (now (out .entry))) (writePlan (now (list .entry)))) (now (out .entry)) ⌝ }
+    ensures { λ _. ⌜ now (answer .exit) ≡ four (done (withRoom (length (now (out .entry))) (writeText forms.Plan (now (list .entry))))) ⌝ }
+    ensures { λ _. ⌜ now (out .exit) ≡ lent (withRoom (length (now (out .entry))) (writeText forms.Plan (now (list .entry)))) (now (out .entry)) ⌝ }
 {
     *answer = numbers(product::write_plan(list, out));
 }

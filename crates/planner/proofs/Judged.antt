@@ -14,7 +14,7 @@ use Rattle.lists.specs.Lists.{networkOf}
 use Rattle.lists.specs.declared.Answer.{Answer}
 use Rattle.forms.specs.Form.{fieldOf, admitsOf}
 use Rattle.model.specs.Outcome.{andThen}
-use Rattle.forms.specs.Read.{onField, onValue, walk, itself, judgeNumbers, addUp, judgeNetwork}
+use Rattle.forms.specs.Read.{onField, onValue, walk, itself, judgeNumbers, addUp}
 use Rattle.forms.specs.declared.form.Form.{Form}
 use Rattle.forms.specs.declared.form.Form.the-variants.{Network}
 use Rattle.forms.specs.declared.form.Range.{Range}
@@ -23,6 +23,7 @@ use Rattle.forms.specs.declared.form.Field.the-variants.{Line, End}
 use Rattle.forms.proofs.Answers.{NotDone}
 use Rattle.forms.proofs.Good.{good-network}
 use Rattle.planner.specs.Planned.{evenPlan, planned}
+use Rattle.forms.specs.Named.{judgeNetwork}
 
 pub planned-good : (l : List ℕ) → judgeNetwork l ≡ good l → planned l ≡ evenPlan (networkOf l)
 unfolding planned

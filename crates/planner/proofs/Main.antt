@@ -21,7 +21,6 @@ use Rattle.model.proofs.Bounded as model
 use Rattle.lists.specs.Answers.{withRoom}
 use Rattle.lists.specs.Lists.{at, networkOf, planOf, GoodNetwork}
 use Rattle.model.specs.Outcome.{andThen}
-use Rattle.forms.specs.Read.{judgeNetwork, judgePlan}
 use Rattle.forms.proofs.Answers.{good-room}
 use Rattle.forms.proofs.Good.{good-network, plan-good}
 use Rattle.planner.specs.Planned.{evenList, stuck, byFewest, evenPlan, planned}
@@ -29,6 +28,7 @@ use Rattle.planner.specs.Claim.{FewestSteps, NoneBelow, Safe, Claim}
 use Rattle.planner.proofs.EvenLists.{list-length, list-head, list-at, rows-most, list-beyond}
 use Rattle.planner.proofs.Judged.{planned-good, planned-nine}
 use Rattle.model.specs.Search.{onlyIf}
+use Rattle.forms.specs.Named.{judgeNetwork, judgePlan}
 
 -- ---- the cases of the outcome
 

@@ -13,12 +13,12 @@ use borrow.Author.Tests.{lt-ltb, le-ltb}
 use Rattle.model.specs.Limits.{mostLinks, mostTunnels, mostSteps, mostAmount, mostShare}
 use Rattle.model.specs.Search.{first, onlyIf}
 use Rattle.model.specs.Net.{Net}
-use Rattle.model.specs.Scan.{Bound, testLink, testStep}
+use Rattle.model.specs.Scan.{Bound, testLink}
 use Rattle.model.specs.Rule.{load, exceeds, missedRate, stepCount, worstOver, firstOverload, accepted}
 use Rattle.model.specs.Even.{even, fewest}
 use Rattle.model.specs.ThreeSums.{oldLoad, newLoad, peakLoad, stepLoad, endLoad}
 use Rattle.model.proofs.Searches.{bool-cases, only-true, only-false, first-on, first-at}
-use Rattle.model.proofs.Scans.{link-protected, link-total, link-neither, scan-at, scan-end}
+use Rattle.model.proofs.Scans.{link-protected, link-total, link-neither, scan-at, scan-end, testStep}
 use Rattle.model.proofs.Choices.{factor, room}
 use Rattle.model.proofs.Evens.{even-load, even-accepted}
 use Rattle.lists.specs.Answers.{plan}

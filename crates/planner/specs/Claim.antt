@@ -13,8 +13,8 @@ use Rattle.model.specs.Rule.{Choice, overloads, stepCount, missedRow, firstOver
 use Rattle.model.specs.Even.{even, keepsScratch, stepBound}
 use Rattle.lists.specs.Answers.{withRoom}
 use Rattle.lists.specs.Lists.{at, networkOf, planOf}
-use Rattle.forms.specs.Read.{judgeNetwork, judgePlan}
 use Rattle.planner.specs.Planned.{evenList, planned}
+use Rattle.forms.specs.Named.{judgeNetwork, judgePlan}
 
 -- no even plan of fewer than q steps is accepted
 abbrev pub NoneBelow : Net → ℕ → Type 0

@@ -8,9 +8,10 @@ use Rattle.model.specs.Scan.{Overload, step}
 use Rattle.model.specs.Even.{evenRow, fewest, even}
 use Rattle.lists.specs.Lists.{networkOf, listed}
 use Rattle.model.specs.Outcome.{andThen}
-use Rattle.forms.specs.Read.{judgeNetwork}
 use Rattle.model.specs.Limits.{mostSteps}
 use Rattle.model.specs.Rule.{firstOverload}
+use Rattle.forms.specs.Read.{judgeList}
+use Rattle.forms.specs.declared.form.Form.the-variants as forms
 
 -- the rows 1 to n of the even plan of q steps, each tunnel by tunnel
 unfoldable pub evenRows : Net → ℕ → ℕ → List ℕ
@@ -36,4 +37,4 @@ evenPlan N = byFewest N (fewest N)
 
 -- the planner's whole outcome. "Writers, planner and checker take lists and judge them by the same rules": the judge's refusal is passed on
 unfoldable pub planned : List ℕ → Outcome (List ℕ)
-planned l = andThen (judgeNetwork l) (λ g. evenPlan (networkOf g))
+planned l = andThen (judgeList forms.Network l) (λ g. evenPlan (networkOf g))

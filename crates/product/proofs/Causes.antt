@@ -12,13 +12,14 @@ use Rattle.model.specs.Scan.{Bound, Overload, cause}
 use Rattle.model.specs.Rule as rule
 use Rattle.lists.specs.Lists.{at, networkOf, planOf}
 use Rattle.forms.specs.Form.{fieldOf, admitsOf, secondOf}
-use Rattle.forms.specs.Read.{walk, onField, onValue, itself, judgeNumbers, addUp, judgeNetwork, judgePlan}
+use Rattle.forms.specs.Read.{walk, onField, onValue, itself, judgeNumbers, addUp}
 use Rattle.forms.specs.declared.form.Form.{Form}
 use Rattle.forms.specs.declared.form.Form.the-variants.{Network, Plan}
 use Rattle.forms.specs.declared.form.Range.{Range}
 use Rattle.forms.specs.declared.form.Field.{Field}
 use Rattle.forms.specs.declared.form.Field.the-variants.{Line, End}
 use Rattle.checker.specs.Check as check
+use Rattle.forms.specs.Named.{judgeNetwork, judgePlan}
 
 -- an outcome that is no refusal by 7 or 8
 abbrev pub NotOver : {A : Type 0} → Outcome A → Type 0

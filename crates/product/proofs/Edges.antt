@@ -4,7 +4,7 @@ use mathlib.Core.Bool.{true}
 use Rattle.model.specs.Sum.{sumOver}
 use Rattle.model.specs.Search.{onlyIf, isNone, orElse, first}
 use Rattle.model.specs.Net.{row}
-use Rattle.model.specs.Scan.{scan, testStep, testLink, test}
+use Rattle.model.specs.Scan.{scan, testLink, test}
 use Rattle.model.specs.Rule.{crosses, onLink, counts, load, exceeds, flowSum, missedBy, missedRate, missedIn, missedRow, stepCount, worst, worstOver, firstOverload, accepted, mark}
 use Rattle.model.specs.Even.{evenRow, even, fewest, ceilDiv, stepBound}
 use Rattle.lists.specs.Lists.{networkOf, planOf, listed}
@@ -16,5 +16,5 @@ use Rattle.checker.specs.Inner.{marksOf}
 use Rattle.product.specs.Edges.{edges, same, hold}
 
 pub edges-hold : hold edges ≡ true
-unfolding edges same hold boundOf stepBound ceilDiv planned evenPlan byFewest stuck evenList evenRows listed judgeNumbers walk fieldOf networkBody addUp networkOf planOf missedRate missedBy missedRow missedIn flowSum fewest accepted even evenRow firstOverload stepCount scan testStep testLink test worstOver exceeds load counts worst onLink crosses mark row sumOver onlyIf isNone orElse first
+unfolding edges same hold boundOf stepBound ceilDiv planned evenPlan byFewest stuck evenList evenRows listed judgeNumbers walk fieldOf networkBody addUp networkOf planOf missedRate missedBy missedRow missedIn flowSum fewest accepted even evenRow firstOverload stepCount scan testLink test worstOver exceeds load counts worst onLink crosses mark row sumOver onlyIf isNone orElse first
 edges-hold = refl

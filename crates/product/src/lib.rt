@@ -2,42 +2,43 @@
 ghost use mathlib.Core.Path.{_≡_};
 ghost use lib.ListN.{length};
 ghost use Rattle.lists.specs.Answers.{withRoom, done, plan, lent};
-ghost use Rattle.forms.specs.Read.{readNetwork, readPlan};
-ghost use Rattle.forms.specs.Write.{writeNetwork, writePlan};
 ghost use Rattle.planner.specs.Planned.{planned};
 ghost use Rattle.checker.specs.Check.{verdict, checked, marksAfter};
 ghost use Rattle.bound.specs.Bound.{boundOf, told};
+ghost use Rattle.forms.specs.declared.form.Form.the-variants as forms;
+ghost use Rattle.forms.specs.Read.{readText};
+ghost use Rattle.forms.specs.Write.{writeText};
 use bound::StepBound;
 use lists::Answer;
 
 // Reads a network text into a list of numbers, one for each line.
 pub fn read_network(text: &[u8], out: &mut [u64]) -> Answer
-    ensures { λ r. ⌜ r ≡ done (withRoom (length (now (out .entry))) (readNetwork (now (text .entry)))) ⌝ }
-    ensures { λ _. ⌜ now (out .exit) ≡ lent (withRoom (length (now (out .entry))) (readNetwork (now (text .entry)))) (now (out .entry)) ⌝ }
+    ensures { λ r. ⌜ r ≡ done (withRoom (length (now (out .entry))) (readText forms.Network (now (text .entry)))) ⌝ }
+    ensures { λ _. ⌜ now (out .exit) ≡ lent (withRoom (length (now (out .entry))) (readText forms.Network (now (text .entry)))) (now (out .entry)) ⌝ }
 {
     readers::read::read_network(text, out)
 }
 
 // Reads a plan text into a list of numbers, one for each line.
 pub fn read_plan(text: &[u8], out: &mut [u64]) -> Answer
-    ensures { λ r. ⌜ r ≡ done (withRoom (length (now (out .entry))) (readPlan (now (text .entry)))) ⌝ }
-    ensures { λ _. ⌜ now (out .exit) ≡ lent (withRoom (length (now (out .entry))) (readPlan (now (text .entry)))) (now (out .entry)) ⌝ }
+    ensures { λ r. ⌜ r ≡ done (withRoom (length (now (out .entry))) (readText forms.Plan (now (text .entry)))) ⌝ }
+    ensures { λ _. ⌜ now (out .exit) ≡ lent (withRoom (length (now (out .entry))) (readText forms.Plan (now (text .entry)))) (now (out .entry)) ⌝ }
 {
     readers::read::read_plan(text, out)
 }
 
 // Writes the text of a network's list.
 pub fn write_network(list: &[u64], out: &mut [u8]) -> Answer
-    ensures { λ r. ⌜ r ≡ done (withRoom (length (now (out .entry))) (writeNetwork (now (list .entry)))) ⌝ }
-    ensures { λ _. ⌜ now (out .exit) ≡ lent (withRoom (length (now (out .entry))) (writeNetwork (now (list .entry)))) (now (out .entry)) ⌝ }
+    ensures { λ r. ⌜ r ≡ done (withRoom (length (now (out .entry))) (writeText forms.Network (now (list .entry)))) ⌝ }
+    ensures { λ _. ⌜ now (out .exit) ≡ lent (withRoom (length (now (out .entry))) (writeText forms.Network (now (list .entry)))) (now (out .entry)) ⌝ }
 {
     writers::write::write_network(list, out)
 }
 
 // Writes the text of a plan's list.
 pub fn write_plan(list: &[u64], out: &mut [u8]) -> Answer
-    ensures { λ r. ⌜ r ≡ done (withRoom (length (now (out .entry))) (writePlan (now (list .entry)))) ⌝ }
-    ensures { λ _. ⌜ now (out .exit) ≡ lent (withRoom (length (now (out .entry))) (writePlan (now (list .entry)))) (now (out .entry)) ⌝ }
+    ensures { λ r. ⌜ r ≡ done (withRoom (length (now (out .entry))) (writeText forms.Plan (now (list .entry)))) ⌝ }
+    ensures { λ _. ⌜ now (out .exit) ≡ lent (withRoom (length (now (out .entry))) (writeText forms.Plan (now (list .entry)))) (now (out .entry)) ⌝ }
 {
     writers::write::write_plan(list, out)
 }

@@ -15,7 +15,7 @@ use Rattle.lists.specs.Answers.{withRoom, done, plan, lent}
 use Rattle.lists.specs.declared.Answer.{Answer}
 use Rattle.lists.specs.declared.Answer.the-variants.{Done, Plan}
 use Rattle.lists.proofs.Answer.{the-type}
-use Rattle.forms.specs.Read.{readText, readNetwork, readPlan, judgeList, judgePlan}
+use Rattle.forms.specs.Read.{readText, judgeList}
 use Rattle.forms.specs.declared.form.Form.{Form}
 use Rattle.forms.specs.declared.form.Form.the-variants as form
 use Rattle.forms.proofs.Answers.{done-good, good-room}
@@ -23,6 +23,7 @@ use Rattle.forms.proofs.Good.{good-network, good-plan}
 use Rattle.forms.proofs.Round.{file-form}
 use Rattle.planner.specs.Planned.{planned}
 use Rattle.planner.proofs.Main.{safe}
+use Rattle.forms.specs.Named.{readNetwork, readPlan, judgePlan}
 
 -- ---- there is room
 

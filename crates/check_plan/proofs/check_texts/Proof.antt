@@ -11,13 +11,13 @@ use Rattle.model.specs.Outcome.{Outcome, good, refused}
 use Rattle.model.specs.Limits.{mostTunnels}
 use Rattle.lists.specs.Answers.{done}
 use Rattle.lists.specs.declared.Answer.{Answer}
-use Rattle.forms.specs.Read.{readNetwork, readPlan}
 use Rattle.forms.proofs.Answers.{NotDone}
 use Rattle.checker.specs.Check.{verdict, checked}
 use Rattle.report.proofs.Room.{network-fits, plan-fits, Given, given-done}
 use Rattle.check_plan.specs.Printed.{onRead, checkTexts}
 use Rattle.check_plan.proofs.check_texts.Statement.{statement}
 use Rattle.check_plan.proofs.check_texts.Tie as tie
+use Rattle.forms.specs.Named.{readNetwork, readPlan}
 
 -- a text that is refused is the answer
 read-refused : (o : Outcome (List ℕ)) (next : List ℕ → Answer) (a : Answer) → a ≡ done o → NotDone a → a ≡ onRead o next

@@ -9,14 +9,13 @@ use borrow.Author.Needs.{needs}
 use Rattle.model.specs.Outcome.{Outcome, andThen}
 use Rattle.lists.specs.Answers.{withRoom, done, plan, lent}
 use Rattle.lists.specs.declared.Answer.{Answer}
-use Rattle.forms.specs.Read.{readNetwork}
-use Rattle.forms.specs.Write.{writePlan}
 use Rattle.forms.proofs.Answers.{refused-then, refused-room}
 use Rattle.planner.specs.Planned.{planned}
 use Rattle.report.proofs.Room.{network-fits, planned-fits, Given, given-done, given-plan, plan-refused}
 use Rattle.make_plan.specs.Printed.{planText}
 use Rattle.make_plan.proofs.plan_text.Statement.{statement}
 use Rattle.make_plan.proofs.plan_text.Tie as tie
+use Rattle.forms.specs.Named.{readNetwork, writePlan}
 
 -- the list that was read
 module _ (c : tie.After-read) where

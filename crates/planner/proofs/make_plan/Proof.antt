@@ -5,12 +5,12 @@ use borrow.Author.Needs.{needs}
 use Rattle.model.specs.Outcome.{good}
 use Rattle.lists.specs.Answers.{withRoom, plan, lent}
 use Rattle.lists.specs.Lists.{GoodNetwork}
-use Rattle.forms.specs.Read.{judgeNetwork}
 use Rattle.forms.proofs.Answers.{done-good}
 use Rattle.forms.proofs.Good.{good-network}
 use Rattle.planner.proofs.Judged.{planned-good, planned-refused}
 use Rattle.planner.proofs.make_plan.Statement.{statement}
 use Rattle.planner.proofs.make_plan.Tie as tie
+use Rattle.forms.specs.Named.{judgeNetwork}
 
 judge-network-requires : tie.Need-judge-network-requires
 judge-network-requires c κs = search needs

@@ -10,10 +10,10 @@ use Rattle.checker.specs.Inner.{overBy, foundOf}
 use Rattle.checker.proofs.Overloads.{overIn, load-sum, over-none, over-some, counted-small}
 use Rattle.model.specs.Search.{first}
 use Rattle.model.specs.Net.{Net, Plan}
-use Rattle.model.specs.Scan.{Bound, testLink, testStep}
+use Rattle.model.specs.Scan.{Bound, testLink}
 use Rattle.model.specs.Rule.{worstOver, firstOverload, stepCount}
 use Rattle.model.proofs.Searches.{first-zero, first-on}
-use Rattle.model.proofs.Scans.{step-on, scan-at, scan-end}
+use Rattle.model.proofs.Scans.{step-on, scan-at, scan-end, testStep}
 use Rattle.lists.specs.Lists.{at, networkOf, planOf}
 use Rattle.checker.proofs.steps.first_overload.Statement.{statement}
 use Rattle.checker.proofs.steps.first_overload.Tie as tie
