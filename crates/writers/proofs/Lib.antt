@@ -1,1 +1,4 @@
 pub mod Writing
+pub mod Digits
+pub mod Runs
+pub mod Measuring

@@ -1,4 +1,4 @@
--- Laws of writing: bytes put at a place, digits, widths, and the lines of a list.
+-- Laws of writing: bytes put at a place, one after the other, and digits from the last to the first.
 use mathlib.Core.Path.{_≡_, refl, sym, ap, _∙_}
 use mathlib.Core.List.{List, [], _∷_, _++_, append-assoc, append-nil}
 use Prim.Native.Nat.{ℕ, zero, suc, _+_, _-_, _/_, _%_, _^_, _≤_, _<_}
@@ -11,17 +11,17 @@ use lib.ListN.{take-append-drop, length, getD, take, drop, set, length-append, l
 use lib.Seq.{take-add, take-append-le, take-append-seam, drop-append-seam, length-take-le, take-take, take-at, drop-at, drop-drop, set-split, take-length, paste, paste-suc}
 use borrow.Author.Tests.{lt-ltb, le-ltb}
 use Rattle.forms.specs.Form.{Whole}
-use Rattle.forms.specs.Write.{digitChar, digitsIn, widthFrom}
+use Rattle.forms.specs.Write.{digitChar, digitsIn, widthOf}
 use Rattle.forms.specs.declared.form.Form.{Form}
 use Rattle.model.specs.Outcome.{good}
-use Rattle.lists.specs.Answers.{done}
+use Rattle.lists.specs.Answers.{done, withRoom, lent}
 use Rattle.lists.specs.declared.Answer.the-variants.{Done}
 use Rattle.forms.specs.Read.{judgeList}
-use Rattle.forms.proofs.Answers.{done-good}
-use Rattle.forms.proofs.Forms.{room}
+use Rattle.forms.proofs.Answers.{done-good, give-all}
 use Rattle.forms.proofs.Numbers.{length-digits}
 use Rattle.forms.proofs.Walks.{judged-good}
-use Rattle.writers.specs.Write.{placed}
+use Rattle.writers.specs.Write.{placed, Puts}
+use Rattle.writers.proofs.Digits.{digits-split, width-split}
 
 -- ---- bytes put at a place
 
@@ -54,8 +54,7 @@ pub placed-none : (out : List ℕ) (at : ℕ) → out ≡ placed out at []
 unfolding placed
 placed-none out at = sym (rw add-zero (take-append-drop at out))
 
--- what is put at the front, as it is said of an operation
-pub placed-front : (out s : List ℕ) → placed out 0 s ≡ s ++ drop (length s) out
+placed-front : (out s : List ℕ) → placed out 0 s ≡ s ++ drop (length s) out
 unfolding placed
 placed-front out s = rw zero-add
 
@@ -75,6 +74,63 @@ placed-before out j x s h =
 pub stored : (out : List ℕ) (j x : ℕ) → j < length out → set out j x ≡ placed out j (x ∷ [])
 unfolding placed
 stored out j x h = rw add-one (set-split out j x h)
+
+-- ---- bytes put one after the other
+
+-- nothing is put
+pub puts-none : (at : ℕ) (out : List ℕ) → Puts [] at out out at
+puts-none at out = record { place = omega arith; bytes = placed-none out at }
+
+pub puts-byte : (out : List ℕ) (at x : ℕ) → at < length out → Puts (x ∷ []) at out (set out at x) (at + 1)
+puts-byte out at x h = record { place = refl; bytes = stored out at x h }
+
+pub puts-length : {s : List ℕ} {at : ℕ} {out out′ : List ℕ} {past : ℕ} → at + length s ≤ length out → Puts s at out out′ past → length out′ ≡ length out
+puts-length {s} {at} {out} h p = ap length (p .bytes) ∙ length-placed out at s h
+
+pub then-fits : {s : List ℕ} {at : ℕ} {out out₁ : List ℕ} {a : ℕ} (t : List ℕ) → at + length (s ++ t) ≤ length out → Puts s at out out₁ a → a + length t ≤ length out₁
+then-fits {s} t fits p =
+    let n = length-append s t in
+    omega (arith, p .place, puts-length (omega arith) p)
+
+pub then-puts : {s t : List ℕ} {at : ℕ} {out out₁ out₂ : List ℕ} {a b : ℕ} → at + length (s ++ t) ≤ length out → Puts s at out out₁ a → Puts t a out₁ out₂ b
+    → Puts (s ++ t) at out out₂ b
+then-puts {s} {t} {at} {out} fits p q =
+    let n = length-append s t in
+    record {
+      place = omega (arith, p .place, q .place);
+      bytes = q .bytes ∙ rw (p .bytes, p .place) (placed-more out at s t (omega arith));
+    }
+
+-- ---- decimal digits, from the first to the last
+
+pub digit-byte : (x : ℕ) → x < 10 → digitsIn 10 1 x ≡ (48 + x) ∷ []
+unfolding digitsIn
+digit-byte x h =
+    let e : x / 1 % 10 ≡ x = omega arith in
+    rw (e, lt-ltb x 10 h)
+
+-- m digits, and n more
+module _ (m n v : ℕ) {at : ℕ} {out out₁ : List ℕ} {a : ℕ} (fits : at + (m + n) ≤ length out) (p : Puts (digitsIn 10 m (v / 10 ^ n)) at out out₁ a) where
+  both-fit : at + length (digitsIn 10 m (v / 10 ^ n) ++ digitsIn 10 n (v % 10 ^ n)) ≤ length out
+  both-fit = rw (digits-split 10 (lit≤ tt) m n v, length-digits 10 (m + n) v) fits
+
+  pub digits-fit : a + n ≤ length out₁
+  digits-fit = rw (length-digits 10 n (v % 10 ^ n)) at (then-fits (digitsIn 10 n (v % 10 ^ n)) both-fit p)
+
+  pub digits-put : {out₂ : List ℕ} {b : ℕ} → Puts (digitsIn 10 n (v % 10 ^ n)) a out₁ out₂ b → Puts (digitsIn 10 (m + n) v) at out out₂ b
+  digits-put q = rw (digits-split 10 (lit≤ tt) m n v) at (then-puts both-fit p q)
+
+-- a number of more than 4 digits: those of its quotient by 10000, and 4 more
+module _ (v : ℕ) {at : ℕ} {out out₁ : List ℕ} {a : ℕ} (large : 10000 ≤ v) (small : v < 10000000000) (fits : at + widthOf v ≤ length out)
+    (p : Puts (digitsIn 10 (widthOf (v / 10000)) (v / 10000)) at out out₁ a) where
+  width-is-more : widthOf (v / 10000) + 4 ≡ widthOf v
+  width-is-more = omega (arith, width-split v large small)
+
+  pub four-fit : a + 4 ≤ length out₁
+  four-fit = digits-fit (widthOf (v / 10000)) 4 v (rw width-is-more fits) p
+
+  pub four-put : {out₂ : List ℕ} {b : ℕ} → Puts (digitsIn 10 4 (v % 10000)) a out₁ out₂ b → Puts (digitsIn 10 (widthOf v) v) at out out₂ b
+  four-put q = rw width-is-more at (digits-put (widthOf (v / 10000)) 4 v (rw width-is-more fits) p q)
 
 -- ---- digits, from the last to the first
 
@@ -102,84 +158,13 @@ module _ (out : List ℕ) (at base n v : ℕ) where
         rw (m, j) (placed-before out (at + (i - 1)) c (digitsIn base (n - i) v) h ∙ ap (λ (s : List ℕ). placed out (at + (i - 1)) s) (rw e (digits-more base (n - i) v x left))),
       )
 
--- the width from n on
-pub width-more : (v n : ℕ) → n < 10 → 10 ^ n ≤ v → widthFrom (10 - n) n v ≡ widthFrom (10 - (n + 1)) (n + 1) v
-unfolding widthFrom
-width-more v n h k =
-    let e : 10 - n ≡ suc (10 - (n + 1)) = omega arith in
-    rw (e, le-ltb v (10 ^ n) k, add-one)
+-- ---- a text that is put at the front, as it is said of an operation
 
-pub width-found : (f n v : ℕ) → v < 10 ^ n → widthFrom f n v ≡ n
-unfolding widthFrom
-width-found zero n v h = refl
-width-found (suc f) n v h = rw (lt-ltb v (10 ^ n) h)
-
-pub width-room : (v n : ℕ) → v < 10000000000 → 10 ^ n ≤ v → n < 10
-width-room v n h k = go (decLt n 10)
-  where
-    go : Dec (n < 10) → n < 10
-    go (yes l) = l
-    go (no l) =
-        let k′ : 10 ≤ n = omega arith in
-        let big : 10 ^ 10 ≤ 10 ^ n = pow-le-pow-right (lit≤ tt) k′ in
-        absurd (omega arith)
-
--- three pieces put one after the other, the last of one byte
-module _ (out p s : List ℕ) (at x : ℕ) (room : at + length (p ++ (s ++ (x ∷ []))) ≤ length out) where
-  pieces : length (p ++ (s ++ (x ∷ []))) ≡ length p + (length s + 1)
-  pieces = simp length-append
-
-  pub first-fits : at + length p ≤ length out
-  first-fits = omega (arith, pieces)
-
-  module _ (out₁ : List ℕ) (a : ℕ) (e₁ : out₁ ≡ placed out at p) (h₁ : a ≡ at + length p) where
-    pub second-fits : a + length s ≤ length out₁
-    second-fits = rw (e₁, length-placed out at p (omega (arith, pieces))) (omega (arith, pieces))
-
-    module _ (out₂ : List ℕ) (b : ℕ) (e₂ : out₂ ≡ placed out₁ a s) (h₂ : b ≡ a + length s) where
-      pub third-fits : b + 1 ≤ length out₂
-      third-fits = rw (e₂, length-placed out₁ a s second-fits, e₁, length-placed out at p (omega (arith, pieces))) (omega (arith, pieces))
-
-      pub three : (out₃ : List ℕ) (c : ℕ) → out₃ ≡ placed out₂ b (x ∷ []) → c ≡ b + 1 → (c ≡ at + length (p ++ (s ++ (x ∷ [])))) × (out₃ ≡ placed out at (p ++ (s ++ (x ∷ []))))
-      three out₃ c e₃ h₃ =
-          let size : length (p ++ s) ≡ length p + length s = length-append p s in
-          let front : placed (placed out at p) (at + length p) s ≡ placed out at (p ++ s) = placed-more out at p s (omega (arith, pieces)) in
-          let b′ : b ≡ at + length (p ++ s) = omega arith in (
-            omega (arith, pieces),
-            e₃ ∙ rw (e₂, e₁, h₁, front, b′, placed-more out at (p ++ s) (x ∷ []) (omega (arith, pieces)), append-assoc),
-          )
-
--- ---- the lines of a list
-
--- the bytes that are written, after a line more
-module _ (out r line rest : List ℕ) (at : ℕ) (fits : length r ≤ length out) (within : at ≤ length r) (e : drop at r ≡ line ++ rest) where
-  whole : length r ≡ at + (length line + length rest)
-  whole = omega (arith, length-drop at r ∙ refl, ap length e ∙ length-append line rest)
-
-  pub line-fits : at + length line ≤ length (placed out 0 (take at r))
-  line-fits = rw (length-placed out 0 (take at r) (omega (arith, length-take-le at r within))) (omega (arith, whole))
-
-  pub line-within : at + length line ≤ length r
-  line-within = omega (arith, whole)
-
-  pub line-rest : drop (at + length line) r ≡ rest
-  line-rest = sym (drop-drop (length line) at r) ∙ rw e (drop-append-seam line rest)
-
-  pub line-placed : placed (placed out 0 (take at r)) at line ≡ placed out 0 (take (at + length line) r)
-  line-placed =
-      let n : length (take at r) ≡ at = length-take-le at r within in
-      let p : 0 + length (take at r) ≡ at = omega arith in
-      rw (take-add at (length line) r, e, take-append-seam line rest)
-      (rw p at (placed-more out 0 (take at r) line (omega (arith, whole))))
-
--- nothing is left of a list past its end
-pub dropped-all : (n : ℕ) (l : List ℕ) → n ≤ length l → drop n l ≡ [] → n ≡ length l
-dropped-all n l h e =
-    let z : length (drop n l) ≡ 0 = ap length e in
-    omega (arith, length-drop n l)
-
-pub take-whole : (n : ℕ) (l : List ℕ) → drop n l ≡ [] → take n l ≡ l
-take-whole n l e = sym (append-nil (take n l)) ∙ rw (← e) (take-append-drop n l)
+pub given : (s out : List ℕ) {out′ : List ℕ} {past : ℕ} → length s ≤ length out → Puts s 0 out out′ past
+    → (Done past ≡ done (withRoom (length out) (good s))) × (out′ ≡ lent (withRoom (length out) (good s)) out)
+given s out h p =
+    let g = give-all s out h in
+    (ap Done (p .place ∙ zero-add (length s)) ∙ sym (g .0), p .bytes ∙ placed-front out s ∙ sym (g .1))
 
 -- ---- a list that the judge answers for
 

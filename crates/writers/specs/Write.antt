@@ -1,8 +1,52 @@
--- What a write leaves.
-use Prim.Native.Nat.{ℕ, _+_}
-use mathlib.Core.List.{List, _++_}
-use lib.ListN.{length, take, drop}
+-- What a write leaves, and the lines of a list, from any on.
+use Prim.Native.Nat.{ℕ, zero, suc, _+_, _*_, _<_}
+use mathlib.Core.Path.{_≡_}
+use mathlib.Core.List.{List, [], _∷_, _++_}
+use lib.ListN.{length, take, drop, getD}
+use Rattle.forms.specs.Form.{fieldOf, mostNumbers}
+use Rattle.forms.specs.Write.{digitsIn, widthOf, lineOf}
+use Rattle.forms.specs.declared.form.Form.{Form}
 
 -- a list with others in the place of those from `at` on
 unfoldable pub placed : List ℕ → ℕ → List ℕ → List ℕ
 placed out at s = take at out ++ (s ++ drop (at + length s) out)
+
+-- bytes are put at a place, and the place past them is answered
+pub record Puts (s : List ℕ) (at : ℕ) (out out′ : List ℕ) (past : ℕ) : Type 0 where
+  pub place : past ≡ at + length s
+  pub bytes : out′ ≡ placed out at s
+
+-- ---- lines, by what stands before their value
+
+abbrev pub decimalValue : ℕ → List ℕ
+decimalValue v = digitsIn 10 (widthOf v) v ++ (10 ∷ [])
+
+abbrev pub decimalLine : List ℕ → ℕ → List ℕ
+decimalLine key v = key ++ decimalValue v
+
+abbrev pub hexLine : List ℕ → ℕ → List ℕ
+hexLine key v = key ++ (digitsIn 16 16 v ++ (10 ∷ []))
+
+-- ---- the lines of a list
+
+-- the line of the number at i
+unfoldable pub lineAt : Form → List ℕ → ℕ → List ℕ
+lineAt form l i = lineOf (fieldOf form (take i l)) (getD l i 0)
+
+-- the n lines from that on
+unfoldable pub linesFrom : Form → List ℕ → ℕ → ℕ → List ℕ
+linesFrom form l i zero = []
+linesFrom form l i (suc n) = linesFrom form l i n ++ lineAt form l (i + n)
+
+-- ---- how many decimal digits numbers of a list have
+
+-- a number of a list that can be written in decimal
+pub record Decimal (l : List ℕ) (i : ℕ) : Type 0 where
+  pub within : i < length l
+  pub few : i < mostNumbers
+  pub small : getD l i 0 < 10000000000
+
+-- n numbers, each `step` past the one before it
+unfoldable pub widthsOf : List ℕ → ℕ → ℕ → ℕ → ℕ
+widthsOf l from step zero = 0
+widthsOf l from step (suc n) = widthsOf l from step n + widthOf (getD l (from + step * n) 0)

@@ -1,20 +1,16 @@
-// The writers: a list is judged, measured, and written where there is room for it.
+// The writers: a list is judged, measured, and written where there is room for it. The lines of a form stand in runs of alike lines,
+// each of which is written by a loop of its own, so that the line's key is known there.
 ghost use mathlib.Core.Path.{_≡_};
-ghost use mathlib.Core.List.{_++_};
-ghost use mathlib.Core.Bool.{false};
-ghost use Prim.Native.Nat.{_+_, _≤_, _<_};
-ghost use lib.ListN.{length, drop};
+ghost use Prim.Native.Nat.{ℕ, _+_, _*_, _-_, _≤_, _<_};
+ghost use lib.ListN.{length};
 ghost use Rattle.model.specs.Outcome.{Outcome};
 ghost use Rattle.lists.specs.Answers.{done, withRoom, lent};
-ghost use Rattle.forms.specs.Slots.{keyBytes};
-ghost use Rattle.forms.specs.Form.{isHex, Sound, Whole};
-ghost use Rattle.forms.specs.Write.{digitChar, digitsIn, widthOf, baseOf, digitCount, lineOf, render};
-ghost use Rattle.writers.specs.Write.{placed};
+ghost use Rattle.lists.specs.Lists.{at as numberAt};
+ghost use Rattle.forms.specs.Form.{Whole, mostNumbers};
+ghost use Rattle.forms.specs.Write.{digitChar, digitsIn, widthOf, render};
+ghost use Rattle.writers.specs.Write.{Puts, decimalValue, decimalLine, hexLine, linesFrom, Decimal, widthsOf};
 ghost use Rattle.forms.specs.Named.{writeNetwork, writePlan};
-use forms::form;
-use forms::form::Field;
 use forms::form::Form;
-use forms::form::Range;
 use forms::judge;
 use lists::Answer;
 
@@ -26,76 +22,69 @@ fn width(v: u64) -> usize
     requires { ⌜ v < 10000000000 ⌝ }
     ensures { λ r. ⌜ (r ≡ widthOf v) × (r ≤ 10) ⌝ }
 {
-    if v < 10 {
-        return 1;
-    }
-    if v < 100 {
-        return 2;
-    }
-    if v < 1_000 {
-        return 3;
-    }
     if v < 10_000 {
-        return 4;
-    }
-    if v < 100_000 {
-        return 5;
-    }
-    if v < 1_000_000 {
-        return 6;
-    }
-    if v < 10_000_000 {
-        return 7;
+        return short_width(v);
     }
     if v < 100_000_000 {
-        return 8;
+        return 4 + short_width(v / 10_000);
     }
-    if v < 1_000_000_000 {
-        return 9;
-    }
-    10
+    8 + short_width(v / 100_000_000)
 }
 
-// How many digits a value has.
-fn digit_count(range: Range, v: u64) -> usize
-    requires { ⌜ (isHex range ≡ false → v < 10000000000) ⌝ }
-    ensures { λ r. ⌜ (r ≡ digitCount range v) × (r ≤ 16) ⌝ }
+fn short_width(v: u64) -> usize
+    requires { ⌜ v < 10000 ⌝ }
+    ensures { λ r. ⌜ (r ≡ widthOf v) × (r ≤ 4) ⌝ }
 {
-    if form::is_hex(range) { 16 } else { width(v) }
-}
-
-// How many bytes a line has.
-fn line_len(keys: &[u8], key: usize, range: Range, v: u64) -> usize
-    requires { ⌜ now keys ≡ keyBytes ⌝ }
-    requires { ⌜ (isHex range ≡ false → v < 10000000000) ⌝ }
-    ensures { λ r. ⌜ (r ≡ length (lineOf (Field.Line key range) v)) × (r ≤ 27) ⌝ }
-{
-    let name = form::key_part(keys, key);
-    name.len() + digit_count(range, v) + 1
-}
-
-// How many bytes a list is written as.
-fn measure(form: Form, keys: &[u8], list: &[u64]) -> usize
-    requires { ⌜ now keys ≡ keyBytes ⌝ }
-    requires { ⌜ Sound form (now list) ⌝ }
-    ensures { λ r. ⌜ r ≡ length (render form (now (list .entry))) ⌝ }
-{
-    let mut n: usize = 0;
-    let mut i: usize = 0;
-    while i < list.len() {
-        let field = form::field_after(form, &list[..i]);
-        let Field::Line(key, range) = field else {
-            return n;
-        };
-        n += line_len(keys, key, range, list[i]);
-        i += 1;
+    if v < 100 {
+        return if v < 10 { 1 } else { 2 };
     }
-    n
+    if v < 1_000 { 3 } else { 4 }
+}
+
+// How many decimal digits n numbers of a list have together, of which each is `step` past the one before it.
+fn widths(list: &[u64], from: usize, step: usize, n: usize) -> usize
+    requires { ⌜ (step ≤ 4) × (n ≤ mostNumbers) ⌝ }
+    requires { ⌜ ((k : ℕ) → k < n → Decimal (now list) (from + step * k)) ⌝ }
+    ensures { λ r. ⌜ (r ≡ widthsOf (now (list .entry)) from step n) × (r ≤ 10 * n) ⌝ }
+{
+    let mut sum: usize = 0;
+    let mut i = from;
+    let mut k: usize = 0;
+    while k < n {
+        sum += width(list[i]);
+        i += step;
+        k += 1;
+    }
+    sum
+}
+
+// How many bytes a network is written as: all that is not a decimal digit, and those.
+fn network_len(list: &[u64]) -> usize
+    requires { ⌜ Whole Form.Network (now list) ⌝ }
+    ensures { λ r. ⌜ r ≡ length (render Form.Network (now (list .entry))) ⌝ }
+{
+    let links = list[3] as usize;
+    let flows = list[4] as usize;
+    let tunnels = list[5] as usize;
+    let first = 6 + links + 2 * flows;
+    let fixed = 46 + 5 * links + 13 * flows + 37 * tunnels;
+    let head = widths(list, 0, 1, first);
+    let flow = widths(list, first, 4, tunnels);
+    let old = widths(list, first + 2, 4, tunnels);
+    let new = widths(list, first + 3, 4, tunnels);
+    fixed + head + flow + old + new
+}
+
+// The same for a plan.
+fn plan_len(list: &[u64]) -> usize
+    requires { ⌜ Whole Form.Plan (now list) ⌝ }
+    ensures { λ r. ⌜ r ≡ length (render Form.Plan (now (list .entry))) ⌝ }
+{
+    13 + 4 * list.len() + widths(list, 0, 1, list.len())
 }
 
 // How many bytes a list is written as, where that may be more than the room; else a number within it.
-fn needed(form: Form, keys: &[u8], list: &[u64], room: usize) -> usize
-    requires { ⌜ now keys ≡ keyBytes ⌝ }
+fn needed(form: Form, list: &[u64], room: usize) -> usize
     requires { ⌜ Whole form (now list) ⌝ }
     ensures { λ r. ⌜ (room < r → r ≡ length (render form (now (list .entry)))) ⌝ }
     ensures { λ r. ⌜ (r ≤ room → length (render form (now (list .entry))) ≤ room) ⌝ }
@@ -103,21 +92,99 @@ fn needed(form: Form, keys: &[u8], list: &[u64], room: usize) -> usize
     if BYTES <= room {
         return 0;
     }
-    measure(form, keys, list)
+    match form {
+        Form::Network => network_len(list),
+        Form::Plan => plan_len(list),
+    }
 }
 
-// Puts some bytes at a place.
-fn put(out: &mut [u8], at: usize, s: &[u8])
+// Puts some bytes at a place. This and the functions below answer the place past what they put.
+fn put(out: &mut [u8], at: usize, s: &[u8]) -> usize
     requires { ⌜ at + length (now s) ≤ length (now out) ⌝ }
-    ensures { λ _. ⌜ now (out .exit) ≡ placed (now (out .entry)) at (now (s .entry)) ⌝ }
+    ensures { λ r. ⌜ Puts (now (s .entry)) at (now (out .entry)) (now (out .exit)) r ⌝ }
 {
     let mut i: usize = 0;
     while i < s.len() {
         out[at + i] = s[i];
         i += 1;
     }
+    at + s.len()
 }
 
+// Puts a decimal digit.
+fn put_digit(out: &mut [u8], at: usize, x: u64) -> usize
+    requires { ⌜ x < 10 ⌝ }
+    requires { ⌜ at + 1 ≤ length (now out) ⌝ }
+    ensures { λ r. ⌜ Puts (digitsIn 10 1 x) at (now (out .entry)) (now (out .exit)) r ⌝ }
+{
+    out[at] = 48 + x as u8;
+    at + 1
+}
+
+fn put_two(out: &mut [u8], at: usize, x: u64) -> usize
+    requires { ⌜ x < 100 ⌝ }
+    requires { ⌜ at + 2 ≤ length (now out) ⌝ }
+    ensures { λ r. ⌜ Puts (digitsIn 10 2 x) at (now (out .entry)) (now (out .exit)) r ⌝ }
+{
+    let next = put_digit(out, at, x / 10);
+    put_digit(out, next, x % 10)
+}
+
+fn put_four(out: &mut [u8], at: usize, x: u64) -> usize
+    requires { ⌜ x < 10000 ⌝ }
+    requires { ⌜ at + 4 ≤ length (now out) ⌝ }
+    ensures { λ r. ⌜ Puts (digitsIn 10 4 x) at (now (out .entry)) (now (out .exit)) r ⌝ }
+{
+    let next = put_two(out, at, x / 100);
+    put_two(out, next, x % 100)
+}
+
+// Puts a number of at most 4 decimal digits.
+fn put_short(out: &mut [u8], at: usize, x: u64) -> usize
+    requires { ⌜ x < 10000 ⌝ }
+    requires { ⌜ at + widthOf x ≤ length (now out) ⌝ }
+    ensures { λ r. ⌜ Puts (digitsIn 10 (widthOf x) x) at (now (out .entry)) (now (out .exit)) r ⌝ }
+{
+    if x < 10 {
+        return put_digit(out, at, x);
+    }
+    if x < 100 {
+        return put_two(out, at, x);
+    }
+    if x < 1_000 {
+        let next = put_digit(out, at, x / 100);
+        return put_two(out, next, x % 100);
+    }
+    put_four(out, at, x)
+}
+
+// Puts a number of at most 8 decimal digits: the last 4 do not wait for the division that gives the others.
+fn put_medium(out: &mut [u8], at: usize, x: u64) -> usize
+    requires { ⌜ x < 100000000 ⌝ }
+    requires { ⌜ at + widthOf x ≤ length (now out) ⌝ }
+    ensures { λ r. ⌜ Puts (digitsIn 10 (widthOf x) x) at (now (out .entry)) (now (out .exit)) r ⌝ }
+{
+    if x < 10_000 {
+        return put_short(out, at, x);
+    }
+    let next = put_short(out, at, x / 10_000);
+    put_four(out, next, x % 10_000)
+}
+
+// Puts a number of at most 10 decimal digits.
+fn put_decimal(out: &mut [u8], at: usize, v: u64) -> usize
+    requires { ⌜ v < 10000000000 ⌝ }
+    requires { ⌜ at + widthOf v ≤ length (now out) ⌝ }
+    ensures { λ r. ⌜ Puts (digitsIn 10 (widthOf v) v) at (now (out .entry)) (now (out .exit)) r ⌝ }
+{
+    if v < 10_000 {
+        return put_short(out, at, v);
+    }
+    let next = put_medium(out, at, v / 10_000);
+    put_four(out, next, v % 10_000)
+}
+
+// The byte of a hexadecimal digit.
 fn digit_char(x: u64) -> u8
     requires { ⌜ x < 16 ⌝ }
     ensures { λ r. ⌜ r ≡ digitChar x ⌝ }
@@ -125,70 +192,173 @@ fn digit_char(x: u64) -> u8
     if x < 10 { 48 + x as u8 } else { 87 + x as u8 }
 }
 
-// Puts the last n digits of a number at a place, from the last to the first.
-fn put_digits(out: &mut [u8], at: usize, base: u64, n: usize, v: u64)
-    requires { ⌜ (0 < base) × (base ≤ 16) ⌝ }
-    requires { ⌜ at + n ≤ length (now out) ⌝ }
-    ensures { λ _. ⌜ now (out .exit) ≡ placed (now (out .entry)) at (digitsIn base n v) ⌝ }
+// Puts the 16 hexadecimal digits of a number, from the last to the first.
+fn put_hex(out: &mut [u8], at: usize, v: u64) -> usize
+    requires { ⌜ at + 16 ≤ length (now out) ⌝ }
+    ensures { λ r. ⌜ Puts (digitsIn 16 16 v) at (now (out .entry)) (now (out .exit)) r ⌝ }
 {
     let mut x = v;
-    let mut i = n;
+    let mut i: usize = 16;
     while 0 < i {
         i -= 1;
-        out[at + i] = digit_char(x % base);
-        x = x / base;
+        out[at + i] = digit_char(x % 16);
+        x = x / 16;
     }
+    at + 16
 }
 
-fn put_value(out: &mut [u8], at: usize, range: Range, n: usize, v: u64)
-    requires { ⌜ at + n ≤ length (now out) ⌝ }
-    ensures { λ _. ⌜ now (out .exit) ≡ placed (now (out .entry)) at (digitsIn (baseOf range) n v) ⌝ }
+// Puts a number of at most 10 decimal digits, and the line feed.
+fn put_value(out: &mut [u8], at: usize, v: u64) -> usize
+    requires { ⌜ v < 10000000000 ⌝ }
+    requires { ⌜ at + length (decimalValue v) ≤ length (now out) ⌝ }
+    ensures { λ r. ⌜ Puts (decimalValue v) at (now (out .entry)) (now (out .exit)) r ⌝ }
 {
-    if form::is_hex(range) {
-        put_digits(out, at, 16, n, v);
-    } else {
-        put_digits(out, at, 10, n, v);
-    }
-}
-
-// Puts a line, and answers the place past it.
-fn put_line(out: &mut [u8], at: usize, keys: &[u8], key: usize, range: Range, v: u64) -> usize
-    requires { ⌜ now keys ≡ keyBytes ⌝ }
-    requires { ⌜ (isHex range ≡ false → v < 10000000000) ⌝ }
-    requires { ⌜ at + length (lineOf (Field.Line key range) v) ≤ length (now out) ⌝ }
-    ensures { λ r. ⌜ r ≡ at + length (lineOf (Field.Line key range) v) ⌝ }
-    ensures { λ r. ⌜ now (out .exit) ≡ placed (now (out .entry)) at (lineOf (Field.Line key range) v) ⌝ }
-{
-    let name = form::key_part(keys, key);
-    let from = at + name.len();
-    let n = digit_count(range, v);
-    let end = from + n;
-    put(out, at, name);
-    put_value(out, from, range, n, v);
+    let end = put_decimal(out, at, v);
     out[end] = b'\n';
     end + 1
 }
 
-// Writes the lines of a list, and answers how many bytes they have.
-fn write_lines(form: Form, keys: &[u8], list: &[u64], out: &mut [u8]) -> usize
-    requires { ⌜ now keys ≡ keyBytes ⌝ }
-    requires { ⌜ Sound form (now list) ⌝ }
-    requires { ⌜ length (render form (now list)) ≤ length (now out) ⌝ }
-    ensures { λ r. ⌜ r ≡ length (render form (now (list .entry))) ⌝ }
-    ensures { λ r. ⌜ now (out .exit) ≡ render form (now (list .entry)) ++ drop (length (render form (now (list .entry)))) (now (out .entry)) ⌝ }
+// Puts a line whose number is decimal.
+fn put_line(out: &mut [u8], at: usize, key: &[u8], v: u64) -> usize
+    requires { ⌜ v < 10000000000 ⌝ }
+    requires { ⌜ at + length (decimalLine (now key) v) ≤ length (now out) ⌝ }
+    ensures { λ r. ⌜ Puts (decimalLine (now (key .entry)) v) at (now (out .entry)) (now (out .exit)) r ⌝ }
 {
-    let count = list.len();
-    let mut at: usize = 0;
-    let mut i: usize = 0;
-    while i < count {
-        let field = form::field_after(form, &list[..i]);
-        let Field::Line(key, range) = field else {
-            return at;
-        };
-        at = put_line(out, at, keys, key, range, list[i]);
-        i += 1;
+    let from = put(out, at, key);
+    put_value(out, from, v)
+}
+
+// Puts a line whose number is a set.
+fn put_set_line(out: &mut [u8], at: usize, key: &[u8], v: u64) -> usize
+    requires { ⌜ at + length (hexLine (now key) v) ≤ length (now out) ⌝ }
+    ensures { λ r. ⌜ Puts (hexLine (now (key .entry)) v) at (now (out .entry)) (now (out .exit)) r ⌝ }
+{
+    let from = put(out, at, key);
+    let end = put_hex(out, from, v);
+    out[end] = b'\n';
+    end + 1
+}
+
+// Puts the lines of a network that stand before those of its links.
+fn put_network_head(out: &mut [u8], list: &[u64]) -> usize
+    requires { ⌜ Whole Form.Network (now list) ⌝ }
+    requires { ⌜ length (linesFrom Form.Network (now list) 0 6) ≤ length (now out) ⌝ }
+    ensures { λ r. ⌜ Puts (linesFrom Form.Network (now (list .entry)) 0 6) 0 (now (out .entry)) (now (out .exit)) r ⌝ }
+{
+    let scratch = put_line(out, 0, b"net=", list[0]);
+    let overrun = put_line(out, scratch, b"scratch=", list[1]);
+    let links = put_line(out, overrun, b"overrun=", list[2]);
+    let flows = put_line(out, links, b"links=", list[3]);
+    let tunnels = put_line(out, flows, b"flows=", list[4]);
+    put_line(out, tunnels, b"tunnels=", list[5])
+}
+
+// Puts the lines of a network's links.
+fn put_links(out: &mut [u8], at: usize, list: &[u64]) -> usize
+    requires { ⌜ Whole Form.Network (now list) ⌝ }
+    requires { ⌜ at + length (linesFrom Form.Network (now list) 6 (numberAt (now list) 3)) ≤ length (now out) ⌝ }
+    ensures { λ r. ⌜ Puts (linesFrom Form.Network (now (list .entry)) 6 (numberAt (now (list .entry)) 3)) at (now (out .entry)) (now (out .exit)) r ⌝ }
+{
+    let links = list[3] as usize;
+    let mut p = at;
+    let mut k: usize = 0;
+    while k < links {
+        p = put_line(out, p, b"cap=", list[6 + k]);
+        k += 1;
     }
-    at
+    p
+}
+
+// Puts the lines of a network's flows.
+fn put_flows(out: &mut [u8], at: usize, list: &[u64]) -> usize
+    requires { ⌜ Whole Form.Network (now list) ⌝ }
+    requires { ⌜ at + length (linesFrom Form.Network (now list) (6 + numberAt (now list) 3) (2 * numberAt (now list) 4)) ≤ length (now out) ⌝ }
+    ensures { λ r. ⌜ Puts (linesFrom Form.Network (now (list .entry)) (6 + numberAt (now (list .entry)) 3) (2 * numberAt (now (list .entry)) 4)) at (now (out .entry)) (now (out .exit)) r ⌝ }
+{
+    let first = 6 + list[3] as usize;
+    let flows = list[4] as usize;
+    let mut p = at;
+    let mut f: usize = 0;
+    while f < flows {
+        let i = first + 2 * f;
+        let rate = put_line(out, p, b"class=", list[i]);
+        p = put_line(out, rate, b"rate=", list[i + 1]);
+        f += 1;
+    }
+    p
+}
+
+// Puts the lines of a network's tunnels.
+fn put_tunnels(out: &mut [u8], at: usize, list: &[u64]) -> usize
+    requires { ⌜ Whole Form.Network (now list) ⌝ }
+    requires { ⌜ at + length (linesFrom Form.Network (now list) (6 + numberAt (now list) 3 + 2 * numberAt (now list) 4) (4 * numberAt (now list) 5)) ≤ length (now out) ⌝ }
+    ensures { λ r. ⌜ Puts (linesFrom Form.Network (now (list .entry)) (6 + numberAt (now (list .entry)) 3 + 2 * numberAt (now (list .entry)) 4) (4 * numberAt (now (list .entry)) 5)) at (now (out .entry)) (now (out .exit)) r ⌝ }
+{
+    let first = 6 + list[3] as usize + 2 * list[4] as usize;
+    let tunnels = list[5] as usize;
+    let mut p = at;
+    let mut t: usize = 0;
+    while t < tunnels {
+        let i = first + 4 * t;
+        let via = put_line(out, p, b"flow=", list[i]);
+        let old = put_set_line(out, via, b"via=", list[i + 1]);
+        let new = put_line(out, old, b"old=", list[i + 2]);
+        p = put_line(out, new, b"new=", list[i + 3]);
+        t += 1;
+    }
+    p
+}
+
+// Puts a network.
+fn put_network(out: &mut [u8], list: &[u64]) -> usize
+    requires { ⌜ Whole Form.Network (now list) ⌝ }
+    requires { ⌜ length (render Form.Network (now list)) ≤ length (now out) ⌝ }
+    ensures { λ r. ⌜ Puts (render Form.Network (now (list .entry))) 0 (now (out .entry)) (now (out .exit)) r ⌝ }
+{
+    let links = put_network_head(out, list);
+    let flows = put_links(out, links, list);
+    let tunnels = put_flows(out, flows, list);
+    put_tunnels(out, tunnels, list)
+}
+
+// Puts the lines of a plan that stand before its rows.
+fn put_plan_head(out: &mut [u8], list: &[u64]) -> usize
+    requires { ⌜ Whole Form.Plan (now list) ⌝ }
+    requires { ⌜ length (linesFrom Form.Plan (now list) 0 4) ≤ length (now out) ⌝ }
+    ensures { λ r. ⌜ Puts (linesFrom Form.Plan (now (list .entry)) 0 4) 0 (now (out .entry)) (now (out .exit)) r ⌝ }
+{
+    let parts = put_line(out, 0, b"plan=", list[0]);
+    let steps = put_line(out, parts, b"parts=", list[1]);
+    let tunnels = put_line(out, steps, b"steps=", list[2]);
+    put_line(out, tunnels, b"tunnels=", list[3])
+}
+
+// Puts the rows of a plan. The key and the value are put by two calls, and not by `put_line`, so that the compiler sees a second caller
+// of `put_value`, leaves that a function by itself, and then has the key's bytes at hand wherever `put_line` is called.
+fn put_rows(out: &mut [u8], at: usize, list: &[u64]) -> usize
+    requires { ⌜ Whole Form.Plan (now list) ⌝ }
+    requires { ⌜ at + length (linesFrom Form.Plan (now list) 4 (length (now list) - 4)) ≤ length (now out) ⌝ }
+    ensures { λ r. ⌜ Puts (linesFrom Form.Plan (now (list .entry)) 4 (length (now (list .entry)) - 4)) at (now (out .entry)) (now (out .exit)) r ⌝ }
+{
+    let rows = list.len() - 4;
+    let mut p = at;
+    let mut k: usize = 0;
+    while k < rows {
+        let from = put(out, p, b"at=");
+        p = put_value(out, from, list[4 + k]);
+        k += 1;
+    }
+    p
+}
+
+// Puts a plan.
+fn put_plan(out: &mut [u8], list: &[u64]) -> usize
+    requires { ⌜ Whole Form.Plan (now list) ⌝ }
+    requires { ⌜ length (render Form.Plan (now list)) ≤ length (now out) ⌝ }
+    ensures { λ r. ⌜ Puts (render Form.Plan (now (list .entry))) 0 (now (out .entry)) (now (out .exit)) r ⌝ }
+{
+    let rows = put_plan_head(out, list);
+    put_rows(out, rows, list)
 }
 
 // Writes a list that is judged good, where there is room for it.
@@ -197,8 +367,7 @@ fn write_good(form: Form, list: &[u64], out: &mut [u8]) -> Answer
     ensures { λ r. ⌜ r ≡ done (withRoom (length (now (out .entry))) (Outcome.good (render form (now (list .entry))))) ⌝ }
     ensures { λ r. ⌜ now (out .exit) ≡ lent (withRoom (length (now (out .entry))) (Outcome.good (render form (now (list .entry))))) (now (out .entry)) ⌝ }
 {
-    let keys = form::KEYS;
-    let n = needed(form, &keys, list, out.len());
+    let n = needed(form, list, out.len());
     if out.len() < n {
         return Answer::Refused {
             number: 10,
@@ -206,8 +375,10 @@ fn write_good(form: Form, list: &[u64], out: &mut [u8]) -> Answer
             second: 0,
         };
     }
-    let end = write_lines(form, &keys, list, out);
-    Answer::Done(end)
+    match form {
+        Form::Network => Answer::Done(put_network(out, list)),
+        Form::Plan => Answer::Done(put_plan(out, list)),
+    }
 }
 
 // Writes the list of a network as a text.

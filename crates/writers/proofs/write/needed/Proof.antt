@@ -8,14 +8,39 @@ use Rattle.writers.proofs.write.needed.Tie as tie
 
 returns : tie.Need-returns
 returns c =
-    let s = c .before .before .before in
-    (λ h. absurd (omega arith), λ h. le-trans (render-short (s .args .form) (s .args .list .now) (s .pre .1)) (c .if1 .taken))
+    let s = c .before .before in
+    (λ h. absurd (omega arith), λ h. le-trans (render-short (s .args .form) (s .args .list .now) (s .pre)) (c .if1 .taken))
 
-measure-requires : tie.Need-measure-requires
-measure-requires c κs = search needs
+enum-told : tie.Need-enum-told
+enum-told c = search needs
+
+network-len-requires : tie.Need-network-len-requires
+network-len-requires c κs = rw (c .enum-told .given .1) at (c .before .before .before .before .pre)
+
+enum-told-2 : tie.Need-enum-told-2
+enum-told-2 c = search needs
+
+plan-len-requires : tie.Need-plan-len-requires
+plan-len-requires c κs = rw (c .enum-told2 .given .1) at (c .before .before .before .before .pre)
 
 returns-2 : tie.Need-returns-2
-returns-2 c = search needs
+returns-2 c =
+    let m = rw (← c .before .enum-told .given .1) at (c .network-len .ensures) in
+    (λ h. m, λ h. omega (arith, m))
+
+returns-3 : tie.Need-returns-3
+returns-3 c =
+    let m = rw (← c .before .enum-told2 .given .1) at (c .plan-len .ensures) in
+    (λ h. m, λ h. omega (arith, m))
 
 pub needed-spec : {M : Type 1} → statement M
-needed-spec = tie.close (tie.spec returns measure-requires returns-2)
+needed-spec =
+    tie.close
+    (tie.spec
+    returns
+    enum-told
+    network-len-requires
+    enum-told-2
+    plan-len-requires
+    returns-2
+    returns-3)

@@ -49,11 +49,16 @@ loop-again c =
       ),
     )
 
+add-result : tie.Need-add-result Inv-loop μ-loop
+add-result c = search needs
+
 same-length : tie.Need-same-length Inv-loop μ-loop
 same-length c = c .before .loop .inv .1 .0
 
 returns : tie.Need-returns Inv-loop μ-loop
-returns c = c .before .loop .inv .1 .1 ∙ rw (end c) (put-end (c .before .before .args .out .now) (c .before .before .args .at) _)
+returns c =
+    let a = c .before .before .args in
+    record { place = refl; bytes = c .before .loop .inv .1 .1 ∙ rw (end c) (put-end (a .out .now) (a .at) _) }
 
 pub put-spec : {M : Type 1} → statement M
 put-spec =
@@ -68,5 +73,6 @@ put-spec =
     add-i
     loop-less
     loop-again
+    add-result
     same-length
     returns)

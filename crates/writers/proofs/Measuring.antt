@@ -1,0 +1,191 @@
+-- How long the lines of a list are: all that is not a decimal digit, and those.
+use mathlib.Core.Path.{_≡_, refl, sym, ap, _∙_}
+use mathlib.Core.List.{List, [], _∷_, _++_}
+use Prim.Native.Nat.{ℕ, zero, suc, _+_, _*_, _-_, _/_, _%_, _≤_, _<_}
+use native.Mathlib.Numerals.{add-one}
+use native.Mathlib.Nat.{zero-add, one-mul, le-of-lt}
+use native.Mathlib.Decide.{decLt}
+use native.Mathlib.Omega.{arith}
+use lib.ListN.{length, getD, length-append}
+use Rattle.lists.specs.Lists.{at}
+use Rattle.forms.specs.Bytes.{bytes}
+use Rattle.forms.specs.Form.{Whole}
+use Rattle.forms.specs.Write.{digitsIn, widthOf, render}
+use Rattle.forms.specs.declared.form.Form.{Form}
+use Rattle.forms.specs.declared.form.Form.the-variants.{Network, Plan}
+use Rattle.forms.proofs.Good.{network-size, plan-size}
+use Rattle.forms.proofs.Numbers.{length-digits}
+use Rattle.writers.specs.Write.{lineAt, linesFrom, Decimal, widthsOf}
+use Rattle.writers.proofs.Runs.{DecimalAt, lines-none, lines-more, all-lines, network-head-line, cap-line, class-line, rate-line, flow-line, via-line, old-line, new-line, plan-head-line, at-line}
+
+module _ (l : List ℕ) (from step : ℕ) where
+  pub widths-none : widthsOf l from step 0 ≡ 0
+  unfolding widthsOf
+  widths-none = refl
+
+  pub widths-more : (n : ℕ) → widthsOf l from step (n + 1) ≡ widthsOf l from step n + widthOf (getD l (from + step * n) 0)
+  unfolding widthsOf
+  widths-more n = rw add-one
+
+-- ---- one line more
+
+module _ (form : Form) (l : List ℕ) where
+  -- the length of the first n lines, and the digits of the first n numbers
+  abbrev size : ℕ → ℕ
+  size n = length (linesFrom form l 0 n)
+
+  abbrev digits : ℕ → ℕ
+  digits n = widthsOf l 0 1 n
+
+  size-more : (n : ℕ) → size (n + 1) ≡ size n + length (lineAt form l n)
+  size-more n = ap length (rw zero-add at (lines-more form l 0 n)) ∙ length-append (linesFrom form l 0 n) (lineAt form l n)
+
+  decimal-length : (n : ℕ) (key : List ℕ) → DecimalAt form l n key → length (lineAt form l n) ≡ length key + widthOf (getD l n 0) + 1
+  decimal-length n key d =
+      let w = widthOf (getD l n 0) in
+      let v = digitsIn 10 (widthOf (getD l n 0)) (getD l n 0) in
+      omega (arith, ap length (d .line), length-append key (v ++ (10 ∷ [])), length-append v (10 ∷ []), length-digits 10 w (getD l n 0))
+
+  -- the first n lines are so long: a number, and their digits
+  abbrev Long : ℕ → ℕ → Type 0
+  Long n c = size n ≡ c + digits n
+
+  long-none : Long 0 0
+  long-none = omega (arith, ap length (lines-none form l 0), widths-none l 0 1)
+
+  long-more : (n n′ c c′ : ℕ) (key : List ℕ) → n′ ≡ n + 1 → c′ ≡ c + length key + 1 → DecimalAt form l n key → Long n c → Long n′ c′
+  long-more n n′ c c′ key e f d h =
+      let more : digits (n + 1) ≡ digits n + widthOf (getD l n 0) = rw (one-mul n, zero-add n) at (widths-more l 0 1 n) in
+      rw (e, f) (omega (arith, size-more n, decimal-length n key d, more))
+
+-- ---- the plan
+
+module _ (l : List ℕ) (w : Whole Plan l) where
+  plan-head-long : Long Plan l 4 29
+  plan-head-long =
+      let line = plan-head-line l w in
+      let one : Long Plan l 1 6 = long-more Plan l 0 1 0 6 (bytes "plan=") refl refl (line 0 _ _ (omega arith) refl refl) (long-none Plan l) in
+      let two : Long Plan l 2 13 = long-more Plan l 1 2 6 13 (bytes "parts=") refl refl (line 1 _ _ (omega arith) refl refl) one in
+      let three : Long Plan l 3 20 = long-more Plan l 2 3 13 20 (bytes "steps=") refl refl (line 2 _ _ (omega arith) refl refl) two in
+      long-more Plan l 3 4 20 29 (bytes "tunnels=") refl refl (line 3 _ _ (omega arith) refl refl) three
+
+  rows-long : (n : ℕ) → 4 + n ≤ length l → Long Plan l (4 + n) (29 + 4 * n)
+  rows-long zero h = plan-head-long
+  rows-long (suc n) h = long-more Plan l (4 + n) (4 + suc n) (29 + 4 * n) (29 + 4 * suc n) (bytes "at=") (omega arith) (omega arith) (at-line l w (4 + n) (omega arith) (omega arith)) (rows-long n (omega arith))
+
+  pub plan-length : length (render Plan l) ≡ 13 + 4 * length l + widthsOf l 0 1 (length l)
+  plan-length =
+      let e : 4 + (length l - 4) ≡ length l = omega (arith, plan-size l w) in
+      omega (arith, rw (e, all-lines Plan l) at (rows-long (length l - 4) (omega arith)))
+
+  plan-head-number : (i : ℕ) → i < 4 → Decimal l i
+  plan-head-number zero h = plan-head-line l w 0 _ _ h refl refl .number
+  plan-head-number (suc zero) h = plan-head-line l w 1 _ _ h refl refl .number
+  plan-head-number (suc (suc zero)) h = plan-head-line l w 2 _ _ h refl refl .number
+  plan-head-number (suc (suc (suc zero))) h = plan-head-line l w 3 _ _ h refl refl .number
+  plan-head-number (suc (suc (suc (suc i)))) h = absurd (omega arith)
+
+  -- all numbers of a plan are decimal
+  pub plan-number : (i : ℕ) → i < length l → Decimal l i
+  plan-number i h = go (decLt i 4)
+    where
+      go : Dec (i < 4) → Decimal l i
+      go (yes k) = plan-head-number i k
+      go (no k) = at-line l w i (omega arith) h .number
+
+-- ---- the network
+
+module _ (l : List ℕ) (w : Whole Network l) where
+  network-head-long : Long Network l 6 46
+  network-head-long =
+      let line = network-head-line l w in
+      let one : Long Network l 1 5 = long-more Network l 0 1 0 5 (bytes "net=") refl refl (line 0 _ _ (omega arith) refl refl) (long-none Network l) in
+      let two : Long Network l 2 14 = long-more Network l 1 2 5 14 (bytes "scratch=") refl refl (line 1 _ _ (omega arith) refl refl) one in
+      let three : Long Network l 3 23 = long-more Network l 2 3 14 23 (bytes "overrun=") refl refl (line 2 _ _ (omega arith) refl refl) two in
+      let four : Long Network l 4 30 = long-more Network l 3 4 23 30 (bytes "links=") refl refl (line 3 _ _ (omega arith) refl refl) three in
+      let five : Long Network l 5 37 = long-more Network l 4 5 30 37 (bytes "flows=") refl refl (line 4 _ _ (omega arith) refl refl) four in
+      long-more Network l 5 6 37 46 (bytes "tunnels=") refl refl (line 5 _ _ (omega arith) refl refl) five
+
+  links-long : (k : ℕ) → k ≤ at l 3 → Long Network l (6 + k) (46 + 5 * k)
+  links-long zero h = network-head-long
+  links-long (suc k) h = long-more Network l (6 + k) (6 + suc k) (46 + 5 * k) (46 + 5 * suc k) (bytes "cap=") (omega arith) (omega arith) (cap-line l w k (6 + k) h refl) (links-long k (le-of-lt h))
+
+  -- where the lines of flow f begin, and those of tunnel t; how many bytes before them are no decimal digit
+  abbrev flowsFrom : ℕ → ℕ
+  flowsFrom f = 6 + at l 3 + 2 * f
+
+  abbrev tunnelsFrom : ℕ → ℕ
+  tunnelsFrom t = 6 + at l 3 + 2 * at l 4 + 4 * t
+
+  flows-long : (f : ℕ) → f ≤ at l 4 → Long Network l (flowsFrom f) (46 + 5 * at l 3 + 13 * f)
+  flows-long zero h =
+      let e : flowsFrom 0 ≡ 6 + at l 3 = omega arith in
+      omega (arith, ap (size Network l) e, ap (digits Network l) e, links-long (at l 3) (omega arith))
+  flows-long (suc f) h =
+      let i : ℕ = 6 + at l 3 + 2 * f in
+      let c : ℕ = 46 + 5 * at l 3 + 13 * f in
+      long-more Network l (i + 1) (flowsFrom (suc f)) (c + 7) (46 + 5 * at l 3 + 13 * suc f) (bytes "rate=") (omega arith) (omega arith) (rate-line l w f (i + 1) h refl)
+      (long-more Network l i (i + 1) c (c + 7) (bytes "class=") refl (omega arith) (class-line l w f i h refl) (flows-long f (le-of-lt h)))
+
+  via-length : (t i : ℕ) → t < at l 5 → i ≡ 6 + at l 3 + 2 * at l 4 + 4 * t + 1 → length (lineAt Network l i) ≡ 21
+  via-length t i h e =
+      let d = digitsIn 16 16 (getD l i 0) in
+      omega (arith, ap length (via-line l w t i h e), length-append d (10 ∷ []), length-digits 16 16 (getD l i 0))
+
+  -- the tunnels: the digits of their flows, old and new amounts are counted apart
+  abbrev TunnelsLong : ℕ → Type 0
+  TunnelsLong t = size Network l (tunnelsFrom t)
+      ≡ 46 + 5 * at l 3 + 13 * at l 4 + 37 * t + widthsOf l 0 1 (flowsFrom (at l 4)) + widthsOf l (flowsFrom (at l 4)) 4 t + widthsOf l (flowsFrom (at l 4) + 2) 4 t + widthsOf l (flowsFrom (at l 4) + 3) 4 t
+
+  tunnels-none : TunnelsLong 0
+  tunnels-none =
+      let first = flowsFrom (at l 4) in
+      let e : tunnelsFrom 0 ≡ flowsFrom (at l 4) = omega arith in
+      omega (arith, ap (size Network l) e, flows-long (at l 4) (omega arith), widths-none l first 4, widths-none l (first + 2) 4, widths-none l (first + 3) 4)
+
+  tunnels-more : (t : ℕ) → t < at l 5 → TunnelsLong t → TunnelsLong (t + 1)
+  tunnels-more t h p =
+      let first = flowsFrom (at l 4) in
+      let i = tunnelsFrom t in
+      let e : tunnelsFrom t + 1 + 1 + 1 + 1 ≡ tunnelsFrom (t + 1) = omega arith in
+      let old : flowsFrom (at l 4) + 2 + 4 * t ≡ tunnelsFrom t + 1 + 1 = omega arith in
+      let new : flowsFrom (at l 4) + 3 + 4 * t ≡ tunnelsFrom t + 1 + 1 + 1 = omega arith in
+      let width : ℕ → ℕ = λ j. widthOf (getD l j 0) in
+      let flow-size = size-more Network l i ∙ ap (λ (n : ℕ). size Network l i + n) (decimal-length Network l i (bytes "flow=") (flow-line l w t i h refl)) in
+      let via-size = size-more Network l (i + 1) ∙ ap (λ (n : ℕ). size Network l (i + 1) + n) (via-length t (i + 1) h refl) in
+      let old-size = size-more Network l (i + 1 + 1) ∙ ap (λ (n : ℕ). size Network l (i + 1 + 1) + n) (decimal-length Network l (i + 1 + 1) (bytes "old=") (old-line l w t (i + 1 + 1) h (omega arith))) in
+      let new-size = size-more Network l (i + 1 + 1 + 1) ∙ ap (λ (n : ℕ). size Network l (i + 1 + 1 + 1) + n) (decimal-length Network l (i + 1 + 1 + 1) (bytes "new=") (new-line l w t (i + 1 + 1 + 1) h (omega arith))) in
+      omega (arith, flow-size, via-size, old-size, new-size, ap (size Network l) e, widths-more l first 4 t, widths-more l (first + 2) 4 t, widths-more l (first + 3) 4 t, ap width old, ap width new)
+
+  tunnels-long : (t : ℕ) → t ≤ at l 5 → TunnelsLong t
+  tunnels-long zero h = tunnels-none
+  tunnels-long (suc t) h = rw (add-one t) at (tunnels-more t h (tunnels-long t (le-of-lt h)))
+
+  pub network-length : length (render Network l)
+      ≡ 46 + 5 * at l 3 + 13 * at l 4 + 37 * at l 5 + widthsOf l 0 1 (flowsFrom (at l 4)) + widthsOf l (flowsFrom (at l 4)) 4 (at l 5) + widthsOf l (flowsFrom (at l 4) + 2) 4 (at l 5) + widthsOf l (flowsFrom (at l 4) + 3) 4 (at l 5)
+  network-length = sym (ap length (all-lines Network l)) ∙ ap (size Network l) (network-size l w) ∙ tunnels-long (at l 5) (omega arith)
+
+  network-head-number : (i : ℕ) → i < 6 → Decimal l i
+  network-head-number zero h = network-head-line l w 0 _ _ h refl refl .number
+  network-head-number (suc zero) h = network-head-line l w 1 _ _ h refl refl .number
+  network-head-number (suc (suc zero)) h = network-head-line l w 2 _ _ h refl refl .number
+  network-head-number (suc (suc (suc zero))) h = network-head-line l w 3 _ _ h refl refl .number
+  network-head-number (suc (suc (suc (suc zero)))) h = network-head-line l w 4 _ _ h refl refl .number
+  network-head-number (suc (suc (suc (suc (suc zero))))) h = network-head-line l w 5 _ _ h refl refl .number
+  network-head-number (suc (suc (suc (suc (suc (suc i)))))) h = absurd (omega arith)
+
+  -- the numbers before those of the tunnels are decimal
+  pub network-number : (i : ℕ) → i < flowsFrom (at l 4) → Decimal l i
+  network-number i h = head (decLt i 6)
+    where
+      flow : 6 + at l 3 ≤ i → Dec ((i - 6 - at l 3) % 2 < 1) → Decimal l i
+      flow k (yes e) = class-line l w ((i - 6 - at l 3) / 2) i (omega arith) (omega arith) .number
+      flow k (no e) = rate-line l w ((i - 6 - at l 3) / 2) i (omega arith) (omega arith) .number
+
+      link : 6 ≤ i → Dec (i < 6 + at l 3) → Decimal l i
+      link k (yes e) = cap-line l w (i - 6) i (omega arith) (omega arith) .number
+      link k (no e) = flow (omega arith) (decLt ((i - 6 - at l 3) % 2) 1)
+
+      head : Dec (i < 6) → Decimal l i
+      head (yes k) = network-head-number i k
+      head (no k) = link (omega arith) (decLt i (6 + at l 3))

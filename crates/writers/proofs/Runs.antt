@@ -1,0 +1,191 @@
+-- The lines of a list, from any on: what they are, and what is written of them after one more.
+use mathlib.Core.Path.{_≡_, refl, sym, ap, _∙_}
+use mathlib.Core.Bool.{false}
+use mathlib.Core.List.{List, [], _++_, append-assoc, append-nil}
+use Prim.Native.Nat.{ℕ, zero, suc, _+_, _*_, _-_, _≤_, _<_}
+use native.Mathlib.Nat.{add-zero, zero-add, add-suc, add-assoc, le-of-lt}
+use native.Mathlib.Numerals.{add-one}
+use native.Mathlib.Omega.{arith}
+use lib.ListN.{length, getD, take, drop, length-append, drop-of-length-le}
+use lib.Seq.{getD-take, length-take-le}
+use borrow.Author.Tests.{lt-ltb, le-ltb}
+use Rattle.model.specs.Limits.{mostAmount}
+use Rattle.lists.specs.Lists.{at}
+use Rattle.forms.specs.Bytes.{bytes}
+use Rattle.forms.specs.Keys.{prefixOf}
+use Rattle.forms.specs.Form.{fieldOf, isHex, Sound, Whole, networkHead, networkField, networkBody, planHead, planField, capLine, flowGroup, tunnelGroup}
+use Rattle.forms.specs.Write.{lineOf, render, renderFrom}
+use Rattle.forms.specs.declared.form.Form.{Form}
+use Rattle.forms.specs.declared.form.Form.the-variants.{Network, Plan}
+use Rattle.forms.specs.declared.form.Range.{Range}
+use Rattle.forms.specs.declared.form.Field.{Field}
+use Rattle.forms.specs.declared.form.Field.the-variants.{Line, End}
+use Rattle.forms.proofs.Forms.{body-cap, body-flow, body-tunnel, planBody, rowLines}
+use Rattle.forms.proofs.Good.{network-size, plan-size}
+use Rattle.forms.proofs.Rendering.{render-step, render-end, at-most, short-value}
+use Rattle.writers.specs.Write.{Puts, decimalLine, hexLine, lineAt, linesFrom, Decimal}
+use Rattle.writers.proofs.Writing.{puts-none, then-fits, then-puts}
+
+-- ---- lines one after the other
+
+module _ (form : Form) (l : List ℕ) where
+  pub lines-none : (i : ℕ) → linesFrom form l i 0 ≡ []
+  unfolding linesFrom
+  lines-none i = refl
+
+  pub lines-more : (i n : ℕ) → linesFrom form l i (n + 1) ≡ linesFrom form l i n ++ lineAt form l (i + n)
+  unfolding linesFrom
+  lines-more i n = rw add-one
+
+  pub lines-join : (i m n : ℕ) → linesFrom form l i m ++ linesFrom form l (i + m) n ≡ linesFrom form l i (m + n)
+  unfolding linesFrom
+  lines-join i m zero = rw add-zero (append-nil (linesFrom form l i m))
+  lines-join i m (suc n) =
+      rw (add-suc m n, ← append-assoc (linesFrom form l i m) (linesFrom form l (i + m) n) (lineAt form l (i + m + n)), lines-join i m n, add-assoc i m n)
+
+  -- fewer lines are not longer
+  pub lines-mono : (i m n : ℕ) → m ≤ n → length (linesFrom form l i m) ≤ length (linesFrom form l i n)
+  lines-mono i m n h =
+      let e : m + (n - m) ≡ n = omega arith in
+      omega (arith, length-append (linesFrom form l i m) (linesFrom form l (i + m) (n - m)), ap length (lines-join i m (n - m)), ap (λ (k : ℕ). length (linesFrom form l i k)) e)
+
+  -- all of them are what the list is written as
+  so-far : (n : ℕ) → n ≤ length l → linesFrom form l 0 n ++ renderFrom form (take n l) (drop n l) ≡ render form l
+  unfolding linesFrom render lineAt
+  so-far zero h = refl
+  so-far (suc n) h =
+      rw (zero-add n, append-assoc (linesFrom form l 0 n) (lineOf (fieldOf form (take n l)) (getD l n 0)))
+      (ap (λ (t : List ℕ). linesFrom form l 0 n ++ t) (sym (rw add-one at (render-step form l n h))) ∙ so-far n (le-of-lt h))
+
+  pub all-lines : linesFrom form l 0 (length l) ≡ render form l
+  all-lines =
+      let here : length l ≤ length l = omega arith in
+      sym (append-nil (linesFrom form l 0 (length l))) ∙ rw (← render-end form (take (length l) l) l (length l) here) (so-far (length l) here)
+
+-- where there is room for n lines, there is for m of them
+pub run-within : (form : Form) (l : List ℕ) (i m n at : ℕ) (out : List ℕ) → m ≤ n → at + length (linesFrom form l i n) ≤ length out → at + length (linesFrom form l i m) ≤ length out
+run-within form l i m n at out h fits = omega (arith, lines-mono form l i m n h)
+
+-- n lines from i on are written from a place on, of which m are
+module _ (form : Form) (l : List ℕ) (i n : ℕ) {at : ℕ} {out : List ℕ} (fits : at + length (linesFrom form l i n) ≤ length out) where
+  pub run-starts : Puts (linesFrom form l i 0) at out out at
+  run-starts = rw (lines-none form l i) (puts-none at out)
+
+  -- and the next, at j
+  module _ (m j : ℕ) (less : m < n) (same : j ≡ i + m) {line : List ℕ} (e : lineAt form l j ≡ line) {out₁ : List ℕ} {a : ℕ}
+      (p : Puts (linesFrom form l i m) at out out₁ a) where
+    with-line : linesFrom form l i (m + 1) ≡ linesFrom form l i m ++ line
+    with-line = lines-more form l i m ∙ ap (λ (t : List ℕ). linesFrom form l i m ++ t) (rw same at e)
+
+    more-fits : at + length (linesFrom form l i m ++ line) ≤ length out
+    more-fits = omega (arith, run-within form l i (m + 1) n at out (omega arith) fits, ap length with-line)
+
+    pub next-fits : a + length line ≤ length out₁
+    next-fits = then-fits line more-fits p
+
+    pub next-put : (m′ : ℕ) → m′ ≡ m + 1 → {out₂ : List ℕ} {b : ℕ} → Puts line a out₁ out₂ b → Puts (linesFrom form l i m′) at out out₂ b
+    next-put m′ k q = rw (k, with-line) (then-puts more-fits p q)
+
+-- where there is room for the whole text, there is for its first m lines
+pub front-fits : (form : Form) (l : List ℕ) (m : ℕ) (out : List ℕ) → length (render form l) ≤ length out → m ≤ length l → length (linesFrom form l 0 m) ≤ length out
+front-fits form l m out fits within = omega (arith, lines-mono form l 0 m (length l) within, ap length (all-lines form l))
+
+-- the first m lines are written from the front on, and then n more
+module _ (form : Form) (l : List ℕ) (m n : ℕ) {out out₁ : List ℕ} {a : ℕ} (fits : length (render form l) ≤ length out) (within : m + n ≤ length l)
+    (p : Puts (linesFrom form l 0 m) 0 out out₁ a) where
+  joined : linesFrom form l 0 m ++ linesFrom form l m n ≡ linesFrom form l 0 (m + n)
+  joined = rw (zero-add m) at (lines-join form l 0 m n)
+
+  joined-fits : 0 + length (linesFrom form l 0 m ++ linesFrom form l m n) ≤ length out
+  joined-fits = omega (arith, ap length joined, front-fits form l (m + n) out fits within)
+
+  pub rest-fits : a + length (linesFrom form l m n) ≤ length out₁
+  rest-fits = then-fits (linesFrom form l m n) joined-fits p
+
+  pub rest-put : {out₂ : List ℕ} {b : ℕ} → Puts (linesFrom form l m n) a out₁ out₂ b → Puts (linesFrom form l 0 (m + n)) 0 out out₂ b
+  rest-put q = rw joined at (then-puts joined-fits p q)
+
+-- ---- which line stands where
+
+-- a decimal line, by what stands before its number
+pub record DecimalAt (form : Form) (l : List ℕ) (i : ℕ) (key : List ℕ) : Type 0 where
+  pub line : lineAt form l i ≡ decimalLine key (getD l i 0)
+  pub number : Decimal l i
+
+decimal-at : (form : Form) (l : List ℕ) (i k : ℕ) (r : Range) → Sound form l → i < length l → fieldOf form (take i l) ≡ Line k r → isHex r ≡ false → DecimalAt form l i (prefixOf k)
+unfolding lineAt
+decimal-at form l i k r s h e x =
+    record {
+      line = rw (e, x);
+      number = record { within = h; few = at-most form l i h s; small = short-value form l i h s k r e x };
+    }
+
+module _ (l : List ℕ) (w : Whole Network l) where
+  network-head-field : (i : ℕ) → i < 6 → fieldOf Network (take i l) ≡ networkHead i
+  unfolding fieldOf networkField
+  network-head-field i h =
+      let n : length (take i l) ≡ i = length-take-le i l (omega (arith, network-size l w)) in
+      rw (n, lt-ltb i 6 h)
+
+  network-body-field : (n i : ℕ) → i ≡ 6 + n → i ≤ length l → fieldOf Network (take i l) ≡ networkBody (at l 3) (at l 4) (at l 5) n
+  unfolding fieldOf networkField
+  network-body-field n i e h =
+      let m : length (take i l) ≡ i = length-take-le i l h in
+      let k : 6 ≤ i = omega arith in
+      let d : i - 6 ≡ n = omega arith in
+      rw (m, le-ltb i 6 k, getD-take i l 3 0 (omega arith), getD-take i l 4 0 (omega arith), getD-take i l 5 0 (omega arith), d)
+
+  pub network-head-line : (i k : ℕ) (r : Range) → i < 6 → networkHead i ≡ Line k r → isHex r ≡ false → DecimalAt Network l i (prefixOf k)
+  network-head-line i k r h e x = decimal-at Network l i k r (w .sound) (omega (arith, network-size l w)) (network-head-field i h ∙ e) x
+
+  pub cap-line : (k i : ℕ) → k < at l 3 → i ≡ 6 + k → DecimalAt Network l i (bytes "cap=")
+  cap-line k i h e =
+      let within : i < length l = omega (arith, network-size l w) in
+      decimal-at Network l i _ _ (w .sound) within (network-body-field k i e (le-of-lt within) ∙ body-cap (at l 3) (at l 4) (at l 5) k h) refl
+
+  flow-field : (f j i : ℕ) → f < at l 4 → j < 2 → i ≡ 6 + at l 3 + 2 * f + j → fieldOf Network (take i l) ≡ flowGroup j
+  flow-field f j i h k e =
+      network-body-field (at l 3 + 2 * f + j) i (omega arith) (omega (arith, network-size l w)) ∙ body-flow (at l 3) (at l 4) (at l 5) f j h k
+
+  pub class-line : (f i : ℕ) → f < at l 4 → i ≡ 6 + at l 3 + 2 * f → DecimalAt Network l i (bytes "class=")
+  class-line f i h e = decimal-at Network l i _ _ (w .sound) (omega (arith, network-size l w)) (flow-field f 0 i h (omega arith) (omega arith)) refl
+
+  pub rate-line : (f i : ℕ) → f < at l 4 → i ≡ 6 + at l 3 + 2 * f + 1 → DecimalAt Network l i (bytes "rate=")
+  rate-line f i h e = decimal-at Network l i _ _ (w .sound) (omega (arith, network-size l w)) (flow-field f 1 i h (omega arith) e) refl
+
+  tunnel-field : (t j i : ℕ) → t < at l 5 → j < 4 → i ≡ 6 + at l 3 + 2 * at l 4 + 4 * t + j → fieldOf Network (take i l) ≡ tunnelGroup (at l 3) (at l 4) j
+  tunnel-field t j i h k e =
+      network-body-field (at l 3 + 2 * at l 4 + 4 * t + j) i (omega arith) (omega (arith, network-size l w)) ∙ body-tunnel (at l 3) (at l 4) (at l 5) t j h k
+
+  pub flow-line : (t i : ℕ) → t < at l 5 → i ≡ 6 + at l 3 + 2 * at l 4 + 4 * t → DecimalAt Network l i (bytes "flow=")
+  flow-line t i h e = decimal-at Network l i _ _ (w .sound) (omega (arith, network-size l w)) (tunnel-field t 0 i h (omega arith) (omega arith)) refl
+
+  pub via-line : (t i : ℕ) → t < at l 5 → i ≡ 6 + at l 3 + 2 * at l 4 + 4 * t + 1 → lineAt Network l i ≡ hexLine (bytes "via=") (getD l i 0)
+  unfolding lineAt
+  via-line t i h e = rw (tunnel-field t 1 i h (omega arith) e)
+
+  pub old-line : (t i : ℕ) → t < at l 5 → i ≡ 6 + at l 3 + 2 * at l 4 + 4 * t + 2 → DecimalAt Network l i (bytes "old=")
+  old-line t i h e = decimal-at Network l i _ _ (w .sound) (omega (arith, network-size l w)) (tunnel-field t 2 i h (omega arith) e) refl
+
+  pub new-line : (t i : ℕ) → t < at l 5 → i ≡ 6 + at l 3 + 2 * at l 4 + 4 * t + 3 → DecimalAt Network l i (bytes "new=")
+  new-line t i h e = decimal-at Network l i _ _ (w .sound) (omega (arith, network-size l w)) (tunnel-field t 3 i h (omega arith) e) refl
+
+module _ (l : List ℕ) (w : Whole Plan l) where
+  plan-head-field : (i : ℕ) → i < 4 → fieldOf Plan (take i l) ≡ planHead i
+  unfolding fieldOf planField
+  plan-head-field i h =
+      let n : length (take i l) ≡ i = length-take-le i l (omega (arith, plan-size l w)) in
+      rw (n, lt-ltb i 4 h)
+
+  pub plan-head-line : (i k : ℕ) (r : Range) → i < 4 → planHead i ≡ Line k r → isHex r ≡ false → DecimalAt Plan l i (prefixOf k)
+  plan-head-line i k r h e x = decimal-at Plan l i k r (w .sound) (omega (arith, plan-size l w)) (plan-head-field i h ∙ e) x
+
+  row-field : (i : ℕ) → 4 ≤ i → i < length l → fieldOf Plan (take i l) ≡ planBody l (i - 4)
+  unfolding fieldOf planField
+  row-field i four h =
+      rw (length-take-le i l (le-of-lt h), le-ltb i 4 four, getD-take i l 1 0 (omega arith), getD-take i l 2 0 (omega arith), getD-take i l 3 0 (omega arith))
+
+  pub at-line : (i : ℕ) → 4 ≤ i → i < length l → DecimalAt Plan l i (bytes "at=")
+  at-line i four h =
+      let n : i - 4 < rowLines l = omega (arith, plan-size l w) in
+      decimal-at Plan l i _ _ (w .sound) h (rw (lt-ltb (i - 4) (rowLines l) n) at (row-field i four h)) refl
