@@ -27,13 +27,13 @@ use Rattle.readers.proofs.Lines.{lines-some, line-some, line-within}
 
 -- ---- the value of a line
 
-pub value-none : (o : Option ℕ) → valueOf o ≡ Malformed → o ≡ none
-value-none none e = refl
-value-none (some v) e = let z : _≡_ {A = ℕ} 0 1 = cc in absurd (omega arith)
+pub value-none : (o : Option ℕ) (n : ℕ) → valueOf o n ≡ Malformed → o ≡ none
+value-none none n e = refl
+value-none (some v) n e = let z : _≡_ {A = ℕ} 0 1 = cc in absurd (omega arith)
 
-pub value-some : (o : Option ℕ) (v : ℕ) → valueOf o ≡ Is v → o ≡ some v
-value-some none v e = let z : _≡_ {A = ℕ} 0 1 = cc in absurd (omega arith)
-value-some (some w) v e = let k : w ≡ v = cc in ap some k
+pub value-some : (o : Option ℕ) (n v next : ℕ) → valueOf o n ≡ Is v next → (o ≡ some v) × (n ≡ next)
+value-some none n v next e = let z : _≡_ {A = ℕ} 0 1 = cc in absurd (omega arith)
+value-some (some w) n v next e = let k : w ≡ v = cc in (ap some k, cc)
 
 -- ---- what is taken
 

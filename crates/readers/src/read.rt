@@ -34,12 +34,10 @@ fn take_line(keys: &[u8], text: &[u8], at: usize, key: usize, range: Range) -> T
         return Taken::Stop(3);
     }
     let name = form::key_part(keys, key);
-    let d = line::digits(text, at, name);
-    let Value::Is(v) = line::parse(d, form::is_hex(range)) else {
+    let Value::Is(v, next) = line::parse(text, at, name, form::is_hex(range)) else {
         return Taken::Stop(1);
     };
     if form::admits(range, v) {
-        let next = at + name.len() + d.len() + 1;
         Taken::Number(v, next)
     } else {
         Taken::Stop(2)
