@@ -108,17 +108,17 @@ fn hexadecimal(text: &[u8], from: usize) -> Value
     if text.len() - from < 17 {
         return Value::Malformed;
     }
-    let to = from + 16;
     let mut v: u64 = 0;
-    let mut i = from;
-    while i < to {
-        let x = digit(text[i]);
+    let mut i: usize = 0;
+    while i < 16 {
+        let x = digit(text[from + i]);
         if 16 <= x {
             return Value::Malformed;
         }
         v = v * 16 + x;
         i += 1;
     }
+    let to = from + 16;
     if text[to] != b'\n' {
         return Value::Malformed;
     }

@@ -2,7 +2,7 @@
 use Prim.Native.Nat.{_+_, _*_, _-_, _^_, _≤_, _<_}
 use mathlib.Core.Path.{_≡_, sym}
 use native.Mathlib.Omega.{arith}
-use native.Mathlib.Nat.{le-refl}
+use native.Mathlib.Nat.{le-refl, add-zero, add-assoc}
 use lib.Dec.{lit≤}
 use lib.ListN.{length}
 use Rattle.readers.specs.Line.{DigitsTo}
@@ -12,10 +12,10 @@ use Rattle.readers.proofs.line.hexadecimal.Statement.{statement}
 use Rattle.readers.proofs.line.hexadecimal.Tie as tie
 
 abbrev Inv-loop : tie.InvT-loop
-Inv-loop text from to v₀ i₀ v i = record { digits : DigitsTo 16 text from v i; upto : i ≤ from + 16 }
+Inv-loop text from v₀ i₀ v i = record { digits : DigitsTo 16 text from v (from + i); upto : i ≤ 16 }
 
 abbrev μ-loop : tie.MeasureT-loop
-μ-loop text from to v₀ i₀ v i = from + 16 - i
+μ-loop text from v₀ i₀ v i = 16 - i
 
 -- the text has room for 16 digits and a line feed
 module _ (c : tie.At-loop Inv-loop μ-loop) where
@@ -33,16 +33,16 @@ module _ (c : tie.After-digit Inv-loop μ-loop) where
   abbrev head : tie.At-loop Inv-loop μ-loop
   head = turn .before
 
-  within : head .loop .i < length (begin head .args .text .now)
+  within : begin head .args .from + head .loop .i < length (begin head .args .text .now)
   within = omega (arith, turn .loop-test .taken, fits head)
 
   room : c .digit .result < 16 → head .loop .v * 16 + c .digit .result < 2 ^ 64
-  room h = digit-room 16 _ _ _ _ _ (head .loop .inv .digits) within (sym (c .digit .ensures)) h 16 (turn .loop-test .taken) (lit≤ tt) (le-refl _)
+  room h = digit-room 16 _ _ _ _ _ (head .loop .inv .digits) within (sym (c .digit .ensures)) h 16 (omega (arith, turn .loop-test .taken)) (lit≤ tt) (le-refl _)
 
 -- all 16 are
 whole : (c : tie.After-loop Inv-loop μ-loop) → DigitsTo 16 (begin (c .before) .args .text .now) (begin (c .before) .args .from) (c .before .loop .v) (begin (c .before) .args .from + 16)
 whole c =
-    let e : c .before .loop .i ≡ begin (c .before) .args .from + 16 = omega (arith, c .before .loop .inv .upto, c .loop-test .left) in
+    let e : c .before .loop .i ≡ 16 = omega (arith, c .before .loop .inv .upto, c .loop-test .left) in
     rw e at (c .before .loop .inv .digits)
 
 sub-if1 : tie.Need-sub-if1 Inv-loop μ-loop
@@ -51,11 +51,11 @@ sub-if1 c = search needs
 returns : tie.Need-returns Inv-loop μ-loop
 returns c = rw (hex-short _ _ (c .if1 .taken))
 
-add-to : tie.Need-add-to Inv-loop μ-loop
-add-to c = search needs
-
 loop-holds : tie.Need-loop-holds Inv-loop μ-loop
-loop-holds c = record { digits = digits-start 16 _ _ (c .before .before .pre); upto = omega arith }
+loop-holds c = record { digits = rw add-zero (digits-start 16 _ _ (c .before .before .pre)); upto = omega arith }
+
+add-digit : tie.Need-add-digit Inv-loop μ-loop
+add-digit c = search needs
 
 shared-slice-read-digit : tie.Need-shared-slice-read-digit Inv-loop μ-loop
 shared-slice-read-digit c = search needs
@@ -66,7 +66,7 @@ digit-requires c κs = search needs
 returns-2 : tie.Need-returns-2 Inv-loop μ-loop
 returns-2 c =
     let b = c .before in
-    rw (hex-other _ _ _ _ (head b .loop .inv .digits) (within b) (turn b .loop-test .taken) (rw (← b .digit .ensures) (c .if2 .taken)))
+    rw (hex-other _ _ _ _ (head b .loop .inv .digits) (within b) (omega (arith, turn b .loop-test .taken)) (rw (← b .digit .ensures) (c .if2 .taken)))
 
 mul-v : tie.Need-mul-v Inv-loop μ-loop
 mul-v c = omega (arith, room (c .before) (c .if2 .left))
@@ -84,9 +84,12 @@ loop-again : tie.Need-loop-again Inv-loop μ-loop
 loop-again c =
     let b = c .before in
     record {
-      digits = digits-more 16 _ _ _ _ _ (head b .loop .inv .digits) (within b) (sym (b .digit .ensures)) (c .if2 .left) (le-refl _);
+      digits = rw (← add-assoc (begin (head b) .args .from) (head b .loop .i) 1) (digits-more 16 _ _ _ _ _ (head b .loop .inv .digits) (within b) (sym (b .digit .ensures)) (c .if2 .left) (le-refl _));
       upto = omega (arith, turn b .loop-test .taken);
     }
+
+add-to : tie.Need-add-to Inv-loop μ-loop
+add-to c = search needs
 
 shared-slice-read-if3 : tie.Need-shared-slice-read-if3 Inv-loop μ-loop
 shared-slice-read-if3 c = fits (c .before .before)
@@ -110,8 +113,8 @@ hexadecimal-spec =
     μ-loop
     sub-if1
     returns
-    add-to
     loop-holds
+    add-digit
     shared-slice-read-digit
     digit-requires
     returns-2
@@ -120,6 +123,7 @@ hexadecimal-spec =
     add-i
     loop-less
     loop-again
+    add-to
     shared-slice-read-if3
     returns-3
     add-next
