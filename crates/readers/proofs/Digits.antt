@@ -1,6 +1,6 @@
 -- Laws of the digits after a key: what the digits so far come to, and what the line's value is, by the byte after them.
-use mathlib.Core.Path.{_≡_, refl, ap, _∙_}
-use mathlib.Core.Logic.{_⊎_, inl, inr, ⊎-elim}
+use mathlib.Core.Path.{_≡_, refl, sym, ap, _∙_}
+use mathlib.Core.Logic.{_⊎_, ⊎-elim}
 use mathlib.Core.Bool.{Bool, true, false, cond}
 use mathlib.Core.List.{List, [], _∷_, _++_}
 use mathlib.Core.Option.{Option, none, some}
@@ -11,13 +11,15 @@ use native.Mathlib.Omega.{arith}
 use native.Mathlib.Nat.{add-zero, sub-self, pow-zero, pow-suc, pow-le-pow-right, lt-of-lt-of-le, le-trans, le-refl}
 use lib.Dec.{eqb, ltb, leb}
 use lib.Arith.{digits-lt}
-use lib.ListN.{length, getD, take, drop, drop-of-length-le, length-drop}
+use lib.ListN.{length, getD, take, drop, drop-of-length-le, length-drop, length-take}
 use lib.Seq.{take-all, length-take-le, getD-take, getD-drop}
 use borrow.Author.Tests.{eq-eqb, ne-eqb, eqb-true, eqb-false, lt-ltb, le-ltb, lt-leb, le-leb, ltb-false, leb-true}
 use Rattle.forms.specs.Line.{beforeFeed, digitOf, numberFrom, decimalOf, hexOf}
 use Rattle.forms.proofs.Lines.{own-feed}
+use Rattle.forms.proofs.Numbers.{some-digits}
 use Rattle.forms.proofs.Walks.{step}
-use Rattle.readers.specs.Line.{lineLen, firstLine, bytesBefore, unfed, DigitsTo, Leading}
+use Rattle.readers.specs.Line.{lineLen, firstLine, bytesBefore, unfed, valueAt, numberOf, valueOf, DigitsTo, Leading, ParsedAs, Parsed}
+use Rattle.readers.specs.declared.line.Value.the-variants.{Is, Malformed}
 
 -- ---- the byte at i: a line feed, another byte, or none
 
@@ -127,16 +129,6 @@ feed-first (b ∷ t) h = go (eqb b 10) refl h (feed-first t)
     go true e h f = ap (λ (x : ℕ). x ∷ []) (eqb-true b 10 e)
     go false e h f = ap (λ (x : List ℕ). b ∷ x) (f (omega arith))
 
-line-closed : (t : List ℕ) → bytesBefore t < length t → lineLen t ≡ suc (bytesBefore t)
-unfolding bytesBefore lineLen
-line-closed [] h = absurd (omega arith)
-line-closed (b ∷ t) h = go (eqb b 10) h (line-closed t)
-  where
-    go : (e : Bool) → cond e 0 (suc (bytesBefore t)) < suc (length t) → (bytesBefore t < length t → lineLen t ≡ suc (bytesBefore t))
-        → cond e 1 (suc (lineLen t)) ≡ suc (cond e 0 (suc (bytesBefore t)))
-    go true h f = refl
-    go false h f = ap suc (f (omega arith))
-
 -- and one without is the whole text, and has none
 feedless : (t : List ℕ) (i : ℕ) → i < bytesBefore t → getD t i 0 ≡ 10 → ⊥
 unfolding bytesBefore
@@ -167,7 +159,7 @@ open-line [] h = open-none
 open-line (b ∷ t) h =
     rw (take-all (lineLen (b ∷ t)) (b ∷ t) (whole-line (b ∷ t) h), ne-eqb (getD (b ∷ t) (suc (length t) - 1) 0) 10 (feedless (b ∷ t) (suc (length t) - 1) (omega arith)))
 
-pub no-digits : (hex : Bool) → cond hex (hexOf []) (decimalOf []) ≡ none
+pub no-digits : (hex : Bool) → numberOf hex [] ≡ none
 unfolding hexOf decimalOf
 no-digits true = refl
 no-digits false = refl
@@ -176,20 +168,29 @@ no-digits false = refl
 part-closed : (t : List ℕ) → bytesBefore t < length t → beforeFeed (firstLine t) ≡ unfed t
 part-closed t h = rw (feed-first t h) (own-feed (unfed t))
 
-part-none : (t : List ℕ) (number : List ℕ → Option ℕ) → number [] ≡ none → (bytesBefore t < length t → length (unfed t) ≡ bytesBefore t → number (unfed t) ≡ none)
-    → number (beforeFeed (firstLine t)) ≡ none
-part-none t number e f = go (decLt (bytesBefore t) (length t))
+by-part : (t : List ℕ) (P : List ℕ → Type 0) → P [] → (bytesBefore t < length t → length (unfed t) ≡ bytesBefore t → P (unfed t)) → P (beforeFeed (firstLine t))
+by-part t P e f = go (decLt (bytesBefore t) (length t))
   where
-    go : Dec (bytesBefore t < length t) → number (beforeFeed (firstLine t)) ≡ none
+    go : Dec (bytesBefore t < length t) → P (beforeFeed (firstLine t))
     go (yes h) = rw (part-closed t h) (f h (length-take-le (bytesBefore t) t (omega arith)))
     go (no h) = rw (open-line t (omega arith)) e
 
+-- the value is a part of the text
+module _ (text : List ℕ) (from : ℕ) where
+  pub value-first : take (length (valueAt text from)) (drop from text) ≡ valueAt text from
+  value-first = by-part (drop from text) (λ d. take (length d) (drop from text) ≡ d) refl (λ h s. rw s)
+
+  pub value-fits : length (valueAt text from) ≤ length text - from
+  value-fits =
+      let e : length (take (length (valueAt text from)) (drop from text)) ≡ length (valueAt text from) = ap length value-first in
+      omega (arith, simp (length-take, length-drop) at e)
+
 -- digits and then a line feed
 pub record Closed (base : ℕ) (text : List ℕ) (from v i : ℕ) : Type 0 where
-  pub part : beforeFeed (firstLine (drop from text)) ≡ unfed (drop from text)
+  pub part : valueAt text from ≡ unfed (drop from text)
   pub count : length (unfed (drop from text)) ≡ i - from
   pub number : numberFrom base 0 (unfed (drop from text)) ≡ some v
-  pub next : from + lineLen (drop from text) ≡ i + 1
+  pub ends : from + length (valueAt text from) ≡ i
 
 pub closed : (base : ℕ) (text : List ℕ) (from v i : ℕ) → DigitsTo base text from v i → i < length text → getD text i 0 ≡ 10 → Closed base text from v i
 closed base text from v i d h e =
@@ -201,7 +202,7 @@ closed base text from v i d h e =
       part = part-closed t k;
       count = omega arith;
       number = d .number ∙ digits-end text i h base v e;
-      next = omega (arith, line-closed t k);
+      ends = rw (part-closed t k) (omega arith);
     }
 
 -- ---- in decimal
@@ -222,18 +223,15 @@ unfolding decimalOf
 decimal-long d h = rw (ne-eqb (length d) 0 (λ e. omega arith), lt-ltb 10 (length d) h)
 
 module _ (text : List ℕ) (from v to : ℕ) (r : Leading text from v to) where
-  abbrev pub part : List ℕ
-  part = beforeFeed (firstLine (drop from text))
-
   -- the text stops, or another byte follows than a line feed
-  pub decimal-cut : to ≡ length text → decimalOf part ≡ none
+  pub decimal-cut : to ≡ length text → decimalOf (valueAt text from) ≡ none
   decimal-cut e =
-      part-none (drop from text) decimalOf (no-digits false)
+      by-part (drop from text) (λ d. decimalOf d ≡ none) (no-digits false)
       (λ h s. absurd (omega (arith, simp length-drop at h, r .digits .before, feed-none text to (omega arith))))
 
-  pub decimal-other : to < length text → (getD text to 0 ≡ 10 → ⊥) → decimalOf part ≡ none
+  pub decimal-other : to < length text → (getD text to 0 ≡ 10 → ⊥) → decimalOf (valueAt text from) ≡ none
   decimal-other k o =
-      part-none (drop from text) decimalOf (no-digits false) (λ h s.
+      by-part (drop from text) (λ d. decimalOf d ≡ none) (no-digits false) (λ h s.
       ⊎-elim (λ b. decimal-bad (unfed (drop from text)) (r .digits .number ∙ digit-none text to k 10 v o b))
       (λ m. decimal-long (unfed (drop from text)) (omega (arith, s, r .digits .before, feed-later text to k o))) (r .ends k))
 
@@ -242,11 +240,11 @@ module _ (text : List ℕ) (from v to : ℕ) (r : Leading text from v to) where
     shut : Closed 10 text from v to
     shut = closed 10 text from v to (r .digits) k e
 
-    pub decimal-empty : to ≡ from → decimalOf part ≡ none
+    pub decimal-empty : to ≡ from → decimalOf (valueAt text from) ≡ none
     unfolding decimalOf
     decimal-empty s = rw (shut .part, shut .count, eq-eqb (to - from) 0 (omega arith))
 
-    pub decimal-one : to ≡ from + 1 → decimalOf part ≡ some v
+    pub decimal-one : to ≡ from + 1 → decimalOf (valueAt text from) ≡ some v
     unfolding decimalOf
     decimal-one s =
         rw (shut .part, shut .count, ne-eqb (to - from) 0 (λ z. omega arith), le-ltb 10 (to - from) (omega arith), eq-eqb (to - from) 1 (omega arith)) (shut .number)
@@ -255,12 +253,12 @@ module _ (text : List ℕ) (from v to : ℕ) (r : Leading text from v to) where
       first : getD (unfed (drop from text)) 0 0 ≡ getD text from 0
       first = getD-take (bytesBefore (drop from text)) (drop from text) 0 0 (omega (arith, r .digits .begins, shut .count)) ∙ rw (getD-drop, add-zero)
 
-      pub decimal-zero : getD text from 0 ≡ 48 → decimalOf part ≡ none
+      pub decimal-zero : getD text from 0 ≡ 48 → decimalOf (valueAt text from) ≡ none
       unfolding decimalOf
       decimal-zero z =
           rw (shut .part, shut .count, ne-eqb (to - from) 0 (λ w. omega (arith, r .digits .begins)), le-ltb 10 (to - from) (omega (arith, r .few)), ne-eqb (to - from) 1 (λ w. omega arith), first, eq-eqb (getD text from 0) 48 z)
 
-      pub decimal-many : (getD text from 0 ≡ 48 → ⊥) → decimalOf part ≡ some v
+      pub decimal-many : (getD text from 0 ≡ 48 → ⊥) → decimalOf (valueAt text from) ≡ some v
       unfolding decimalOf
       decimal-many z =
           rw (shut .part, shut .count, ne-eqb (to - from) 0 (λ w. omega (arith, r .digits .begins)), le-ltb 10 (to - from) (omega (arith, r .few)), ne-eqb (to - from) 1 (λ w. omega arith), first, ne-eqb (getD text from 0) 48 z) (shut .number)
@@ -279,16 +277,16 @@ hex-length : (d : List ℕ) → (length d ≡ 16 → ⊥) → hexOf d ≡ none
 unfolding hexOf
 hex-length d h = rw (ne-eqb (length d) 16 h)
 
-pub hex-short : (text : List ℕ) (from : ℕ) → length text - from < 17 → hexOf (beforeFeed (firstLine (drop from text))) ≡ none
+pub hex-short : (text : List ℕ) (from : ℕ) → length text - from < 17 → hexOf (valueAt text from) ≡ none
 hex-short text from h =
-    part-none (drop from text) hexOf (no-digits true)
+    by-part (drop from text) (λ d. hexOf d ≡ none) (no-digits true)
     (λ k s. hex-length (unfed (drop from text)) (λ e. omega (arith, s, simp length-drop at k)))
 
 module _ (text : List ℕ) (from v i : ℕ) (d : DigitsTo 16 text from v i) (k : i < length text) where
   -- a byte that is no digit: a line feed comes too early, or the digits are not all digits
-  pub hex-other : i < from + 16 → 16 ≤ digitOf (getD text i 0) → hexOf (beforeFeed (firstLine (drop from text))) ≡ none
+  pub hex-other : i < from + 16 → 16 ≤ digitOf (getD text i 0) → hexOf (valueAt text from) ≡ none
   hex-other h b =
-      part-none (drop from text) hexOf (no-digits true) (λ c s. go c s (ℕ-discrete (getD text i 0) 10))
+      by-part (drop from text) (λ d. hexOf d ≡ none) (no-digits true) (λ c s. go c s (ℕ-discrete (getD text i 0) 10))
     where
       go : bytesBefore (drop from text) < length (drop from text) → length (unfed (drop from text)) ≡ bytesBefore (drop from text) → Dec (getD text i 0 ≡ 10)
           → hexOf (unfed (drop from text)) ≡ none
@@ -297,13 +295,38 @@ module _ (text : List ℕ) (from v i : ℕ) (d : DigitsTo 16 text from v i) (k :
 
 -- the byte after 16 digits
 module _ (text : List ℕ) (from v : ℕ) (d : DigitsTo 16 text from v (from + 16)) (k : from + 16 < length text) where
-  pub hex-long : (getD text (from + 16) 0 ≡ 10 → ⊥) → hexOf (beforeFeed (firstLine (drop from text))) ≡ none
+  pub hex-long : (getD text (from + 16) 0 ≡ 10 → ⊥) → hexOf (valueAt text from) ≡ none
   hex-long o =
-      part-none (drop from text) hexOf (no-digits true)
+      by-part (drop from text) (λ d. hexOf d ≡ none) (no-digits true)
       (λ c s. hex-length (unfed (drop from text)) (λ z. omega (arith, s, d .before, feed-later text (from + 16) k o)))
 
-  pub hex-some : getD text (from + 16) 0 ≡ 10 → hexOf (beforeFeed (firstLine (drop from text))) ≡ some v
+  pub hex-some : getD text (from + 16) 0 ≡ 10 → hexOf (valueAt text from) ≡ some v
   unfolding hexOf
   hex-some e =
       let s = closed 16 text from v (from + 16) d k e in
       rw (s .part, s .count, eq-eqb (from + 16 - from) 16 (omega arith)) (s .number)
+
+-- ---- the value, as the code hands it on
+
+pub value-none : (o : Option ℕ) (n : ℕ) → valueOf o n ≡ Malformed → o ≡ none
+value-none none n e = refl
+value-none (some v) n e = let z : _≡_ {A = ℕ} 0 1 = cc in absurd (omega arith)
+
+pub value-some : (o : Option ℕ) (n v to : ℕ) → valueOf o n ≡ Is v to → (o ≡ some v) × (n ≡ to)
+value-some none n v to e = let z : _≡_ {A = ℕ} 0 1 = cc in absurd (omega arith)
+value-some (some w) n v to e = let k : w ≡ v = cc in (ap some k, cc)
+
+module _ (hex : Bool) (part d : List ℕ) (v : ℕ) (p : Parsed hex part d v) where
+  pub parsed-none : length d ≡ 0 → numberOf hex part ≡ none
+  parsed-none z = go (numberOf hex part) refl p
+    where
+      go : (o : Option ℕ) → numberOf hex part ≡ o → ParsedAs o part d v → o ≡ none
+      go none e p = refl
+      go (some n) e p = let k : length d ≡ length part = ap length (p .0) in absurd (omega (arith, some-digits hex part n e))
+
+  pub parsed-some : (length d ≡ 0 → ⊥) → (numberOf hex part ≡ some v) × (d ≡ part)
+  parsed-some z = go (numberOf hex part) p
+    where
+      go : (o : Option ℕ) → ParsedAs o part d v → (o ≡ some v) × (d ≡ part)
+      go none p = absurd (z (ap length p))
+      go (some n) p = (ap some (sym (p .1)), p .0)

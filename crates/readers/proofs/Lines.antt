@@ -2,22 +2,20 @@
 use mathlib.Core.Path.{_≡_, refl, ap, _∙_}
 use mathlib.Core.Bool.{Bool, true, false, cond, not}
 use mathlib.Core.List.{List, [], _∷_, _++_}
-use mathlib.Core.Option.{none, some}
-use Prim.Native.Nat.{ℕ, zero, suc, _+_, _*_, _-_, _^_, _≤_, _<_}
+use Prim.Native.Nat.{ℕ, suc, _+_, _≤_, _<_}
 use native.Mathlib.Numerals.{add-one}
 use native.Mathlib.Omega.{arith}
-use native.Mathlib.Nat.{zero-add, pow-suc, pow-le-pow-right, lt-of-lt-of-le, le-trans}
+use native.Mathlib.Nat.{zero-add}
 use lib.Dec.{T, eqb}
-use lib.Arith.{digits-lt}
 use lib.ListN.{length, getD, take, drop, set, drop-of-length-le, length-append}
-use lib.Seq.{drop-drop, paste-suc, take-all, length-take-le}
-use borrow.Author.Tests.{eq-eqb, ne-eqb, eqb-true, eqb-false, lt-ltb, le-ltb}
-use Rattle.forms.specs.Line.{lines, onFirst, valuePart, beforeFeed, digitOf, numberFrom}
+use lib.Seq.{paste-suc, length-take-le}
+use borrow.Author.Tests.{eq-eqb, ne-eqb, eqb-true}
+use Rattle.forms.specs.Line.{lines, onFirst, valuePart, beforeFeed}
 use Rattle.forms.proofs.Forms.{both}
 use Rattle.forms.proofs.Keys.{no-feeds}
-use Rattle.forms.proofs.Lines.{own-feed, part-line}
+use Rattle.forms.proofs.Lines.{part-line}
 use Rattle.forms.proofs.Walks.{step}
-use Rattle.readers.specs.Line.{lineLen, firstLine, bytesBefore, prefixed}
+use Rattle.readers.specs.Line.{lineLen, firstLine, prefixed}
 
 -- ---- the loops
 
@@ -135,15 +133,14 @@ on-prefixed : (x y : Bool) → cond x y false ≡ true → (x ≡ true) × (y �
 on-prefixed true y e = (refl, e)
 on-prefixed false y e = let z : _≡_ {A = ℕ} 0 1 = cc in absurd (omega arith)
 
--- where the key stands first: it fits, the value is what stands after it before the line feed, and the line is longer by the key
+-- where the key stands first, it fits, and the value is what stands after it before the line feed
 pub record AfterKey (p t : List ℕ) : Type 0 where
   pub fits : length p ≤ length t
   pub value : valuePart p (firstLine t) ≡ beforeFeed (firstLine (drop (length p) t))
-  pub longer : lineLen t ≡ length p + lineLen (drop (length p) t)
 
 pub after-key : (p t : List ℕ) → T (no-feeds p) → prefixed p t ≡ true → AfterKey p t
 unfolding prefixed valuePart
-after-key [] t n e = record { fits = omega arith; value = refl; longer = omega arith }
+after-key [] t n e = record { fits = omega arith; value = refl }
 after-key (k ∷ p) [] n e = let z : _≡_ {A = ℕ} 0 1 = cc in absurd (omega arith)
 after-key (k ∷ p) (b ∷ t) n e =
     let m = both (not (eqb k 10)) (no-feeds p) n in
@@ -152,7 +149,6 @@ after-key (k ∷ p) (b ∷ t) n e =
     record {
       fits = omega (arith, r .fits);
       value = value-on k p b t (m .0) (x .0) ∙ r .value;
-      longer = omega (arith, line-on k p b t (m .0) (x .0), r .longer);
     }
 
 value-none : (k : ℕ) (p : List ℕ) → valuePart (k ∷ p) (firstLine []) ≡ []
@@ -167,3 +163,11 @@ value-other (k ∷ p) [] n e = value-none k p
 value-other (k ∷ p) (b ∷ t) n e =
     let m = both (not (eqb k 10)) (no-feeds p) n in
     on-other k p b t (m .0) (eqb b k) refl e (value-other p t (m .1))
+
+-- a line whose value has digits is as long as the key, the digits and the line feed
+pub line-length : (p t : List ℕ) → 1 ≤ length (valuePart p (firstLine t)) → lineLen t ≡ length p + length (valuePart p (firstLine t)) + 1
+line-length p t h =
+    let d = valuePart p (firstLine t) in
+    let e : length (firstLine t) ≡ length (p ++ (d ++ (10 ∷ []))) = ap length (part-line p (firstLine t) d h refl) in
+    let k : length (p ++ (d ++ (10 ∷ []))) ≡ length p + (length d + 1) = simp length-append in
+    omega (arith, length-take-le (lineLen t) t (line-within t))

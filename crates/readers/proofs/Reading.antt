@@ -22,22 +22,11 @@ use Rattle.forms.specs.declared.form.Form.the-variants.{Network, Plan}
 use Rattle.forms.specs.declared.form.Range.{Range}
 use Rattle.forms.specs.declared.form.Field.the-variants.{Line, End}
 use Rattle.forms.proofs.Forms.{head-of-network, body-end, room}
-use Rattle.readers.specs.Line.{lineLen, firstLine, valueOf}
+use Rattle.readers.specs.Line.{lineLen, firstLine}
 use Rattle.readers.specs.Read.{takenOf, mostOf, Holds}
-use Rattle.readers.specs.declared.line.Value.the-variants.{Is, Malformed}
 use Rattle.readers.specs.declared.read.Taken.{Taken}
 use Rattle.readers.specs.declared.read.Taken.the-variants.{Number, Stop}
 use Rattle.readers.proofs.Lines.{lines-some, line-some, line-within}
-
--- ---- the value of a line
-
-pub value-none : (o : Option ℕ) (n : ℕ) → valueOf o n ≡ Malformed → o ≡ none
-value-none none n e = refl
-value-none (some v) n e = let z : _≡_ {A = ℕ} 0 1 = cc in absurd (omega arith)
-
-pub value-some : (o : Option ℕ) (n v next : ℕ) → valueOf o n ≡ Is v next → (o ≡ some v) × (n ≡ next)
-value-some none n v next e = let z : _≡_ {A = ℕ} 0 1 = cc in absurd (omega arith)
-value-some (some w) n v next e = let k : w ≡ v = cc in (ap some k, cc)
 
 -- ---- what is taken
 

@@ -7,7 +7,7 @@ use mathlib.Core.List.{List, [], _∷_}
 use mathlib.Core.Option.{Option, none, some}
 use lib.Dec.{eqb}
 use lib.ListN.{length, getD, take, drop}
-use Rattle.forms.specs.Line.{digitOf, numberFrom}
+use Rattle.forms.specs.Line.{beforeFeed, digitOf, numberFrom, decimalOf, hexOf}
 use Rattle.readers.specs.declared.line.Value.{Value}
 use Rattle.readers.specs.declared.line.Value.the-variants.{Is, Malformed}
 
@@ -48,7 +48,23 @@ pub record Leading (text : List ℕ) (from v to : ℕ) : Type 0 where
   pub few : to ≤ from + 10
   pub ends : to < length text → (10 ≤ digitOf (getD text to 0)) ⊎ (from + 10 ≤ to)
 
--- a value as the code has it, with the place where the next line begins
+-- what stands from `from` on before the line feed that ends the line
+abbrev pub valueAt : List ℕ → ℕ → List ℕ
+valueAt text from = beforeFeed (firstLine (drop from text))
+
+-- the number that some digits are, in hexadecimal or in decimal
+abbrev pub numberOf : Bool → List ℕ → Option ℕ
+numberOf hex d = cond hex (hexOf d) (decimalOf d)
+
+-- a value as the code has it, with the place where its digits end
 abbrev pub valueOf : Option ℕ → ℕ → Value
-valueOf none next = Malformed
-valueOf (some v) next = Is v next
+valueOf none to = Malformed
+valueOf (some v) to = Is v to
+
+-- what the line reader hands back: the digits and their number, or no digits
+abbrev pub ParsedAs : Option ℕ → List ℕ → List ℕ → ℕ → Type 0
+ParsedAs none part d v = d ≡ []
+ParsedAs (some n) part d v = (d ≡ part) × (v ≡ n)
+
+abbrev pub Parsed : Bool → List ℕ → List ℕ → ℕ → Type 0
+Parsed hex part d v = ParsedAs (numberOf hex part) part d v

@@ -1,22 +1,21 @@
-// The line reader: the number that a line has after its key, and where the next line begins. A line is read in one pass.
+// The line reader: the part of a line that is its value, and the number that the part is, in one pass over the digits.
 ghost use mathlib.Core.Path.{_≡_};
-ghost use mathlib.Core.Bool.{cond};
 ghost use Prim.Native.Nat.{_+_, _≤_};
 ghost use lib.Dec.{T};
 ghost use lib.ListN.{length, drop};
-ghost use Rattle.forms.specs.Line.{valuePart, beforeFeed, digitOf, decimalOf, hexOf};
+ghost use Rattle.forms.specs.Line.{valuePart, digitOf, decimalOf, hexOf};
 ghost use Rattle.forms.proofs.Keys.{no-feeds};
-ghost use Rattle.readers.specs.Line.{prefixed, lineLen, firstLine, valueOf, Leading};
+ghost use Rattle.readers.specs.Line.{prefixed, firstLine, valueAt, numberOf, valueOf, Leading, Parsed};
 use std::num;
 
-// What a value is: a number, with the place where the next line begins.
-pub(crate) enum Value {
+// What a value is: a number, with the place where its digits end.
+enum Value {
     Is(u64, usize),
     Malformed,
 }
 
-// The number that some digits are, and where they end.
-struct Digits {
+// Some digits: the number that they are, and where they end.
+struct Run {
     number: u64,
     to: usize,
 }
@@ -41,7 +40,7 @@ fn begins(text: &[u8], at: usize, key: &[u8]) -> bool
 }
 
 // The decimal digits that stand from `from` on, at most 10.
-fn leading_digits(text: &[u8], from: usize) -> Digits
+fn leading_digits(text: &[u8], from: usize) -> Run
     requires { ⌜ from ≤ length (now text) ⌝ }
     ensures { λ r. ⌜ Leading (now (text .entry)) from (r .number) (r .to) ⌝ }
 {
@@ -52,20 +51,20 @@ fn leading_digits(text: &[u8], from: usize) -> Digits
     while i < end {
         let x = num::wrapping_sub_u8(text[i], 48);
         if 10 <= x {
-            return Digits { number: v, to: i };
+            return Run { number: v, to: i };
         }
         v = v * 10 + x as u64;
         i += 1;
     }
-    Digits { number: v, to: i }
+    Run { number: v, to: i }
 }
 
 fn decimal(text: &[u8], from: usize) -> Value
     requires { ⌜ from ≤ length (now text) ⌝ }
-    ensures { λ r. ⌜ r ≡ valueOf (decimalOf (beforeFeed (firstLine (drop from (now (text .entry)))))) (from + lineLen (drop from (now (text .entry)))) ⌝ }
+    ensures { λ r. ⌜ r ≡ valueOf (decimalOf (valueAt (now (text .entry)) from)) (from + length (valueAt (now (text .entry)) from)) ⌝ }
 {
-    let read = leading_digits(text, from);
-    let to = read.to;
+    let run = leading_digits(text, from);
+    let to = run.to;
     if to == text.len() {
         return Value::Malformed;
     }
@@ -75,14 +74,13 @@ fn decimal(text: &[u8], from: usize) -> Value
     if to == from {
         return Value::Malformed;
     }
-    let next = to + 1;
     if to == from + 1 {
-        return Value::Is(read.number, next);
+        return Value::Is(run.number, to);
     }
     if text[from] == b'0' {
         return Value::Malformed;
     }
-    Value::Is(read.number, next)
+    Value::Is(run.number, to)
 }
 
 // The value of a digit, in lower case; 16 for a byte that is none. Two tests and no table of cases: random digits leave
@@ -103,7 +101,7 @@ fn digit(b: u8) -> u64
 
 fn hexadecimal(text: &[u8], from: usize) -> Value
     requires { ⌜ from ≤ length (now text) ⌝ }
-    ensures { λ r. ⌜ r ≡ valueOf (hexOf (beforeFeed (firstLine (drop from (now (text .entry)))))) (from + lineLen (drop from (now (text .entry)))) ⌝ }
+    ensures { λ r. ⌜ r ≡ valueOf (hexOf (valueAt (now (text .entry)) from)) (from + length (valueAt (now (text .entry)) from)) ⌝ }
 {
     if text.len() - from < 17 {
         return Value::Malformed;
@@ -122,24 +120,42 @@ fn hexadecimal(text: &[u8], from: usize) -> Value
     if text[to] != b'\n' {
         return Value::Malformed;
     }
-    let next = to + 1;
-    Value::Is(v, next)
+    Value::Is(v, to)
 }
 
-// The number of the line at `at`, in hexadecimal or in decimal.
-pub(crate) fn parse(text: &[u8], at: usize, key: &[u8], hex: bool) -> Value
+// The number that stands from `from` on, in hexadecimal or in decimal.
+fn parse(text: &[u8], from: usize, hex: bool) -> Value
+    requires { ⌜ from ≤ length (now text) ⌝ }
+    ensures { λ r. ⌜ r ≡ valueOf (numberOf hex (valueAt (now (text .entry)) from)) (from + length (valueAt (now (text .entry)) from)) ⌝ }
+{
+    if hex {
+        hexadecimal(text, from)
+    } else {
+        decimal(text, from)
+    }
+}
+
+// The digits of the line at `at`, as a part of the text: what stands between the key and the line feed. The number that they
+// are goes to `number`. Nothing where the line is not in its form, or the text stops inside it.
+pub(crate) fn digits<'a>(
+    text: &'a [u8],
+    at: usize,
+    key: &[u8],
+    hex: bool,
+    number: &mut u64,
+) -> &'a [u8]
     requires { ⌜ at ≤ length (now text) ⌝ }
     requires { ⌜ T (no-feeds (now key)) ⌝ }
-    ensures { λ r. ⌜ r ≡ valueOf (cond hex (hexOf (valuePart (now (key .entry)) (firstLine (drop at (now (text .entry)))))) (decimalOf (valuePart (now (key .entry)) (firstLine (drop at (now (text .entry))))))) (at + lineLen (drop at (now (text .entry)))) ⌝ }
+    ensures { λ r. ⌜ Parsed hex (valuePart (now (key .entry)) (firstLine (drop at (now (text .entry))))) (now r) (now (number .exit)) ⌝ }
 {
     if begins(text, at, key) {
         let from = at + key.len();
-        if hex {
-            hexadecimal(text, from)
-        } else {
-            decimal(text, from)
-        }
+        let Value::Is(v, to) = parse(text, from, hex) else {
+            return &text[..0];
+        };
+        *number = v;
+        &text[from..to]
     } else {
-        Value::Malformed
+        &text[..0]
     }
 }

@@ -10,7 +10,6 @@ ghost use Rattle.forms.specs.Form.{secondOf};
 ghost use Rattle.forms.specs.Read.{readLines, readNetwork, readPlan};
 ghost use Rattle.readers.specs.Read.{takenOf, stopOf, mostOf, Holds};
 use crate::line;
-use crate::line::Value;
 use forms::form;
 use forms::form::Field;
 use forms::form::Form;
@@ -20,8 +19,10 @@ use lists::Answer;
 use lists::Network;
 
 // The most numbers that a network's list has; a plan's has form::NUMBERS.
-const NETWORK_NUMBERS: usize =
-    6 + Network::LINKS as usize + 2 * Network::FLOWS as usize + 4 * Network::TUNNELS as usize;
+const NETWORK_NUMBERS: usize = 6
+    + Network::LINKS as usize
+    + 2 * Network::FLOWS as usize
+    + 4 * Network::TUNNELS as usize;
 
 // What the next line gives: its number and where the line after it begins, or the number of its refusal.
 pub(crate) enum Taken {
@@ -39,10 +40,13 @@ fn take_line(keys: &[u8], text: &[u8], at: usize, key: usize, range: Range) -> T
         return Taken::Stop(3);
     }
     let name = form::key_part(keys, key);
-    let Value::Is(v, next) = line::parse(text, at, name, form::is_hex(range)) else {
+    let mut v: u64 = 0;
+    let d = line::digits(text, at, name, form::is_hex(range), &mut v);
+    if d.len() == 0 {
         return Taken::Stop(1);
-    };
+    }
     if form::admits(range, v) {
+        let next = at + name.len() + d.len() + 1;
         Taken::Number(v, next)
     } else {
         Taken::Stop(2)

@@ -3,8 +3,8 @@ use Prim.Native.Nat.{ℕ, _+_, _<_}
 use mathlib.Core.Path.{_≡_}
 use mathlib.Core.List.{List}
 use native.Mathlib.Omega.{arith}
-use lib.ListN.{length, drop}
-use Rattle.readers.specs.Line.{lineLen, Leading}
+use lib.ListN.{length}
+use Rattle.readers.specs.Line.{valueAt, Leading}
 use Rattle.readers.proofs.Digits.{closed, decimal-cut, decimal-other, decimal-empty, decimal-one, decimal-zero, decimal-many}
 use borrow.Author.Needs.{needs}
 use Rattle.readers.proofs.line.decimal.Statement.{statement}
@@ -32,8 +32,8 @@ module _ (c : tie.Else3) where
   some : begin on .args .from < on .before .leading-digits .result .to
   some = omega (arith, read .digits .begins, c .if3 .left)
 
-  next : begin on .args .from + lineLen (drop (begin on .args .from) text) ≡ on .before .leading-digits .result .to + 1
-  next = closed 10 _ _ _ _ (read .digits) (within on) (c .before .if2 .left) .next
+  ends : begin on .args .from + length (valueAt text (begin on .args .from)) ≡ on .before .leading-digits .result .to
+  ends = closed 10 _ _ _ _ (read .digits) (within on) (c .before .if2 .left) .ends
 
 leading-digits-requires : tie.Need-leading-digits-requires
 leading-digits-requires c κs = search needs
@@ -52,16 +52,13 @@ returns-3 c =
     let o = c .before .before .before in
     rw (decimal-empty _ _ _ _ (o .before .leading-digits .ensures) (within o) (c .before .if2 .left) (c .if3 .taken))
 
-add-next : tie.Need-add-next
-add-next c = omega (arith, within (on c))
-
 add-if4 : tie.Need-add-if4
 add-if4 c = omega (arith, some c)
 
 returns-4 : tie.Need-returns-4
 returns-4 c =
     let e = c .before in
-    rw (decimal-one _ _ _ _ (read e) (within (on e)) (e .before .if2 .left) (c .if4 .taken), next e)
+    rw (decimal-one _ _ _ _ (read e) (within (on e)) (e .before .if2 .left) (c .if4 .taken), ends e)
 
 shared-slice-read-if5 : tie.Need-shared-slice-read-if5
 shared-slice-read-if5 c = let e = c .before .before in omega (arith, some e, within (on e))
@@ -74,7 +71,7 @@ returns-5 c =
 returns-6 : tie.Need-returns-6
 returns-6 c =
     let e = c .before .before .before in
-    rw (decimal-many _ _ _ _ (read e) (within (on e)) (e .before .if2 .left) (e .if3 .left) (c .before .before .if4 .left) (c .if5 .left), next e)
+    rw (decimal-many _ _ _ _ (read e) (within (on e)) (e .before .if2 .left) (e .if3 .left) (c .before .before .if4 .left) (c .if5 .left), ends e)
 
 pub decimal-spec : {M : Type 1} → statement M
 decimal-spec =
@@ -85,7 +82,6 @@ decimal-spec =
     shared-slice-read-if2
     returns-2
     returns-3
-    add-next
     add-if4
     returns-4
     shared-slice-read-if5

@@ -97,13 +97,10 @@ shared-slice-read-if3 c = fits (c .before .before)
 returns-3 : tie.Need-returns-3 Inv-loop μ-loop
 returns-3 c = let a = c .before .before in rw (hex-long _ _ _ (whole a) (fits (a .before)) (c .if3 .taken))
 
-add-next : tie.Need-add-next Inv-loop μ-loop
-add-next c = search needs
-
 returns-4 : tie.Need-returns-4 Inv-loop μ-loop
 returns-4 c =
     let a = c .before .before in
-    rw (hex-some _ _ _ (whole a) (fits (a .before)) (c .if3 .left), closed 16 _ _ _ _ (whole a) (fits (a .before)) (c .if3 .left) .next)
+    rw (hex-some _ _ _ (whole a) (fits (a .before)) (c .if3 .left), closed 16 _ _ _ _ (whole a) (fits (a .before)) (c .if3 .left) .ends)
 
 pub hexadecimal-spec : {M : Type 1} → statement M
 hexadecimal-spec =
@@ -126,5 +123,4 @@ hexadecimal-spec =
     add-to
     shared-slice-read-if3
     returns-3
-    add-next
     returns-4)
