@@ -1,17 +1,23 @@
-// The line reader: the part of a line that is its value, and the number that the part is.
+// The line reader: the part of a line that is its value, and the number that the part is, in one pass over the digits.
 ghost use mathlib.Core.Path.{_≡_};
-ghost use mathlib.Core.Bool.{cond};
-ghost use Prim.Native.Nat.{_+_, _^_, _≤_, _<_};
+ghost use Prim.Native.Nat.{_+_, _≤_};
 ghost use lib.Dec.{T};
 ghost use lib.ListN.{length, drop};
-ghost use Rattle.forms.specs.Line.{valuePart, digitOf, numberFrom, decimalOf, hexOf};
+ghost use Rattle.forms.specs.Line.{valuePart, digitOf, decimalOf, hexOf};
 ghost use Rattle.forms.proofs.Keys.{no-feeds};
-ghost use Rattle.readers.specs.Line.{prefixed, bytesBefore, firstLine, valueOf};
+ghost use Rattle.readers.specs.Line.{prefixed, firstLine, valueAt, numberOf, valueOf, Leading, Parsed};
+use std::num;
 
-// What a value is, as a number.
-pub(crate) enum Value {
-    Is(u64),
+// What a value is: a number, with the place where its digits end.
+enum Value {
+    Is(u64, usize),
     Malformed,
+}
+
+// Some digits: the number that they are, and where they end.
+struct Run {
+    number: u64,
+    to: usize,
 }
 
 // Whether a key stands at `at`.
@@ -33,109 +39,123 @@ fn begins(text: &[u8], at: usize, key: &[u8]) -> bool
     true
 }
 
-// The first line feed from `from` on, or the end of the text where there is none.
-fn feed(text: &[u8], from: usize) -> usize
+// The decimal digits that stand from `from` on, at most 10.
+fn leading_digits(text: &[u8], from: usize) -> Run
     requires { ⌜ from ≤ length (now text) ⌝ }
-    ensures { λ r. ⌜ r ≡ from + bytesBefore (drop from (now (text .entry))) ⌝ }
-    ensures { λ r. ⌜ r ≤ length (now (text .entry)) ⌝ }
+    ensures { λ r. ⌜ Leading (now (text .entry)) from (r .number) (r .to) ⌝ }
 {
+    let left = text.len() - from;
+    let end = from + if left < 10 { left } else { 10 };
+    let mut v: u64 = 0;
     let mut i = from;
-    while i < text.len() {
-        if text[i] == b'\n' {
-            return i;
+    while i < end {
+        let x = num::wrapping_sub_u8(text[i], 48);
+        if 10 <= x {
+            return Run { number: v, to: i };
         }
+        v = v * 10 + x as u64;
         i += 1;
     }
-    i
+    Run { number: v, to: i }
 }
 
-// The digits of the line at `at`, as a part of the text: what stands between the key and the line feed.
-// Nothing where the line does not begin with the key, or the text stops inside it.
-pub(crate) fn digits<'a>(text: &'a [u8], at: usize, key: &[u8]) -> &'a [u8]
-    requires { ⌜ at ≤ length (now text) ⌝ }
-    requires { ⌜ T (no-feeds (now key)) ⌝ }
-    ensures { λ r. ⌜ now r ≡ valuePart (now (key .entry)) (firstLine (drop at (now (text .entry)))) ⌝ }
+fn decimal(text: &[u8], from: usize) -> Value
+    requires { ⌜ from ≤ length (now text) ⌝ }
+    ensures { λ r. ⌜ r ≡ valueOf (decimalOf (valueAt (now (text .entry)) from)) (from + length (valueAt (now (text .entry)) from)) ⌝ }
 {
-    if begins(text, at, key) {
-        let from = at + key.len();
-        let to = feed(text, from);
-        if to < text.len() {
-            &text[from..to]
-        } else {
-            &text[..0]
-        }
-    } else {
-        &text[..0]
+    let run = leading_digits(text, from);
+    let to = run.to;
+    if to == text.len() {
+        return Value::Malformed;
     }
+    if text[to] != b'\n' {
+        return Value::Malformed;
+    }
+    if to == from {
+        return Value::Malformed;
+    }
+    if to == from + 1 {
+        return Value::Is(run.number, to);
+    }
+    if text[from] == b'0' {
+        return Value::Malformed;
+    }
+    Value::Is(run.number, to)
 }
 
-// The value of a digit, in lower case; 16 for a byte that is none.
+// The value of a digit, in lower case; 16 for a byte that is none. Two tests and no table of cases: random digits leave
+// nothing to predict.
 fn digit(b: u8) -> u64
     ensures { λ r. ⌜ r ≡ digitOf b ⌝ }
 {
-    if b < 48 {
-        16
-    } else if b <= 57 {
-        (b - 48) as u64
-    } else if b < 97 {
-        16
-    } else if b <= 102 {
-        (b - 87) as u64
+    let x = num::wrapping_sub_u8(b, 48);
+    let y = num::wrapping_sub_u8(b, 97);
+    if x < 10 {
+        x as u64
+    } else if y < 6 {
+        (y + 10) as u64
     } else {
         16
     }
 }
 
-// The number that some digits of a base are.
-fn number(d: &[u8], base: u64) -> Value
-    requires { ⌜ (0 < base) × (base ^ length (now d) ≤ 2 ^ 64) ⌝ }
-    ensures { λ r. ⌜ r ≡ valueOf (numberFrom base 0 (now (d .entry))) ⌝ }
+fn hexadecimal(text: &[u8], from: usize) -> Value
+    requires { ⌜ from ≤ length (now text) ⌝ }
+    ensures { λ r. ⌜ r ≡ valueOf (hexOf (valueAt (now (text .entry)) from)) (from + length (valueAt (now (text .entry)) from)) ⌝ }
 {
+    if text.len() - from < 17 {
+        return Value::Malformed;
+    }
     let mut v: u64 = 0;
     let mut i: usize = 0;
-    while i < d.len() {
-        let x = digit(d[i]);
-        if base <= x {
+    while i < 16 {
+        let x = digit(text[from + i]);
+        if 16 <= x {
             return Value::Malformed;
         }
-        v = v * base + x;
+        v = v * 16 + x;
         i += 1;
     }
-    Value::Is(v)
+    let to = from + 16;
+    if text[to] != b'\n' {
+        return Value::Malformed;
+    }
+    Value::Is(v, to)
 }
 
-fn decimal(d: &[u8]) -> Value
-    ensures { λ r. ⌜ r ≡ valueOf (decimalOf (now (d .entry))) ⌝ }
+// The number that stands from `from` on, in hexadecimal or in decimal.
+fn parse(text: &[u8], from: usize, hex: bool) -> Value
+    requires { ⌜ from ≤ length (now text) ⌝ }
+    ensures { λ r. ⌜ r ≡ valueOf (numberOf hex (valueAt (now (text .entry)) from)) (from + length (valueAt (now (text .entry)) from)) ⌝ }
 {
-    let n = d.len();
-    if n == 0 {
-        return Value::Malformed;
-    }
-    if 10 < n {
-        return Value::Malformed;
-    }
-    if n == 1 {
-        return number(d, 10);
-    }
-    if d[0] == b'0' {
-        return Value::Malformed;
-    }
-    number(d, 10)
-}
-
-fn hexadecimal(d: &[u8]) -> Value
-    ensures { λ r. ⌜ r ≡ valueOf (hexOf (now (d .entry))) ⌝ }
-{
-    if d.len() == 16 {
-        number(d, 16)
+    if hex {
+        hexadecimal(text, from)
     } else {
-        Value::Malformed
+        decimal(text, from)
     }
 }
 
-// The number that some digits are, in hexadecimal or in decimal.
-pub(crate) fn parse(d: &[u8], hex: bool) -> Value
-    ensures { λ r. ⌜ r ≡ valueOf (cond hex (hexOf (now (d .entry))) (decimalOf (now (d .entry)))) ⌝ }
+// The digits of the line at `at`, as a part of the text: what stands between the key and the line feed. The number that they
+// are goes to `number`. Nothing where the line is not in its form, or the text stops inside it.
+pub(crate) fn digits<'a>(
+    text: &'a [u8],
+    at: usize,
+    key: &[u8],
+    hex: bool,
+    number: &mut u64,
+) -> &'a [u8]
+    requires { ⌜ at ≤ length (now text) ⌝ }
+    requires { ⌜ T (no-feeds (now key)) ⌝ }
+    ensures { λ r. ⌜ Parsed hex (valuePart (now (key .entry)) (firstLine (drop at (now (text .entry))))) (now r) (now (number .exit)) ⌝ }
 {
-    if hex { hexadecimal(d) } else { decimal(d) }
+    if begins(text, at, key) {
+        let from = at + key.len();
+        let Value::Is(v, to) = parse(text, from, hex) else {
+            return &text[..0];
+        };
+        *number = v;
+        &text[from..to]
+    } else {
+        &text[..0]
+    }
 }

@@ -6,18 +6,24 @@ ghost use lib.ListN.{length, drop};
 ghost use Rattle.model.specs.Outcome.{Outcome};
 ghost use Rattle.lists.specs.Answers.{done, withRoom, lent};
 ghost use Rattle.forms.specs.Slots.{keyBytes};
-ghost use Rattle.forms.specs.Form.{mostNumbers, secondOf};
+ghost use Rattle.forms.specs.Form.{secondOf};
 ghost use Rattle.forms.specs.Read.{readLines};
-ghost use Rattle.readers.specs.Read.{takenOf, stopOf, Holds};
+ghost use Rattle.readers.specs.Read.{takenOf, stopOf, mostOf, Holds};
 ghost use Rattle.forms.specs.Named.{readNetwork, readPlan};
 use crate::line;
-use crate::line::Value;
 use forms::form;
 use forms::form::Field;
 use forms::form::Form;
 use forms::form::Range;
 use forms::sums;
 use lists::Answer;
+use lists::Network;
+
+// The most numbers that a network's list has; a plan's has form::NUMBERS.
+const NETWORK_NUMBERS: usize = 6
+    + Network::LINKS as usize
+    + 2 * Network::FLOWS as usize
+    + 4 * Network::TUNNELS as usize;
 
 // What the next line gives: its number and where the line after it begins, or the number of its refusal.
 pub(crate) enum Taken {
@@ -35,10 +41,11 @@ fn take_line(keys: &[u8], text: &[u8], at: usize, key: usize, range: Range) -> T
         return Taken::Stop(3);
     }
     let name = form::key_part(keys, key);
-    let d = line::digits(text, at, name);
-    let Value::Is(v) = line::parse(d, form::is_hex(range)) else {
+    let mut v: u64 = 0;
+    let d = line::digits(text, at, name, form::is_hex(range), &mut v);
+    if d.len() == 0 {
         return Taken::Stop(1);
-    };
+    }
     if form::admits(range, v) {
         let next = at + name.len() + d.len() + 1;
         Taken::Number(v, next)
@@ -70,7 +77,7 @@ fn refusal(number: u64, line: u64, form: Form) -> Answer
 // Reads the lines of a text into a list. Done carries how many numbers that is.
 fn read(form: Form, keys: &[u8], text: &[u8], vals: &mut [u64]) -> Answer
     requires { ⌜ now keys ≡ keyBytes ⌝ }
-    requires { ⌜ length (now vals) ≡ mostNumbers ⌝ }
+    requires { ⌜ length (now vals) ≡ mostOf form ⌝ }
     ensures { λ r. ⌜ r ≡ done (readLines form (now (text .entry))) ⌝ }
     ensures { λ r. ⌜ Holds (readLines form (now (text .entry))) (now (vals .exit)) ⌝ }
 {
@@ -131,7 +138,7 @@ pub fn read_network(text: &[u8], out: &mut [u64]) -> Answer
     ensures { λ r. ⌜ now (out .exit) ≡ lent (withRoom (length (now (out .entry))) (readNetwork (now (text .entry)))) (now (out .entry)) ⌝ }
 {
     let keys = form::KEYS;
-    let mut vals = [0u64; form::NUMBERS];
+    let mut vals = [0u64; NETWORK_NUMBERS];
     let lines = read(Form::Network, &keys, text, &mut vals);
     let Answer::Done(n) = lines else {
         return lines;

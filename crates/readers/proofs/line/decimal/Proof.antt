@@ -1,56 +1,89 @@
 -- `readers::line::decimal` meets its contract.
-use borrow.Author.Tests.{eq-eqb, ne-eqb, lt-ltb, le-ltb}
-use native.Mathlib.Nat.{le-trans, pow-le-pow-right}
-use lib.Dec.{lit≤}
-use Rattle.forms.specs.Line.{decimalOf}
+use Prim.Native.Nat.{ℕ, _+_, _<_}
+use mathlib.Core.Path.{_≡_}
+use mathlib.Core.List.{List}
+use native.Mathlib.Omega.{arith}
+use lib.ListN.{length}
+use Rattle.readers.specs.Line.{valueAt, Leading}
+use Rattle.readers.proofs.Digits.{closed, decimal-cut, decimal-other, decimal-empty, decimal-one, decimal-zero, decimal-many}
 use borrow.Author.Needs.{needs}
 use Rattle.readers.proofs.line.decimal.Statement.{statement}
 use Rattle.readers.proofs.line.decimal.Tie as tie
 
+-- the text goes on after the digits
+module _ (c : tie.Else1) where
+  abbrev begin : tie.Start
+  begin = c .before .before .before
+
+  within : c .before .leading-digits .result .to < length (begin .args .text .now)
+  within = omega (arith, c .before .leading-digits .ensures .digits .within, c .if1 .left)
+
+-- with a line feed, after at least one of them
+module _ (c : tie.Else3) where
+  abbrev on : tie.Else1
+  on = c .before .before .before
+
+  abbrev text : List ℕ
+  text = begin on .args .text .now
+
+  abbrev read : Leading text (begin on .args .from) (on .before .leading-digits .result .number) (on .before .leading-digits .result .to)
+  read = on .before .leading-digits .ensures
+
+  some : begin on .args .from < on .before .leading-digits .result .to
+  some = omega (arith, read .digits .begins, c .if3 .left)
+
+  ends : begin on .args .from + length (valueAt text (begin on .args .from)) ≡ on .before .leading-digits .result .to
+  ends = closed 10 _ _ _ _ (read .digits) (within on) (c .before .if2 .left) .ends
+
+leading-digits-requires : tie.Need-leading-digits-requires
+leading-digits-requires c κs = search needs
+
 returns : tie.Need-returns
-unfolding decimalOf
-returns c = simp (eq-eqb _ _ (c .if1 .taken))
+returns c = rw (decimal-cut _ _ _ _ (c .before .leading-digits .ensures) (c .if1 .taken))
+
+shared-slice-read-if2 : tie.Need-shared-slice-read-if2
+shared-slice-read-if2 c = within (c .before)
 
 returns-2 : tie.Need-returns-2
-unfolding decimalOf
-returns-2 c = simp (ne-eqb _ _ (c .before .if1 .left), lt-ltb _ _ (c .if2 .taken))
-
-number-requires : tie.Need-number-requires
-number-requires c κs = (search needs, rw (c .if3 .taken) (lit≤ tt))
+returns-2 c = let o = c .before .before in rw (decimal-other _ _ _ _ (o .before .leading-digits .ensures) (within o) (c .if2 .taken))
 
 returns-3 : tie.Need-returns-3
-unfolding decimalOf
 returns-3 c =
-    rw (ne-eqb _ _ (c .before .before .before .if1 .left), le-ltb _ _ (c .before .before .if2 .left), eq-eqb _ _ (c .before .if3 .taken)) (c .number .ensures)
+    let o = c .before .before .before in
+    rw (decimal-empty _ _ _ _ (o .before .leading-digits .ensures) (within o) (c .before .if2 .left) (c .if3 .taken))
 
-shared-slice-read-if4 : tie.Need-shared-slice-read-if4
-shared-slice-read-if4 c = search needs
+add-if4 : tie.Need-add-if4
+add-if4 c = omega (arith, some c)
 
 returns-4 : tie.Need-returns-4
-unfolding decimalOf
 returns-4 c =
-    let e = c .before .before in
-    simp (ne-eqb _ _ (e .before .before .if1 .left), le-ltb _ _ (e .before .if2 .left), ne-eqb _ _ (e .if3 .left), eq-eqb _ _ (c .if4 .taken))
+    let e = c .before in
+    rw (decimal-one _ _ _ _ (read e) (within (on e)) (e .before .if2 .left) (c .if4 .taken), ends e)
 
-number-requires-2 : tie.Need-number-requires-2
-number-requires-2 c κs =
-    (search needs, le-trans (pow-le-pow-right (lit≤ tt) (c .before .before .before .if2 .left)) (lit≤ tt))
+shared-slice-read-if5 : tie.Need-shared-slice-read-if5
+shared-slice-read-if5 c = let e = c .before .before in omega (arith, some e, within (on e))
 
 returns-5 : tie.Need-returns-5
-unfolding decimalOf
 returns-5 c =
     let e = c .before .before .before in
-    rw (ne-eqb _ _ (e .before .before .if1 .left), le-ltb _ _ (e .before .if2 .left), ne-eqb _ _ (e .if3 .left), ne-eqb _ _ (c .before .if4 .left)) (c .number2 .ensures)
+    rw (decimal-zero _ _ _ _ (read e) (within (on e)) (e .before .if2 .left) (e .if3 .left) (c .before .before .if4 .left) (c .if5 .taken))
+
+returns-6 : tie.Need-returns-6
+returns-6 c =
+    let e = c .before .before .before in
+    rw (decimal-many _ _ _ _ (read e) (within (on e)) (e .before .if2 .left) (e .if3 .left) (c .before .before .if4 .left) (c .if5 .left), ends e)
 
 pub decimal-spec : {M : Type 1} → statement M
 decimal-spec =
     tie.close
     (tie.spec
+    leading-digits-requires
     returns
+    shared-slice-read-if2
     returns-2
-    number-requires
     returns-3
-    shared-slice-read-if4
+    add-if4
     returns-4
-    number-requires-2
-    returns-5)
+    shared-slice-read-if5
+    returns-5
+    returns-6)

@@ -1,44 +1,49 @@
 -- `readers::line::digit` meets its contract.
-use borrow.Author.Tests.{lt-ltb, le-ltb, le-leb, lt-leb}
-use Rattle.forms.specs.Line.{digitOf}
+use mathlib.Core.Path.{sym}
+use Rattle.readers.proofs.Digits.{digit-decimal, digit-letter, digit-no}
 use borrow.Author.Needs.{needs}
 use Rattle.readers.proofs.line.digit.Statement.{statement}
 use Rattle.readers.proofs.line.digit.Tie as tie
 
+wrapping-sub-u8-requires : tie.Need-wrapping-sub-u8-requires
+wrapping-sub-u8-requires c κs = search needs
+
+wrapping-sub-u8-requires-2 : tie.Need-wrapping-sub-u8-requires-2
+wrapping-sub-u8-requires-2 c κs = search needs
+
 cast-result : tie.Need-cast-result
 cast-result c = search needs
 
-sub-result : tie.Need-sub-result
-sub-result c = search needs
+add-result : tie.Need-add-result
+add-result c = search needs
 
 cast-result-2 : tie.Need-cast-result-2
 cast-result-2 c = search needs
 
 returns : tie.Need-returns
-unfolding digitOf
-returns c = simp (lt-ltb _ _ (c .if1 .taken))
+returns c = let x = c .before .before .wrapping-sub-u8 in sym (digit-decimal _ _ (x .ensures) (x .ok) (c .if1 .taken))
 
 returns-2 : tie.Need-returns-2
-unfolding digitOf
-returns-2 c = simp (le-ltb _ _ (c .before .if1 .left), le-leb _ _ (c .if2 .taken))
+returns-2 c =
+    let y = c .before .before in
+    let x = y .before in
+    sym (digit-letter _ _ (x .wrapping-sub-u8 .ensures) (x .wrapping-sub-u8 .ok) _ (y .wrapping-sub-u82 .ensures) (y .wrapping-sub-u82 .ok) (c .if2 .taken))
 
 returns-3 : tie.Need-returns-3
-unfolding digitOf
-returns-3 c = simp (le-ltb _ _ (c .before .before .if1 .left), lt-leb _ _ (c .before .if2 .left), lt-ltb _ _ (c .if3 .taken))
-
-returns-4 : tie.Need-returns-4
-unfolding digitOf
-returns-4 c =
-    let a = c .before in
-    simp (le-ltb _ _ (a .before .before .if1 .left), lt-leb _ _ (a .before .if2 .left), le-ltb _ _ (a .if3 .left), le-leb _ _ (c .if4 .taken))
-
-returns-5 : tie.Need-returns-5
-unfolding digitOf
-returns-5 c =
-    let a = c .before in
-    simp (le-ltb _ _ (a .before .before .if1 .left), lt-leb _ _ (a .before .if2 .left), le-ltb _ _ (a .if3 .left), lt-leb _ _ (c .if4 .left))
+returns-3 c =
+    let y = c .before .before in
+    let x = y .before in
+    sym (digit-no _ _ (x .wrapping-sub-u8 .ensures) (x .wrapping-sub-u8 .ok) _ (y .wrapping-sub-u82 .ensures) (y .wrapping-sub-u82 .ok) (c .before .if1 .left) (c .if2 .left))
 
 pub digit-spec : {M : Type 1} → statement M
 digit-spec =
     tie.close
-    (tie.spec cast-result sub-result cast-result-2 returns returns-2 returns-3 returns-4 returns-5)
+    (tie.spec
+    wrapping-sub-u8-requires
+    wrapping-sub-u8-requires-2
+    cast-result
+    add-result
+    cast-result-2
+    returns
+    returns-2
+    returns-3)
