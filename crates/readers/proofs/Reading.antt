@@ -15,7 +15,7 @@ use Rattle.lists.specs.Lists.{at}
 use Rattle.lists.specs.Answers.{done}
 use Rattle.lists.specs.declared.Answer.the-variants.{Done, Refused}
 use Rattle.forms.specs.Line.{lines, lineValue}
-use Rattle.forms.specs.Form.{fieldOf, networkField, admitsOf, allows, secondOf, Sound}
+use Rattle.forms.specs.Form.{fieldOf, admitsOf, allows, secondOf, Sound}
 use Rattle.forms.specs.Read.{walk, onValue}
 use Rattle.forms.specs.declared.form.Form.{Form}
 use Rattle.forms.specs.declared.form.Form.the-variants.{Network, Plan}
@@ -110,7 +110,7 @@ module _ (form : Form) (n : ℕ) (done′ text : List ℕ) where
 
 -- a network of the most lines ends there
 network-full : (l : List ℕ) → Sound Network l → mostOf Network ≤ length l → fieldOf Network l ≡ End
-unfolding fieldOf networkField
+unfolding fieldOf
 network-full l s h =
     let b = head-of-network l s (omega arith) in
     let w : 6 ≤ length l = omega arith in
