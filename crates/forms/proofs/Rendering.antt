@@ -1,6 +1,6 @@
 -- Laws of rendering: the lines of a list from an index on, and how long they are.
 use mathlib.Core.Path.{_≡_, refl, ap, _∙_}
-use mathlib.Core.Bool.{Bool, true, false}
+use mathlib.Core.Bool.{Bool, true, false, cond}
 use mathlib.Core.List.{List, [], _++_}
 use Prim.Native.Nat.{ℕ, zero, suc, _+_, _*_, _-_, _^_, _≤_, _<_}
 use native.Mathlib.Nat.{le-of-lt, mul-le-mul}
@@ -14,7 +14,7 @@ use Rattle.lists.specs.Lists.{at}
 use Rattle.forms.specs.Keys.{prefixOf, keys, placeIn}
 use Rattle.forms.specs.Form.{isHex, fieldOf, Sound, Whole, mostNumbers}
 use Rattle.forms.specs.Laws.{mostBytes}
-use Rattle.forms.specs.Write.{baseOf, digitCount, valueDigits, lineOf, renderFrom, render}
+use Rattle.forms.specs.Write.{digitsIn, widthOf, valueDigits, lineOf, renderFrom, render}
 use Rattle.forms.specs.declared.form.Form.{Form}
 use Rattle.forms.specs.declared.form.Form.the-variants.{Network, Plan}
 use Rattle.forms.specs.declared.form.Range.{Range}
@@ -59,8 +59,16 @@ pub next-length : (form : Form) (l : List ℕ) (i : ℕ) → i < length l → So
     → length (renderFrom form (take i l) (drop i l)) ≡ length (lineOf (Line k r) (getD l i 0)) + length (renderFrom form (take (i + 1) l) (drop (i + 1) l))
 next-length form l i h s k r e = rw (next-line form l i h s k r e) (length-append (lineOf (Line k r) (getD l i 0)) _)
 
+-- how many digits a value has
+abbrev digitCount : Range → ℕ → ℕ
+digitCount r v = cond (isHex r) 16 (widthOf v)
+
+digits-length : (hex : Bool) (v : ℕ) → length (cond hex (digitsIn 16 16 v) (digitsIn 10 (widthOf v) v)) ≡ cond hex 16 (widthOf v)
+digits-length true v = length-digits 16 16 v
+digits-length false v = length-digits 10 (widthOf v) v
+
 pub line-length : (k : ℕ) (r : Range) (v : ℕ) → length (lineOf (Line k r) v) ≡ length (prefixOf k) + digitCount r v + 1
-line-length k r v = rw (length-append (prefixOf k), length-append (valueDigits r v), length-digits (baseOf r) (digitCount r v) v) (omega arith)
+line-length k r v = rw (length-append (prefixOf k), length-append (valueDigits r v), digits-length (isHex r) v) (omega arith)
 
 -- ---- no valid text is longer than 65,536 bytes
 

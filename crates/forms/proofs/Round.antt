@@ -15,7 +15,7 @@ use Rattle.forms.specs.Keys.{prefixOf}
 use Rattle.forms.specs.Line.{lines, onFirst, valuePart, decimalOf, hexOf, lineValue}
 use Rattle.forms.specs.Form.{isHex, fieldOf, admitsOf, allows, secondOf, Sound}
 use Rattle.forms.specs.Read.{walk, itself, readLines, judgeNumbers, readText, judgeList, addUp, onField, onValue}
-use Rattle.forms.specs.Write.{digitChar, digitsIn, widthOf, baseOf, digitCount, valueDigits, lineOf, renderFrom, render, writeText}
+use Rattle.forms.specs.Write.{digitChar, digitsIn, widthOf, valueDigits, lineOf, renderFrom, render, writeText}
 use Rattle.forms.specs.Laws.{Follows, FileForm, RoundTrip, mostBytes}
 use Rattle.forms.specs.declared.form.Form.{Form}
 use Rattle.forms.specs.declared.form.Range.{Range}
@@ -46,7 +46,7 @@ line-of-value k r l v e =
     ∙ ap (λ (d : List ℕ). prefixOf k ++ (d ++ (10 ∷ []))) (go (isHex r) e)
   where
     go : (b : Bool) → cond b (hexOf (valuePart (prefixOf k) l)) (decimalOf (valuePart (prefixOf k) l)) ≡ some v
-        → valuePart (prefixOf k) l ≡ digitsIn (cond b 16 10) (cond b 16 (widthOf v)) v
+        → valuePart (prefixOf k) l ≡ cond b (digitsIn 16 16 v) (digitsIn 10 (widthOf v) v)
     go true e = digits-hex _ v e .0
     go false e = digits-decimal _ v e
 
@@ -104,7 +104,11 @@ digits-no-feed base zero v = tt
 digits-no-feed base (suc n) v = rw (char-no-feed (v / base ^ n % base)) (digits-no-feed base n v)
 
 value-no-feed : (r : Range) (v : ℕ) → T (no-feeds (valueDigits r v))
-value-no-feed r v = digits-no-feed (baseOf r) (digitCount r v) v
+value-no-feed r v = go (isHex r)
+  where
+    go : (hex : Bool) → T (no-feeds (cond hex (digitsIn 16 16 v) (digitsIn 10 (widthOf v) v)))
+    go true = digits-no-feed 16 16 v
+    go false = digits-no-feed 10 (widthOf v) v
 
 lines-written : (k : ℕ) (r : Range) (v : ℕ) (rest : List ℕ) → lines (lineOf (Line k r) v ++ rest) ≡ lineOf (Line k r) v ∷ lines rest
 lines-written k r v rest =

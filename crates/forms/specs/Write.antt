@@ -31,15 +31,9 @@ unfoldable pub widthOf : ℕ → ℕ
 unfolding widthFrom
 widthOf v = widthFrom 9 1 v
 
--- the base of a value's digits, and how many it has
-abbrev pub baseOf : Range → ℕ
-baseOf r = cond (isHex r) 16 10
-
-abbrev pub digitCount : Range → ℕ → ℕ
-digitCount r v = cond (isHex r) 16 (widthOf v)
-
+-- "exactly 16 lower-case hexadecimal digits", or decimal with "no leading zero except `0` itself"
 abbrev pub valueDigits : Range → ℕ → List ℕ
-valueDigits r v = digitsIn (baseOf r) (digitCount r v) v
+valueDigits r v = cond (isHex r) (digitsIn 16 16 v) (digitsIn 10 (widthOf v) v)
 
 -- "Each line is a key, `=`, a value and one line feed (byte 10)."
 abbrev pub lineOf : Field → ℕ → List ℕ
