@@ -13,7 +13,7 @@ use lib.Dec.{eqb, ltb, leb}
 use lib.Arith.{digits-lt}
 use lib.ListN.{length, getD, take, drop, drop-of-length-le, length-drop, length-take}
 use lib.Seq.{take-all, length-take-le, getD-take, getD-drop}
-use borrow.Author.Tests.{eq-eqb, ne-eqb, eqb-true, eqb-false, lt-ltb, le-ltb, lt-leb, le-leb, ltb-false, leb-true}
+use borrow.Author.Tests.{eq-eqb, ne-eqb, eqb-true, eqb-false, lt-ltb, le-ltb, lt-leb, le-leb, ltb-false}
 use Rattle.forms.specs.Line.{beforeFeed, digitOf, numberFrom, decimalOf, hexOf}
 use Rattle.forms.proofs.Lines.{own-feed}
 use Rattle.forms.proofs.Numbers.{some-digits}
@@ -50,39 +50,37 @@ module _ (t : List ℕ) (i : ℕ) where
       unfolding numberFrom
       digit-more e x is d = rw (feed-later e, step t i h, is, lt-ltb x base d)
 
--- ---- the value of a digit, by its distance from `0` and from `a`
+-- ---- the value of a byte as a digit, by its distance from `0`
 
-module _ (b x : ℕ) (from-0 : (x + 48) % 2 ^ 8 ≡ b) (x-fits : x < 2 ^ 8) where
+module _ (b x : ℕ) (from-0 : (x + 48) % 2 ^ 8 ≡ b) (fits : x < 2 ^ 8) where
   pub digit-decimal : x < 10 → digitOf b ≡ x
   unfolding digitOf
   digit-decimal h = rw (le-ltb b 48 (omega arith), le-leb b 57 (omega arith)) (omega arith)
 
-  pub digit-above : 10 ≤ x → 10 ≤ digitOf b
+  -- below `0` or above `9`
+  digit-beyond : 10 ≤ x → digitOf b ≡ cond (ltb b 97) 16 (cond (leb b 102) (b - 87) 16)
   unfolding digitOf
-  digit-above h = go (ltb b 48) (leb b 57) (ltb b 97) (leb b 102) refl refl refl
+  digit-beyond h = go (decLt b 48)
     where
-      go : (p q r s : Bool) → ltb b 48 ≡ p → leb b 57 ≡ q → ltb b 97 ≡ r → 10 ≤ cond p 16 (cond q (b - 48) (cond r 16 (cond s (b - 87) 16)))
-      go true q r s e f g = omega arith
-      go false true r s e f g = absurd (omega (arith, ltb-false b 48 e, leb-true b 57 f))
-      go false false true s e f g = omega arith
-      go false false false true e f g = omega (arith, ltb-false b 97 g)
-      go false false false false e f g = omega arith
+      go : Dec (b < 48) → digitOf b ≡ cond (ltb b 97) 16 (cond (leb b 102) (b - 87) 16)
+      go (yes k) = rw (lt-ltb b 48 k, lt-ltb b 97 (omega arith))
+      go (no k) = rw (le-ltb b 48 (omega arith), lt-leb b 57 (omega arith))
 
-  module _ (y : ℕ) (from-a : (y + 97) % 2 ^ 8 ≡ b) (y-fits : y < 2 ^ 8) where
-    pub digit-letter : y < 6 → digitOf b ≡ y + 10
-    unfolding digitOf
-    digit-letter h = rw (le-ltb b 48 (omega arith), lt-leb b 57 (omega arith), le-ltb b 97 (omega arith), le-leb b 102 (omega arith)) (omega arith)
+  pub digit-above : 10 ≤ x → 10 ≤ digitOf b
+  digit-above h = rw (digit-beyond h) (go (ltb b 97) (leb b 102) refl)
+    where
+      go : (p q : Bool) → ltb b 97 ≡ p → 10 ≤ cond p 16 (cond q (b - 87) 16)
+      go true q e = omega arith
+      go false true e = omega (arith, ltb-false b 97 e)
+      go false false e = omega arith
 
-    pub digit-no : 10 ≤ x → 6 ≤ y → digitOf b ≡ 16
-    unfolding digitOf
-    digit-no h k = go (ltb b 48) (leb b 57) (ltb b 97) (leb b 102) refl refl refl refl
-      where
-        go : (p q r s : Bool) → ltb b 48 ≡ p → leb b 57 ≡ q → ltb b 97 ≡ r → leb b 102 ≡ s → cond p 16 (cond q (b - 48) (cond r 16 (cond s (b - 87) 16))) ≡ 16
-        go true q r s e f g j = refl
-        go false true r s e f g j = absurd (omega (arith, ltb-false b 48 e, leb-true b 57 f))
-        go false false true s e f g j = refl
-        go false false false true e f g j = absurd (omega (arith, ltb-false b 97 g, leb-true b 102 j))
-        go false false false false e f g j = refl
+  -- below `0` or above `f`
+  pub digit-outside : 55 ≤ x → digitOf b ≡ 16
+  digit-outside h = digit-beyond (omega arith) ∙ go (decLt b 97)
+    where
+      go : Dec (b < 97) → cond (ltb b 97) 16 (cond (leb b 102) (b - 87) 16) ≡ 16
+      go (yes k) = rw (lt-ltb b 97 k)
+      go (no k) = rw (le-ltb b 97 (omega arith), lt-leb b 102 (omega arith))
 
 -- none is a line feed
 no-feed : (b x : ℕ) → digitOf b ≡ x → x < 16 → b ≡ 10 → ⊥

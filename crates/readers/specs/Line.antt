@@ -3,10 +3,10 @@ use Prim.Native.Nat.{ℕ, suc, _+_, _-_, _^_, _≤_, _<_}
 use mathlib.Core.Path.{_≡_}
 use mathlib.Core.Logic.{_⊎_}
 use mathlib.Core.Bool.{Bool, true, false, cond}
-use mathlib.Core.List.{List, [], _∷_}
+use mathlib.Core.List.{List, [], _∷_, _++_}
 use mathlib.Core.Option.{Option, none, some}
 use lib.Dec.{eqb}
-use lib.ListN.{length, getD, take, drop}
+use lib.ListN.{length, getD, take, drop, replicate}
 use Rattle.forms.specs.Line.{beforeFeed, digitOf, numberFrom, decimalOf, hexOf}
 use Rattle.readers.specs.declared.line.Value.{Value}
 use Rattle.readers.specs.declared.line.Value.the-variants.{Is, Malformed}
@@ -29,6 +29,10 @@ unfoldable pub prefixed : List ℕ → List ℕ → Bool
 prefixed [] t = true
 prefixed (k ∷ ks) [] = false
 prefixed (k ∷ ks) (b ∷ t) = cond (eqb b k) (prefixed ks t) false
+
+-- the values of the bytes from `0` to `f` as digits, as the code has them: those between `9` and `a` are none
+abbrev pub digitTable : List ℕ
+digitTable = 0 ∷ 1 ∷ 2 ∷ 3 ∷ 4 ∷ 5 ∷ 6 ∷ 7 ∷ 8 ∷ 9 ∷ (replicate 39 16 ++ (10 ∷ 11 ∷ 12 ∷ 13 ∷ 14 ∷ 15 ∷ []))
 
 -- what stands before the first line feed
 abbrev pub unfed : List ℕ → List ℕ

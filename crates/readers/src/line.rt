@@ -5,7 +5,7 @@ ghost use lib.Dec.{T};
 ghost use lib.ListN.{length, drop};
 ghost use Rattle.forms.specs.Line.{valuePart, digitOf, decimalOf, hexOf};
 ghost use Rattle.forms.proofs.Keys.{no-feeds};
-ghost use Rattle.readers.specs.Line.{prefixed, firstLine, valueAt, numberOf, valueOf, Leading, Parsed};
+ghost use Rattle.readers.specs.Line.{prefixed, digitTable, firstLine, valueAt, numberOf, valueOf, Leading, Parsed};
 use std::num;
 
 // What a value is: a number, with the place where its digits end.
@@ -83,20 +83,18 @@ fn decimal(text: &[u8], from: usize) -> Value
     Value::Is(run.number, to)
 }
 
-// The value of a digit, in lower case; 16 for a byte that is none. Two tests and no table of cases: random digits leave
-// nothing to predict.
-fn digit(b: u8) -> u64
+// The values of the bytes from `0` to `f` as digits, in lower case; 16 for a byte that is none. A table, for tests of random
+// digits are mispredicted.
+const DIGITS: [u8; 55] =
+    *b"\x00\x01\x02\x03\x04\x05\x06\x07\x08\x09\x10\x10\x10\x10\x10\x10\x10\x10\x10\x10\x10\x10\x10\x10\x10\x10\x10\x10\x10\x10\x10\x10\x10\x10\x10\x10\x10\x10\x10\x10\x10\x10\x10\x10\x10\x10\x10\x10\x10\x0a\x0b\x0c\x0d\x0e\x0f";
+
+// The value of a digit; 16 for a byte that is none. The caller has copied the table once.
+fn digit(table: &[u8], b: u8) -> u64
+    requires { ⌜ now table ≡ digitTable ⌝ }
     ensures { λ r. ⌜ r ≡ digitOf b ⌝ }
 {
-    let x = num::wrapping_sub_u8(b, 48);
-    let y = num::wrapping_sub_u8(b, 97);
-    if x < 10 {
-        x as u64
-    } else if y < 6 {
-        (y + 10) as u64
-    } else {
-        16
-    }
+    let x = num::wrapping_sub_u8(b, 48) as usize;
+    if x < table.len() { table[x] as u64 } else { 16 }
 }
 
 fn hexadecimal(text: &[u8], from: usize) -> Value
@@ -106,10 +104,11 @@ fn hexadecimal(text: &[u8], from: usize) -> Value
     if text.len() - from < 17 {
         return Value::Malformed;
     }
+    let table = DIGITS;
     let mut v: u64 = 0;
     let mut i: usize = 0;
     while i < 16 {
-        let x = digit(text[from + i]);
+        let x = digit(&table, text[from + i]);
         if 16 <= x {
             return Value::Malformed;
         }

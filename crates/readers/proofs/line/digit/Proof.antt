@@ -1,49 +1,52 @@
--- `readers::line::digit` meets its contract.
-use mathlib.Core.Path.{sym}
-use Rattle.readers.proofs.Digits.{digit-decimal, digit-letter, digit-no}
+-- `readers::line::digit` meets its contract: the table's rule is a test at each of its entries, which antt computes.
+use Prim.Native.Nat.{ℕ, _+_, _<_}
+use mathlib.Core.Path.{_≡_, sym, ap, _∙_}
+use mathlib.Core.Bool.{Bool}
+use native.Mathlib.Omega.{arith}
+use lib.Dec.{eqb, eqb→eq}
+use lib.ListN.{length, getD}
+use Rattle.forms.specs.Line.{digitOf}
+use Rattle.forms.proofs.Table.{at}
+use Rattle.readers.specs.Line.{digitTable}
+use Rattle.readers.proofs.Digits.{digit-outside}
 use borrow.Author.Needs.{needs}
 use Rattle.readers.proofs.line.digit.Statement.{statement}
 use Rattle.readers.proofs.line.digit.Tie as tie
 
+right : ℕ → ℕ → Bool
+right k x = eqb x (digitOf (k + 48))
+
+entry : (k : ℕ) → k < 55 → getD digitTable k 0 ≡ digitOf (k + 48)
+unfolding right digitOf
+entry k h = eqb→eq (getD digitTable k 0) (digitOf (k + 48)) (at right digitTable tt k h)
+
+size : (c : tie.After-wrapping-sub-u8) → length (c .before .before .args .table .now) ≡ 55
+size c = ap length (c .before .before .pre)
+
 wrapping-sub-u8-requires : tie.Need-wrapping-sub-u8-requires
 wrapping-sub-u8-requires c κs = search needs
 
-wrapping-sub-u8-requires-2 : tie.Need-wrapping-sub-u8-requires-2
-wrapping-sub-u8-requires-2 c κs = search needs
+cast-x : tie.Need-cast-x
+cast-x c = search needs
+
+shared-slice-read-result : tie.Need-shared-slice-read-result
+shared-slice-read-result c = search needs
 
 cast-result : tie.Need-cast-result
-cast-result c = search needs
-
-add-result : tie.Need-add-result
-add-result c = search needs
-
-cast-result-2 : tie.Need-cast-result-2
-cast-result-2 c = search needs
+cast-result c = omega (arith, c .shared-slice-known2 .given (c .before .before .wrapping-sub-u8 .result))
 
 returns : tie.Need-returns
-returns c = let x = c .before .before .wrapping-sub-u8 in sym (digit-decimal _ _ (x .ensures) (x .ok) (c .if1 .taken))
+returns c =
+    let w = c .before .before in
+    let x = w .wrapping-sub-u8 .result in
+    let less : x < 55 = omega (arith, c .before .if1 .taken, size w) in
+    let e : x + 48 ≡ w .before .before .args .b = omega (arith, w .wrapping-sub-u8 .ensures) in
+    rw (w .before .before .pre) (entry x less ∙ ap digitOf e)
 
 returns-2 : tie.Need-returns-2
 returns-2 c =
-    let y = c .before .before in
-    let x = y .before in
-    sym (digit-letter _ _ (x .wrapping-sub-u8 .ensures) (x .wrapping-sub-u8 .ok) _ (y .wrapping-sub-u82 .ensures) (y .wrapping-sub-u82 .ok) (c .if2 .taken))
-
-returns-3 : tie.Need-returns-3
-returns-3 c =
-    let y = c .before .before in
-    let x = y .before in
-    sym (digit-no _ _ (x .wrapping-sub-u8 .ensures) (x .wrapping-sub-u8 .ok) _ (y .wrapping-sub-u82 .ensures) (y .wrapping-sub-u82 .ok) (c .before .if1 .left) (c .if2 .left))
+    let w = c .before in
+    sym (digit-outside _ _ (w .wrapping-sub-u8 .ensures) (w .wrapping-sub-u8 .ok) (omega (arith, c .if1 .left, size w)))
 
 pub digit-spec : {M : Type 1} → statement M
-digit-spec =
-    tie.close
-    (tie.spec
-    wrapping-sub-u8-requires
-    wrapping-sub-u8-requires-2
-    cast-result
-    add-result
-    cast-result-2
-    returns
-    returns-2
-    returns-3)
+digit-spec = tie.close (tie.spec wrapping-sub-u8-requires cast-x shared-slice-read-result cast-result returns returns-2)

@@ -12,10 +12,10 @@ use Rattle.readers.proofs.line.hexadecimal.Statement.{statement}
 use Rattle.readers.proofs.line.hexadecimal.Tie as tie
 
 abbrev Inv-loop : tie.InvT-loop
-Inv-loop text from v₀ i₀ v i = record { digits : DigitsTo 16 text from v (from + i); upto : i ≤ 16 }
+Inv-loop text from table v₀ i₀ v i = record { digits : DigitsTo 16 text from v (from + i); upto : i ≤ 16 }
 
 abbrev μ-loop : tie.MeasureT-loop
-μ-loop text from v₀ i₀ v i = 16 - i
+μ-loop text from table v₀ i₀ v i = 16 - i
 
 -- the text has room for 16 digits and a line feed
 module _ (c : tie.At-loop Inv-loop μ-loop) where
@@ -28,7 +28,7 @@ module _ (c : tie.At-loop Inv-loop μ-loop) where
 -- a digit is read
 module _ (c : tie.After-digit Inv-loop μ-loop) where
   abbrev turn : tie.In-loop Inv-loop μ-loop
-  turn = c .before .before
+  turn = c .before .before .before
 
   abbrev head : tie.At-loop Inv-loop μ-loop
   head = turn .before
@@ -53,6 +53,9 @@ returns c = rw (hex-short _ _ (c .if1 .taken))
 
 loop-holds : tie.Need-loop-holds Inv-loop μ-loop
 loop-holds c = record { digits = rw add-zero (digits-start 16 _ _ (c .before .before .pre)); upto = omega arith }
+
+slice-aggregate-digit : tie.Need-slice-aggregate-digit Inv-loop μ-loop
+slice-aggregate-digit c = search needs
 
 add-digit : tie.Need-add-digit Inv-loop μ-loop
 add-digit c = search needs
@@ -111,6 +114,7 @@ hexadecimal-spec =
     sub-if1
     returns
     loop-holds
+    slice-aggregate-digit
     add-digit
     shared-slice-read-digit
     digit-requires
