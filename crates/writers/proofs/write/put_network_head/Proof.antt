@@ -4,12 +4,12 @@ use mathlib.Core.Path.{_≡_, refl}
 use mathlib.Core.Bool.{false}
 use mathlib.Core.List.{List}
 use native.Mathlib.Omega.{arith}
-use lib.ListN.{length}
+use lib.ListN.{length, getD}
 use Rattle.forms.specs.Keys.{prefixOf}
-use Rattle.forms.specs.Form.{isHex, networkHead}
+use Rattle.forms.specs.Form.{isHex, networkLines}
 use Rattle.forms.specs.declared.form.Form.the-variants.{Network}
 use Rattle.forms.specs.declared.form.Range.{Range}
-use Rattle.forms.specs.declared.form.Field.the-variants.{Line}
+use Rattle.forms.specs.declared.form.Field.the-variants.{Line, End}
 use Rattle.writers.specs.Write.{Puts, linesFrom}
 use Rattle.writers.proofs.Runs.{DecimalAt, network-head-line, run-starts, next-fits, next-put}
 use borrow.Author.Needs.{needs}
@@ -17,7 +17,7 @@ use Rattle.writers.proofs.write.put_network_head.Statement.{statement}
 use Rattle.writers.proofs.write.put_network_head.Tie as tie
 
 -- a line of the head
-line : (s : tie.Start) (i k : ℕ) (r : Range) → i < 6 → networkHead i ≡ Line k r → isHex r ≡ false → DecimalAt Network (s .args .list .now) i (prefixOf k)
+line : (s : tie.Start) (i k : ℕ) (r : Range) → i < 6 → getD networkLines i End ≡ Line k r → isHex r ≡ false → DecimalAt Network (s .args .list .now) i (prefixOf k)
 line s = network-head-line (s .args .list .now) (s .pre .0)
 
 room : (s : tie.Start) → 0 + length (linesFrom Network (s .args .list .now) 0 6) ≤ length (s .args .out .now)
