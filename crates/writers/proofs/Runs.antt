@@ -60,15 +60,16 @@ module _ (form : Form) (l : List ℕ) where
       let here : length l ≤ length l = omega arith in
       sym (append-nil (linesFrom form l 0 (length l))) ∙ rw (← render-end form (take (length l) l) l (length l) here) (so-far (length l) here)
 
+-- no line is put
+pub no-lines : (form : Form) (l : List ℕ) (i at : ℕ) (out : List ℕ) → Puts (linesFrom form l i 0) at out out at
+no-lines form l i at out = rw (lines-none form l i) (puts-none at out)
+
 -- where there is room for n lines, there is for m of them
 pub run-within : (form : Form) (l : List ℕ) (i m n at : ℕ) (out : List ℕ) → m ≤ n → at + length (linesFrom form l i n) ≤ length out → at + length (linesFrom form l i m) ≤ length out
 run-within form l i m n at out h fits = omega (arith, lines-mono form l i m n h)
 
 -- n lines from i on are written from a place on, of which m are
 module _ (form : Form) (l : List ℕ) (i n : ℕ) {at : ℕ} {out : List ℕ} (fits : at + length (linesFrom form l i n) ≤ length out) where
-  pub run-starts : Puts (linesFrom form l i 0) at out out at
-  run-starts = rw (lines-none form l i) (puts-none at out)
-
   -- and the next, at j
   module _ (m j : ℕ) (less : m < n) (same : j ≡ i + m) {line : List ℕ} (e : lineAt form l j ≡ line) {out₁ : List ℕ} {a : ℕ}
       (p : Puts (linesFrom form l i m) at out out₁ a) where
@@ -117,6 +118,18 @@ decimal-at form l i k r s h e x =
       line = rw (e, x);
       number = record { within = h; few = at-most form l i h s; small = short-value form l i h s k r e x };
     }
+
+-- the first n lines are written from the front on, and the next of them is decimal
+module _ (form : Form) (l : List ℕ) (n : ℕ) {out : List ℕ} (fits : length (linesFrom form l 0 n) ≤ length out) (m : ℕ) (less : m < n) {key : List ℕ}
+    (d : DecimalAt form l m key) {out₁ : List ℕ} {a : ℕ} (p : Puts (linesFrom form l 0 m) 0 out out₁ a) where
+  head-room : 0 + length (linesFrom form l 0 n) ≤ length out
+  head-room = omega arith
+
+  pub head-fits : (getD l m 0 < 10000000000) × (a + length (decimalLine key (getD l m 0)) ≤ length out₁)
+  head-fits = (d .number .small, next-fits form l 0 n head-room m m less (sym (zero-add m)) (d .line) p)
+
+  pub head-next : {out₂ : List ℕ} {b : ℕ} → Puts (decimalLine key (getD l m 0)) a out₁ out₂ b → Puts (linesFrom form l 0 (m + 1)) 0 out out₂ b
+  head-next q = next-put form l 0 n head-room m m less (sym (zero-add m)) (d .line) p (m + 1) refl q
 
 module _ (l : List ℕ) (w : Whole Network l) where
   network-head-field : (i : ℕ) → i < 6 → fieldOf Network (take i l) ≡ getD networkLines i End
