@@ -39,9 +39,6 @@ render-end form done l i h = rw (drop-of-length-le l h)
 
 -- what a turn over a sound list knows at i
 module _ (form : Form) (l : List ℕ) (i : ℕ) (h : i < length l) (s : Sound form l) where
-  pub not-end : fieldOf form (take i l) ≡ End → ⊥
-  not-end e = rw e at (sound-at form l i h s)
-
   count : length (take i l) ≡ i
   count = length-take-le i l (le-of-lt h)
 
@@ -50,14 +47,6 @@ module _ (form : Form) (l : List ℕ) (i : ℕ) (h : i < length l) (s : Sound fo
 
   pub short-value : (k : ℕ) (r : Range) → fieldOf form (take i l) ≡ Line k r → isHex r ≡ false → getD l i 0 < 10000000000
   short-value k r e x = small form (take i l) k r (getD l i 0) (sound-take form l i (le-of-lt h) s) e (rw e at (sound-at form l i h s)) x
-
-  pub next-line : (k : ℕ) (r : Range) → fieldOf form (take i l) ≡ Line k r
-      → renderFrom form (take i l) (drop i l) ≡ lineOf (Line k r) (getD l i 0) ++ renderFrom form (take (i + 1) l) (drop (i + 1) l)
-  next-line k r e = rw e at (render-step form l i h)
-
-pub next-length : (form : Form) (l : List ℕ) (i : ℕ) → i < length l → Sound form l → (k : ℕ) (r : Range) → fieldOf form (take i l) ≡ Line k r
-    → length (renderFrom form (take i l) (drop i l)) ≡ length (lineOf (Line k r) (getD l i 0)) + length (renderFrom form (take (i + 1) l) (drop (i + 1) l))
-next-length form l i h s k r e = rw (next-line form l i h s k r e) (length-append (lineOf (Line k r) (getD l i 0)) _)
 
 -- how many digits a value has
 abbrev digitCount : Range → ℕ → ℕ

@@ -6,19 +6,17 @@ use Prim.Native.Nat.{ℕ, zero, suc, _+_, _*_, _-_, _≤_, _<_}
 use native.Mathlib.Nat.{add-zero, zero-add, add-suc, add-assoc, le-of-lt}
 use native.Mathlib.Numerals.{add-one}
 use native.Mathlib.Omega.{arith}
-use lib.ListN.{length, getD, take, drop, length-append, drop-of-length-le}
+use lib.ListN.{length, getD, take, drop, length-append}
 use lib.Seq.{getD-take, length-take-le}
 use borrow.Author.Tests.{lt-ltb, le-ltb}
-use Rattle.model.specs.Limits.{mostAmount}
 use Rattle.lists.specs.Lists.{at}
 use Rattle.forms.specs.Bytes.{bytes}
 use Rattle.forms.specs.Keys.{prefixOf}
-use Rattle.forms.specs.Form.{fieldOf, isHex, Sound, Whole, networkBody, flowLines, networkLines, planLines, tunnelLines, planBody}
+use Rattle.forms.specs.Form.{fieldOf, isHex, Sound, Whole, networkLines, networkBody, flowLines, tunnelLines, planLines, planBody}
 use Rattle.forms.specs.Write.{lineOf, render, renderFrom}
 use Rattle.forms.specs.declared.form.Form.{Form}
 use Rattle.forms.specs.declared.form.Form.the-variants.{Network, Plan}
 use Rattle.forms.specs.declared.form.Range.{Range}
-use Rattle.forms.specs.declared.form.Field.{Field}
 use Rattle.forms.specs.declared.form.Field.the-variants.{Line, End}
 use Rattle.forms.proofs.Forms.{body-cap, body-flow, body-tunnel, rowLines}
 use Rattle.forms.proofs.Good.{network-size, plan-size}
@@ -37,14 +35,14 @@ module _ (form : Form) (l : List ℕ) where
   unfolding linesFrom
   lines-more i n = rw add-one
 
-  pub lines-join : (i m n : ℕ) → linesFrom form l i m ++ linesFrom form l (i + m) n ≡ linesFrom form l i (m + n)
+  lines-join : (i m n : ℕ) → linesFrom form l i m ++ linesFrom form l (i + m) n ≡ linesFrom form l i (m + n)
   unfolding linesFrom
   lines-join i m zero = rw add-zero (append-nil (linesFrom form l i m))
   lines-join i m (suc n) =
       rw (add-suc m n, ← append-assoc (linesFrom form l i m) (linesFrom form l (i + m) n) (lineAt form l (i + m + n)), lines-join i m n, add-assoc i m n)
 
   -- fewer lines are not longer
-  pub lines-mono : (i m n : ℕ) → m ≤ n → length (linesFrom form l i m) ≤ length (linesFrom form l i n)
+  lines-mono : (i m n : ℕ) → m ≤ n → length (linesFrom form l i m) ≤ length (linesFrom form l i n)
   lines-mono i m n h =
       let e : m + (n - m) ≡ n = omega arith in
       omega (arith, length-append (linesFrom form l i m) (linesFrom form l (i + m) (n - m)), ap length (lines-join i m (n - m)), ap (λ (k : ℕ). length (linesFrom form l i k)) e)
@@ -62,15 +60,16 @@ module _ (form : Form) (l : List ℕ) where
       let here : length l ≤ length l = omega arith in
       sym (append-nil (linesFrom form l 0 (length l))) ∙ rw (← render-end form (take (length l) l) l (length l) here) (so-far (length l) here)
 
+-- no line is put
+pub no-lines : (form : Form) (l : List ℕ) (i at : ℕ) (out : List ℕ) → Puts (linesFrom form l i 0) at out out at
+no-lines form l i at out = rw (lines-none form l i) (puts-none at out)
+
 -- where there is room for n lines, there is for m of them
 pub run-within : (form : Form) (l : List ℕ) (i m n at : ℕ) (out : List ℕ) → m ≤ n → at + length (linesFrom form l i n) ≤ length out → at + length (linesFrom form l i m) ≤ length out
 run-within form l i m n at out h fits = omega (arith, lines-mono form l i m n h)
 
 -- n lines from i on are written from a place on, of which m are
 module _ (form : Form) (l : List ℕ) (i n : ℕ) {at : ℕ} {out : List ℕ} (fits : at + length (linesFrom form l i n) ≤ length out) where
-  pub run-starts : Puts (linesFrom form l i 0) at out out at
-  run-starts = rw (lines-none form l i) (puts-none at out)
-
   -- and the next, at j
   module _ (m j : ℕ) (less : m < n) (same : j ≡ i + m) {line : List ℕ} (e : lineAt form l j ≡ line) {out₁ : List ℕ} {a : ℕ}
       (p : Puts (linesFrom form l i m) at out out₁ a) where
@@ -120,6 +119,18 @@ decimal-at form l i k r s h e x =
       number = record { within = h; few = at-most form l i h s; small = short-value form l i h s k r e x };
     }
 
+-- the first n lines are written from the front on, and the next of them is decimal
+module _ (form : Form) (l : List ℕ) (n : ℕ) {out : List ℕ} (fits : length (linesFrom form l 0 n) ≤ length out) (m : ℕ) (less : m < n) {key : List ℕ}
+    (d : DecimalAt form l m key) {out₁ : List ℕ} {a : ℕ} (p : Puts (linesFrom form l 0 m) 0 out out₁ a) where
+  head-room : 0 + length (linesFrom form l 0 n) ≤ length out
+  head-room = omega arith
+
+  pub head-fits : (getD l m 0 < 10000000000) × (a + length (decimalLine key (getD l m 0)) ≤ length out₁)
+  head-fits = (d .number .small, next-fits form l 0 n head-room m m less (sym (zero-add m)) (d .line) p)
+
+  pub head-next : {out₂ : List ℕ} {b : ℕ} → Puts (decimalLine key (getD l m 0)) a out₁ out₂ b → Puts (linesFrom form l 0 (m + 1)) 0 out out₂ b
+  head-next q = next-put form l 0 n head-room m m less (sym (zero-add m)) (d .line) p (m + 1) refl q
+
 module _ (l : List ℕ) (w : Whole Network l) where
   network-head-field : (i : ℕ) → i < 6 → fieldOf Network (take i l) ≡ getD networkLines i End
   unfolding fieldOf
@@ -143,32 +154,40 @@ module _ (l : List ℕ) (w : Whole Network l) where
       let within : i < length l = omega (arith, network-size l w) in
       decimal-at Network l i _ _ (w .sound) within (network-body-field k i e (le-of-lt within) ∙ body-cap (at l 3) (at l 4) (at l 5) k h) refl
 
+  -- the lines of flow f, and those of tunnel t
   flow-field : (f j i : ℕ) → f < at l 4 → j < 2 → i ≡ 6 + at l 3 + 2 * f + j → fieldOf Network (take i l) ≡ getD flowLines j End
   flow-field f j i h k e =
       network-body-field (at l 3 + 2 * f + j) i (omega arith) (omega (arith, network-size l w)) ∙ body-flow (at l 3) (at l 4) (at l 5) f j h k
-
-  pub class-line : (f i : ℕ) → f < at l 4 → i ≡ 6 + at l 3 + 2 * f → DecimalAt Network l i (bytes "class=")
-  class-line f i h e = decimal-at Network l i _ _ (w .sound) (omega (arith, network-size l w)) (flow-field f 0 i h (omega arith) (omega arith)) refl
-
-  pub rate-line : (f i : ℕ) → f < at l 4 → i ≡ 6 + at l 3 + 2 * f + 1 → DecimalAt Network l i (bytes "rate=")
-  rate-line f i h e = decimal-at Network l i _ _ (w .sound) (omega (arith, network-size l w)) (flow-field f 1 i h (omega arith) e) refl
 
   tunnel-field : (t j i : ℕ) → t < at l 5 → j < 4 → i ≡ 6 + at l 3 + 2 * at l 4 + 4 * t + j → fieldOf Network (take i l) ≡ getD (tunnelLines (at l 3) (at l 4)) j End
   tunnel-field t j i h k e =
       network-body-field (at l 3 + 2 * at l 4 + 4 * t + j) i (omega arith) (omega (arith, network-size l w)) ∙ body-tunnel (at l 3) (at l 4) (at l 5) t j h k
 
+  of-flow : (f j i k : ℕ) (r : Range) → f < at l 4 → j < 2 → i ≡ 6 + at l 3 + 2 * f + j → getD flowLines j End ≡ Line k r → isHex r ≡ false → DecimalAt Network l i (prefixOf k)
+  of-flow f j i k r h below e line x = decimal-at Network l i k r (w .sound) (omega (arith, network-size l w)) (flow-field f j i h below e ∙ line) x
+
+  of-tunnel : (t j i k : ℕ) (r : Range) → t < at l 5 → j < 4 → i ≡ 6 + at l 3 + 2 * at l 4 + 4 * t + j → getD (tunnelLines (at l 3) (at l 4)) j End ≡ Line k r → isHex r ≡ false
+      → DecimalAt Network l i (prefixOf k)
+  of-tunnel t j i k r h below e line x = decimal-at Network l i k r (w .sound) (omega (arith, network-size l w)) (tunnel-field t j i h below e ∙ line) x
+
+  pub class-line : (f i : ℕ) → f < at l 4 → i ≡ 6 + at l 3 + 2 * f → DecimalAt Network l i (bytes "class=")
+  class-line f i h e = of-flow f 0 i _ _ h (omega arith) (omega arith) refl refl
+
+  pub rate-line : (f i : ℕ) → f < at l 4 → i ≡ 6 + at l 3 + 2 * f + 1 → DecimalAt Network l i (bytes "rate=")
+  rate-line f i h e = of-flow f 1 i _ _ h (omega arith) e refl refl
+
   pub flow-line : (t i : ℕ) → t < at l 5 → i ≡ 6 + at l 3 + 2 * at l 4 + 4 * t → DecimalAt Network l i (bytes "flow=")
-  flow-line t i h e = decimal-at Network l i _ _ (w .sound) (omega (arith, network-size l w)) (tunnel-field t 0 i h (omega arith) (omega arith)) refl
+  flow-line t i h e = of-tunnel t 0 i _ _ h (omega arith) (omega arith) refl refl
 
   pub via-line : (t i : ℕ) → t < at l 5 → i ≡ 6 + at l 3 + 2 * at l 4 + 4 * t + 1 → lineAt Network l i ≡ hexLine (bytes "via=") (getD l i 0)
   unfolding lineAt
   via-line t i h e = rw (tunnel-field t 1 i h (omega arith) e)
 
   pub old-line : (t i : ℕ) → t < at l 5 → i ≡ 6 + at l 3 + 2 * at l 4 + 4 * t + 2 → DecimalAt Network l i (bytes "old=")
-  old-line t i h e = decimal-at Network l i _ _ (w .sound) (omega (arith, network-size l w)) (tunnel-field t 2 i h (omega arith) e) refl
+  old-line t i h e = of-tunnel t 2 i _ _ h (omega arith) e refl refl
 
   pub new-line : (t i : ℕ) → t < at l 5 → i ≡ 6 + at l 3 + 2 * at l 4 + 4 * t + 3 → DecimalAt Network l i (bytes "new=")
-  new-line t i h e = decimal-at Network l i _ _ (w .sound) (omega (arith, network-size l w)) (tunnel-field t 3 i h (omega arith) e) refl
+  new-line t i h e = of-tunnel t 3 i _ _ h (omega arith) e refl refl
 
 module _ (l : List ℕ) (w : Whole Plan l) where
   plan-head-field : (i : ℕ) → i < 4 → fieldOf Plan (take i l) ≡ getD planLines i End

@@ -1,15 +1,14 @@
 -- Laws of writing: bytes put at a place, one after the other, and digits from the last to the first.
 use mathlib.Core.Path.{_≡_, refl, sym, ap, _∙_}
-use mathlib.Core.List.{List, [], _∷_, _++_, append-assoc, append-nil}
-use Prim.Native.Nat.{ℕ, zero, suc, _+_, _-_, _/_, _%_, _^_, _≤_, _<_}
-use native.Mathlib.Nat.{add-zero, zero-add, add-assoc, pow-zero, pow-suc, pow-le-pow-right, div-one, div-div-eq-div-mul, sub-self}
+use mathlib.Core.List.{List, [], _∷_, _++_, append-assoc}
+use Prim.Native.Nat.{ℕ, suc, _+_, _-_, _/_, _%_, _^_, _≤_, _<_}
+use native.Mathlib.Nat.{add-zero, zero-add, add-assoc, pow-zero, pow-suc, div-one, div-div-eq-div-mul, sub-self}
 use native.Mathlib.Numerals.{add-one}
-use native.Mathlib.Decide.{decLt}
 use native.Mathlib.Omega.{arith}
 use lib.Dec.{lit≤}
 use lib.ListN.{take-append-drop, length, getD, take, drop, set, length-append, length-take, length-drop}
-use lib.Seq.{take-add, take-append-le, take-append-seam, drop-append-seam, length-take-le, take-take, take-at, drop-at, drop-drop, set-split, take-length, paste, paste-suc}
-use borrow.Author.Tests.{lt-ltb, le-ltb}
+use lib.Seq.{take-append-le, length-take-le, take-take, take-at, drop-at, drop-drop, set-split, take-length, paste, paste-suc}
+use borrow.Author.Tests.{lt-ltb}
 use Rattle.forms.specs.Form.{Whole}
 use Rattle.forms.specs.Write.{digitChar, digitsIn, widthOf}
 use Rattle.forms.specs.declared.form.Form.{Form}
@@ -35,11 +34,11 @@ unfolding placed
 put-end d at s = rw (take-length s) (append-assoc (take at d) s (drop (at + length s) d))
 
 -- bytes put at a place, and others after them
-pub length-placed : (out : List ℕ) (at : ℕ) (s : List ℕ) → at + length s ≤ length out → length (placed out at s) ≡ length out
+length-placed : (out : List ℕ) (at : ℕ) (s : List ℕ) → at + length s ≤ length out → length (placed out at s) ≡ length out
 unfolding placed
 length-placed out at s h = simp (length-append, length-take, length-drop) (omega arith)
 
-pub placed-more : (out : List ℕ) (at : ℕ) (s t : List ℕ) → at + length s + length t ≤ length out
+placed-more : (out : List ℕ) (at : ℕ) (s t : List ℕ) → at + length s + length t ≤ length out
     → placed (placed out at s) (at + length s) t ≡ placed out at (s ++ t)
 unfolding placed
 placed-more out at s t h =
@@ -50,7 +49,7 @@ placed-more out at s t h =
     let back : drop (at + length s + length t) (p ++ (s ++ r)) ≡ drop (at + length (s ++ t)) out = rw (← append-assoc p s r, ← drop-drop (length t) (at + length s) (p ++ s ++ r), drop-at (p ++ s) r (at + length s) size, drop-drop, length-append, add-assoc) in
     rw (front, back, append-assoc p s, append-assoc s t)
 
-pub placed-none : (out : List ℕ) (at : ℕ) → out ≡ placed out at []
+placed-none : (out : List ℕ) (at : ℕ) → out ≡ placed out at []
 unfolding placed
 placed-none out at = sym (rw add-zero (take-append-drop at out))
 
@@ -71,7 +70,7 @@ placed-before out j x s h =
     set-split (take (j + 1) out ++ r) j x less ∙ rw (front, back, e)
 
 -- a byte that is stored
-pub stored : (out : List ℕ) (j x : ℕ) → j < length out → set out j x ≡ placed out j (x ∷ [])
+stored : (out : List ℕ) (j x : ℕ) → j < length out → set out j x ≡ placed out j (x ∷ [])
 unfolding placed
 stored out j x h = rw add-one (set-split out j x h)
 

@@ -1,27 +1,23 @@
--- `writers::write::digit_char` meets its contract.
-use borrow.Author.Tests.{lt-ltb, le-ltb}
+-- `writers::write::digit_char` meets its contract: the table has each digit's byte, by a test that antt computes over it.
+use mathlib.Core.Bool.{Bool}
+use Prim.Native.Nat.{ℕ}
+use lib.Dec.{eqb, eqb→eq}
+use Rattle.forms.specs.Bytes.{bytes}
+use Rattle.forms.specs.Write.{digitChar}
+use Rattle.forms.proofs.Table.{at}
 use borrow.Author.Needs.{needs}
 use Rattle.writers.proofs.write.digit_char.Statement.{statement}
 use Rattle.writers.proofs.write.digit_char.Tie as tie
 
-cast-result : tie.Need-cast-result
-cast-result c = search needs
+right : ℕ → ℕ → Bool
+right x byte = eqb byte (digitChar x)
 
-add-result : tie.Need-add-result
-add-result c = search needs
-
-cast-result-2 : tie.Need-cast-result-2
-cast-result-2 c = search needs
-
-add-result-2 : tie.Need-add-result-2
-add-result-2 c = search needs
+array-read-result : tie.Need-array-read-result
+array-read-result c = search needs
 
 returns : tie.Need-returns
-returns c = simp (lt-ltb _ _ (c .if1 .taken))
-
-returns-2 : tie.Need-returns-2
-returns-2 c = simp (le-ltb _ _ (c .if1 .left))
+unfolding right
+returns c = eqb→eq _ _ (at right (bytes "0123456789abcdef") tt (c .before .before .args .x) (c .before .before .pre))
 
 pub digit-char-spec : {M : Type 1} → statement M
-digit-char-spec =
-    tie.close (tie.spec cast-result add-result cast-result-2 add-result-2 returns returns-2)
+digit-char-spec = tie.close (tie.spec array-read-result returns)

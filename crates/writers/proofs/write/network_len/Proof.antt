@@ -1,5 +1,5 @@
 -- `writers::write::network_len` meets its contract.
-use Prim.Native.Nat.{ℕ, _+_, _*_, _≤_, _<_}
+use Prim.Native.Nat.{ℕ, _+_, _*_}
 use mathlib.Core.Path.{refl}
 use native.Mathlib.Nat.{zero-add, one-mul}
 use native.Mathlib.Omega.{arith}
@@ -8,7 +8,6 @@ use Rattle.forms.specs.Good.{NetworkRanges}
 use Rattle.forms.proofs.Good.{network-ranges}
 use Rattle.writers.proofs.Measuring.{network-length, network-number}
 use Rattle.writers.proofs.Runs.{flow-line, old-line, new-line}
-use borrow.Author.Needs.{needs}
 use Rattle.writers.proofs.write.network_len.Statement.{statement}
 use Rattle.writers.proofs.write.network_len.Tie as tie
 

@@ -1,14 +1,11 @@
 -- `writers::write::plan_len` meets its contract.
-use Prim.Native.Nat.{ℕ, _+_, _*_, _-_, _≤_, _<_}
-use mathlib.Core.Path.{sym}
+use Prim.Native.Nat.{_-_, _≤_}
 use native.Mathlib.Nat.{zero-add, one-mul}
 use native.Mathlib.Omega.{arith}
 use lib.ListN.{length}
 use Rattle.forms.specs.Form.{mostNumbers}
 use Rattle.forms.proofs.Good.{plan-size}
-use Rattle.writers.specs.Write.{Decimal}
 use Rattle.writers.proofs.Measuring.{plan-length, plan-number}
-use borrow.Author.Needs.{needs}
 use Rattle.writers.proofs.write.plan_len.Statement.{statement}
 use Rattle.writers.proofs.write.plan_len.Tie as tie
 

@@ -10,7 +10,7 @@ use Rattle.forms.specs.declared.form.Form.the-variants.{Network}
 use Rattle.forms.proofs.Good.{network-ranges}
 use Rattle.writers.specs.Write.{Puts, linesFrom}
 use Rattle.writers.proofs.Writing.{puts-length}
-use Rattle.writers.proofs.Runs.{DecimalAt, class-line, rate-line, run-starts, run-within, next-fits, next-put}
+use Rattle.writers.proofs.Runs.{DecimalAt, class-line, rate-line, no-lines, run-within, next-fits, next-put}
 use borrow.Author.Needs.{needs}
 use Rattle.writers.proofs.write.put_flows.Statement.{statement}
 use Rattle.writers.proofs.write.put_flows.Tie as tie
@@ -26,8 +26,11 @@ ranges s = network-ranges (s .args .list .now) (s .pre .0)
 
 -- in a turn
 module _ (c : tie.In-loop Inv-loop μ-loop) where
+  abbrev start : tie.Start Inv-loop μ-loop
+  start = c .before .before .before .before .before .before
+
   abbrev list : List ℕ
-  list = c .before .before .before .before .before .before .args .list .now
+  list = start .args .list .now
 
   abbrev first : ℕ
   first = 6 + getD list 3 0
@@ -39,16 +42,16 @@ module _ (c : tie.In-loop Inv-loop μ-loop) where
   place = first + 2 * flow
 
   class : DecimalAt Network list place (bytes "class=")
-  class = class-line list (c .before .before .before .before .before .before .pre .0) flow place (c .loop-test .taken) refl
+  class = class-line list (start .pre .0) flow place (c .loop-test .taken) refl
 
   rate : DecimalAt Network list (place + 1) (bytes "rate=")
-  rate = rate-line list (c .before .before .before .before .before .before .pre .0) flow (place + 1) (c .loop-test .taken) refl
+  rate = rate-line list (start .pre .0) flow (place + 1) (c .loop-test .taken) refl
 
 -- the line of the class is put
-with-class : (c : tie.After-put-line Inv-loop μ-loop) → Puts (linesFrom Network (list (c .before .before .before .before)) (first (c .before .before .before .before)) (2 * flow (c .before .before .before .before) + 1)) (c .before .before .before .before .before .before .before .before .before .before .args .at) (c .before .before .before .before .before .before .before .before .before .before .args .out .now) (c .put-line .last .0) (c .put-line .result)
+with-class : (c : tie.After-put-line Inv-loop μ-loop) → Puts (linesFrom Network (list (c .before .before .before .before)) (first (c .before .before .before .before)) (2 * flow (c .before .before .before .before) + 1)) (start (c .before .before .before .before) .args .at) (start (c .before .before .before .before) .args .out .now) (c .put-line .last .0) (c .put-line .result)
 with-class c =
     let t = c .before .before .before .before in
-    next-put Network (list t) (first t) _ (t .before .before .before .before .before .before .pre .1) (2 * flow t) (place t) (omega (arith, t .loop-test .taken)) refl (class t .line) (t .before .loop .inv .put) (2 * flow t + 1) refl (c .put-line .ensures)
+    next-put Network (list t) (first t) _ (start t .pre .1) (2 * flow t) (place t) (omega (arith, t .loop-test .taken)) refl (class t .line) (t .before .loop .inv .put) (2 * flow t + 1) refl (c .put-line .ensures)
 
 shared-slice-read-first : tie.Need-shared-slice-read-first Inv-loop μ-loop
 shared-slice-read-first c = omega (arith, ranges (c .before .before .before) .size)
@@ -60,7 +63,7 @@ shared-slice-read-flows : tie.Need-shared-slice-read-flows Inv-loop μ-loop
 shared-slice-read-flows c = omega (arith, ranges (c .before .before .before .before) .size)
 
 loop-holds : tie.Need-loop-holds Inv-loop μ-loop
-loop-holds c = record { few = search needs; put = run-starts Network _ _ _ (c .before .before .before .before .pre .1) }
+loop-holds c = record { few = search needs; put = no-lines Network _ _ _ _ }
 
 mul-i : tie.Need-mul-i Inv-loop μ-loop
 mul-i c = omega (arith, class c .number .few)
@@ -80,7 +83,7 @@ shared-slice-read-put-line c = class (c .before .before .before) .number .within
 put-line-requires : tie.Need-put-line-requires Inv-loop μ-loop
 put-line-requires c κs =
     let t = c .before .before .before in
-    (class t .number .small, next-fits Network (list t) (first t) _ (t .before .before .before .before .before .before .pre .1) (2 * flow t) (place t) (omega (arith, t .loop-test .taken)) refl (class t .line) (t .before .loop .inv .put))
+    (class t .number .small, next-fits Network (list t) (first t) _ (start t .pre .1) (2 * flow t) (place t) (omega (arith, t .loop-test .taken)) refl (class t .line) (t .before .loop .inv .put))
 
 slice-aggregate-put-line-2 : tie.Need-slice-aggregate-put-line-2 Inv-loop μ-loop
 slice-aggregate-put-line-2 c = search needs
@@ -97,7 +100,7 @@ shared-slice-read-put-line-2 c = rate (c .before .before .before .before .before
 put-line-requires-2 : tie.Need-put-line-requires-2 Inv-loop μ-loop
 put-line-requires-2 c κs =
     let t = c .before .before .before .before .before .before .before .before .before in
-    (rate t .number .small, next-fits Network (list t) (first t) _ (t .before .before .before .before .before .before .pre .1) (2 * flow t + 1) (place t + 1) (omega (arith, t .loop-test .taken)) (omega arith) (rate t .line) (with-class (c .before .before .before .before .before)))
+    (rate t .number .small, next-fits Network (list t) (first t) _ (start t .pre .1) (2 * flow t + 1) (place t + 1) (omega (arith, t .loop-test .taken)) (omega arith) (rate t .line) (with-class (c .before .before .before .before .before)))
 
 add-f : tie.Need-add-f Inv-loop μ-loop
 add-f c = omega (arith, rate (c .before .before .before .before .before .before .before .before .before .before .before .before) .number .few)
@@ -110,7 +113,7 @@ loop-again c =
     let t = c .before .before .before .before .before .before .before .before .before .before .before .before in
     record {
       few = omega (arith, t .loop-test .taken);
-      put = next-put Network (list t) (first t) _ (t .before .before .before .before .before .before .pre .1) (2 * flow t + 1) (place t + 1) (omega (arith, t .loop-test .taken)) (omega arith) (rate t .line) (with-class (c .before .before .before .before .before .before .before .before)) (2 * (flow t + 1)) (omega arith) (c .before .before .put-line2 .ensures);
+      put = next-put Network (list t) (first t) _ (start t .pre .1) (2 * flow t + 1) (place t + 1) (omega (arith, t .loop-test .taken)) (omega arith) (rate t .line) (with-class (c .before .before .before .before .before .before .before .before)) (2 * (flow t + 1)) (omega arith) (c .before .before .put-line2 .ensures);
     }
 
 same-length : tie.Need-same-length Inv-loop μ-loop

@@ -2,7 +2,6 @@
 use Prim.Native.Nat.{_≤_, _+_, _-_, _/_, _^_}
 use mathlib.Core.Path.{_≡_, refl, _∙_}
 use native.Mathlib.Omega.{arith}
-use lib.Dec.{lit≤}
 use lib.ListN.{length, length-set}
 use Rattle.forms.specs.Write.{digitsIn}
 use Rattle.forms.proofs.Numbers.{length-digits}

@@ -9,7 +9,7 @@ use Rattle.forms.specs.declared.form.Form.the-variants.{Network}
 use Rattle.forms.proofs.Good.{network-size}
 use Rattle.writers.specs.Write.{Puts, linesFrom}
 use Rattle.writers.proofs.Writing.{puts-length}
-use Rattle.writers.proofs.Runs.{DecimalAt, cap-line, run-starts, run-within, next-fits, next-put}
+use Rattle.writers.proofs.Runs.{DecimalAt, cap-line, no-lines, run-within, next-fits, next-put}
 use borrow.Author.Needs.{needs}
 use Rattle.writers.proofs.write.put_links.Statement.{statement}
 use Rattle.writers.proofs.write.put_links.Tie as tie
@@ -32,7 +32,7 @@ shared-slice-read-links : tie.Need-shared-slice-read-links Inv-loop μ-loop
 shared-slice-read-links c = omega (arith, network-size _ (c .before .before .before .pre .0))
 
 loop-holds : tie.Need-loop-holds Inv-loop μ-loop
-loop-holds c = record { few = search needs; put = run-starts Network _ 6 _ (c .before .before .before .pre .1) }
+loop-holds c = record { few = search needs; put = no-lines Network _ _ _ _ }
 
 slice-aggregate-put-line : tie.Need-slice-aggregate-put-line Inv-loop μ-loop
 slice-aggregate-put-line c = search needs

@@ -1,52 +1,70 @@
 -- `writers::write::put_network_head` meets its contract.
-use Prim.Native.Nat.{ℕ, _≤_, _<_, _+_}
+use Prim.Native.Nat.{ℕ, _<_}
 use mathlib.Core.Path.{_≡_, refl}
 use mathlib.Core.Bool.{false}
 use mathlib.Core.List.{List}
 use native.Mathlib.Omega.{arith}
-use lib.ListN.{length, getD}
+use lib.ListN.{getD}
 use Rattle.forms.specs.Keys.{prefixOf}
 use Rattle.forms.specs.Form.{isHex, networkLines}
 use Rattle.forms.specs.declared.form.Form.the-variants.{Network}
 use Rattle.forms.specs.declared.form.Range.{Range}
 use Rattle.forms.specs.declared.form.Field.the-variants.{Line, End}
 use Rattle.writers.specs.Write.{Puts, linesFrom}
-use Rattle.writers.proofs.Runs.{DecimalAt, network-head-line, run-starts, next-fits, next-put}
+use Rattle.writers.proofs.Runs.{DecimalAt, network-head-line, no-lines, head-fits, head-next}
 use borrow.Author.Needs.{needs}
 use Rattle.writers.proofs.write.put_network_head.Statement.{statement}
 use Rattle.writers.proofs.write.put_network_head.Tie as tie
 
--- a line of the head
-line : (s : tie.Start) (i k : ℕ) (r : Range) → i < 6 → getD networkLines i End ≡ Line k r → isHex r ≡ false → DecimalAt Network (s .args .list .now) i (prefixOf k)
-line s = network-head-line (s .args .list .now) (s .pre .0)
+module _ (s : tie.Start) where
+  abbrev list : List ℕ
+  list = s .args .list .now
 
-room : (s : tie.Start) → 0 + length (linesFrom Network (s .args .list .now) 0 6) ≤ length (s .args .out .now)
-room s = omega (arith, s .pre .1)
+  line : (i k : ℕ) (r : Range) → i < 6 → getD networkLines i End ≡ Line k r → isHex r ≡ false → DecimalAt Network list i (prefixOf k)
+  line = network-head-line list (s .pre .0)
 
--- one line after the other is put
-abbrev Written : tie.Start → ℕ → List ℕ → ℕ → Type 0
-Written s m out p = Puts (linesFrom Network (s .args .list .now) 0 m) 0 (s .args .out .now) out p
+  -- the first m lines are put
+  abbrev Written : ℕ → List ℕ → ℕ → Type 0
+  Written m out p = Puts (linesFrom Network list 0 m) 0 (s .args .out .now) out p
 
-none : (s : tie.Start) → Written s 0 (s .args .out .now) 0
-none s = run-starts Network _ 0 6 (room s)
+  none : Written 0 (s .args .out .now) 0
+  none = no-lines Network list 0 0 (s .args .out .now)
 
-one : (c : tie.After-put-line) → Written (c .before .before .before .before .before .before) 1 (c .put-line .last .0) (c .put-line .result)
-one c = next-put Network _ 0 6 (room (c .before .before .before .before .before .before)) 0 0 (omega arith) refl (line (c .before .before .before .before .before .before) 0 _ _ (omega arith) refl refl .line) (none (c .before .before .before .before .before .before)) 1 refl (c .put-line .ensures)
+abbrev start-1 : tie.After-put-line → tie.Start
+start-1 c = c .before .before .before .before .before .before
 
-two : (c : tie.After-put-line2) → Written (c .before .before .before .before .before .before .before .before .before .before .before .before) 2 (c .put-line2 .last .0) (c .put-line2 .result)
-two c = next-put Network _ 0 6 (room (c .before .before .before .before .before .before .before .before .before .before .before .before)) 1 1 (omega arith) refl (line (c .before .before .before .before .before .before .before .before .before .before .before .before) 1 _ _ (omega arith) refl refl .line) (one (c .before .before .before .before .before .before)) 2 refl (c .put-line2 .ensures)
+one : (c : tie.After-put-line) → Written (start-1 c) 1 (c .put-line .last .0) (c .put-line .result)
+one c = let s = start-1 c in head-next Network (list s) 6 (s .pre .1) 0 (omega arith) (line s 0 _ _ (omega arith) refl refl) (none s) (c .put-line .ensures)
 
-three : (c : tie.After-put-line3) → Written (c .before .before .before .before .before .before .before .before .before .before .before .before .before .before .before .before .before .before) 3 (c .put-line3 .last .0) (c .put-line3 .result)
-three c = next-put Network _ 0 6 (room (c .before .before .before .before .before .before .before .before .before .before .before .before .before .before .before .before .before .before)) 2 2 (omega arith) refl (line (c .before .before .before .before .before .before .before .before .before .before .before .before .before .before .before .before .before .before) 2 _ _ (omega arith) refl refl .line) (two (c .before .before .before .before .before .before)) 3 refl (c .put-line3 .ensures)
+abbrev start-2 : tie.After-put-line2 → tie.Start
+start-2 c = start-1 (c .before .before .before .before .before .before)
 
-four : (c : tie.After-put-line4) → Written (c .before .before .before .before .before .before .before .before .before .before .before .before .before .before .before .before .before .before .before .before .before .before .before .before) 4 (c .put-line4 .last .0) (c .put-line4 .result)
-four c = next-put Network _ 0 6 (room (c .before .before .before .before .before .before .before .before .before .before .before .before .before .before .before .before .before .before .before .before .before .before .before .before)) 3 3 (omega arith) refl (line (c .before .before .before .before .before .before .before .before .before .before .before .before .before .before .before .before .before .before .before .before .before .before .before .before) 3 _ _ (omega arith) refl refl .line) (three (c .before .before .before .before .before .before)) 4 refl (c .put-line4 .ensures)
+two : (c : tie.After-put-line2) → Written (start-2 c) 2 (c .put-line2 .last .0) (c .put-line2 .result)
+two c = let s = start-2 c in head-next Network (list s) 6 (s .pre .1) 1 (omega arith) (line s 1 _ _ (omega arith) refl refl) (one (c .before .before .before .before .before .before)) (c .put-line2 .ensures)
 
-five : (c : tie.After-put-line5) → Written (c .before .before .before .before .before .before .before .before .before .before .before .before .before .before .before .before .before .before .before .before .before .before .before .before .before .before .before .before .before .before) 5 (c .put-line5 .last .0) (c .put-line5 .result)
-five c = next-put Network _ 0 6 (room (c .before .before .before .before .before .before .before .before .before .before .before .before .before .before .before .before .before .before .before .before .before .before .before .before .before .before .before .before .before .before)) 4 4 (omega arith) refl (line (c .before .before .before .before .before .before .before .before .before .before .before .before .before .before .before .before .before .before .before .before .before .before .before .before .before .before .before .before .before .before) 4 _ _ (omega arith) refl refl .line) (four (c .before .before .before .before .before .before)) 5 refl (c .put-line5 .ensures)
+abbrev start-3 : tie.After-put-line3 → tie.Start
+start-3 c = start-2 (c .before .before .before .before .before .before)
 
-six : (c : tie.After-put-line6) → Written (c .before .before .before .before .before .before .before .before .before .before .before .before .before .before .before .before .before .before .before .before .before .before .before .before .before .before .before .before .before .before .before .before .before .before .before .before) 6 (c .put-line6 .last .0) (c .put-line6 .result)
-six c = next-put Network _ 0 6 (room (c .before .before .before .before .before .before .before .before .before .before .before .before .before .before .before .before .before .before .before .before .before .before .before .before .before .before .before .before .before .before .before .before .before .before .before .before)) 5 5 (omega arith) refl (line (c .before .before .before .before .before .before .before .before .before .before .before .before .before .before .before .before .before .before .before .before .before .before .before .before .before .before .before .before .before .before .before .before .before .before .before .before) 5 _ _ (omega arith) refl refl .line) (five (c .before .before .before .before .before .before)) 6 refl (c .put-line6 .ensures)
+three : (c : tie.After-put-line3) → Written (start-3 c) 3 (c .put-line3 .last .0) (c .put-line3 .result)
+three c = let s = start-3 c in head-next Network (list s) 6 (s .pre .1) 2 (omega arith) (line s 2 _ _ (omega arith) refl refl) (two (c .before .before .before .before .before .before)) (c .put-line3 .ensures)
+
+abbrev start-4 : tie.After-put-line4 → tie.Start
+start-4 c = start-3 (c .before .before .before .before .before .before)
+
+four : (c : tie.After-put-line4) → Written (start-4 c) 4 (c .put-line4 .last .0) (c .put-line4 .result)
+four c = let s = start-4 c in head-next Network (list s) 6 (s .pre .1) 3 (omega arith) (line s 3 _ _ (omega arith) refl refl) (three (c .before .before .before .before .before .before)) (c .put-line4 .ensures)
+
+abbrev start-5 : tie.After-put-line5 → tie.Start
+start-5 c = start-4 (c .before .before .before .before .before .before)
+
+five : (c : tie.After-put-line5) → Written (start-5 c) 5 (c .put-line5 .last .0) (c .put-line5 .result)
+five c = let s = start-5 c in head-next Network (list s) 6 (s .pre .1) 4 (omega arith) (line s 4 _ _ (omega arith) refl refl) (four (c .before .before .before .before .before .before)) (c .put-line5 .ensures)
+
+abbrev start-6 : tie.After-put-line6 → tie.Start
+start-6 c = start-5 (c .before .before .before .before .before .before)
+
+six : (c : tie.After-put-line6) → Written (start-6 c) 6 (c .put-line6 .last .0) (c .put-line6 .result)
+six c = let s = start-6 c in head-next Network (list s) 6 (s .pre .1) 5 (omega arith) (line s 5 _ _ (omega arith) refl refl) (five (c .before .before .before .before .before .before)) (c .put-line6 .ensures)
 
 slice-aggregate-put-line : tie.Need-slice-aggregate-put-line
 slice-aggregate-put-line c = search needs
@@ -55,52 +73,52 @@ shared-slice-read-put-line : tie.Need-shared-slice-read-put-line
 shared-slice-read-put-line c = line (c .before .before .before .before .before) 0 _ _ (omega arith) refl refl .number .within
 
 put-line-requires : tie.Need-put-line-requires
-put-line-requires c κs = (line (c .before .before .before .before .before) 0 _ _ (omega arith) refl refl .number .small, next-fits Network _ 0 6 (room (c .before .before .before .before .before)) 0 0 (omega arith) refl (line (c .before .before .before .before .before) 0 _ _ (omega arith) refl refl .line) (none (c .before .before .before .before .before)))
+put-line-requires c κs = let s = c .before .before .before .before .before in head-fits Network (list s) 6 (s .pre .1) 0 (omega arith) (line s 0 _ _ (omega arith) refl refl) (none s)
 
 slice-aggregate-put-line-2 : tie.Need-slice-aggregate-put-line-2
 slice-aggregate-put-line-2 c = search needs
 
 shared-slice-read-put-line-2 : tie.Need-shared-slice-read-put-line-2
-shared-slice-read-put-line-2 c = line (c .before .before .before .before .before .before .before .before .before .before .before) 1 _ _ (omega arith) refl refl .number .within
+shared-slice-read-put-line-2 c = line (start-1 (c .before .before .before .before .before)) 1 _ _ (omega arith) refl refl .number .within
 
 put-line-requires-2 : tie.Need-put-line-requires-2
-put-line-requires-2 c κs = (line (c .before .before .before .before .before .before .before .before .before .before .before) 1 _ _ (omega arith) refl refl .number .small, next-fits Network _ 0 6 (room (c .before .before .before .before .before .before .before .before .before .before .before)) 1 1 (omega arith) refl (line (c .before .before .before .before .before .before .before .before .before .before .before) 1 _ _ (omega arith) refl refl .line) (one (c .before .before .before .before .before)))
+put-line-requires-2 c κs = let s = start-1 (c .before .before .before .before .before) in head-fits Network (list s) 6 (s .pre .1) 1 (omega arith) (line s 1 _ _ (omega arith) refl refl) (one (c .before .before .before .before .before))
 
 slice-aggregate-put-line-3 : tie.Need-slice-aggregate-put-line-3
 slice-aggregate-put-line-3 c = search needs
 
 shared-slice-read-put-line-3 : tie.Need-shared-slice-read-put-line-3
-shared-slice-read-put-line-3 c = line (c .before .before .before .before .before .before .before .before .before .before .before .before .before .before .before .before .before) 2 _ _ (omega arith) refl refl .number .within
+shared-slice-read-put-line-3 c = line (start-2 (c .before .before .before .before .before)) 2 _ _ (omega arith) refl refl .number .within
 
 put-line-requires-3 : tie.Need-put-line-requires-3
-put-line-requires-3 c κs = (line (c .before .before .before .before .before .before .before .before .before .before .before .before .before .before .before .before .before) 2 _ _ (omega arith) refl refl .number .small, next-fits Network _ 0 6 (room (c .before .before .before .before .before .before .before .before .before .before .before .before .before .before .before .before .before)) 2 2 (omega arith) refl (line (c .before .before .before .before .before .before .before .before .before .before .before .before .before .before .before .before .before) 2 _ _ (omega arith) refl refl .line) (two (c .before .before .before .before .before)))
+put-line-requires-3 c κs = let s = start-2 (c .before .before .before .before .before) in head-fits Network (list s) 6 (s .pre .1) 2 (omega arith) (line s 2 _ _ (omega arith) refl refl) (two (c .before .before .before .before .before))
 
 slice-aggregate-put-line-4 : tie.Need-slice-aggregate-put-line-4
 slice-aggregate-put-line-4 c = search needs
 
 shared-slice-read-put-line-4 : tie.Need-shared-slice-read-put-line-4
-shared-slice-read-put-line-4 c = line (c .before .before .before .before .before .before .before .before .before .before .before .before .before .before .before .before .before .before .before .before .before .before .before) 3 _ _ (omega arith) refl refl .number .within
+shared-slice-read-put-line-4 c = line (start-3 (c .before .before .before .before .before)) 3 _ _ (omega arith) refl refl .number .within
 
 put-line-requires-4 : tie.Need-put-line-requires-4
-put-line-requires-4 c κs = (line (c .before .before .before .before .before .before .before .before .before .before .before .before .before .before .before .before .before .before .before .before .before .before .before) 3 _ _ (omega arith) refl refl .number .small, next-fits Network _ 0 6 (room (c .before .before .before .before .before .before .before .before .before .before .before .before .before .before .before .before .before .before .before .before .before .before .before)) 3 3 (omega arith) refl (line (c .before .before .before .before .before .before .before .before .before .before .before .before .before .before .before .before .before .before .before .before .before .before .before) 3 _ _ (omega arith) refl refl .line) (three (c .before .before .before .before .before)))
+put-line-requires-4 c κs = let s = start-3 (c .before .before .before .before .before) in head-fits Network (list s) 6 (s .pre .1) 3 (omega arith) (line s 3 _ _ (omega arith) refl refl) (three (c .before .before .before .before .before))
 
 slice-aggregate-put-line-5 : tie.Need-slice-aggregate-put-line-5
 slice-aggregate-put-line-5 c = search needs
 
 shared-slice-read-put-line-5 : tie.Need-shared-slice-read-put-line-5
-shared-slice-read-put-line-5 c = line (c .before .before .before .before .before .before .before .before .before .before .before .before .before .before .before .before .before .before .before .before .before .before .before .before .before .before .before .before .before) 4 _ _ (omega arith) refl refl .number .within
+shared-slice-read-put-line-5 c = line (start-4 (c .before .before .before .before .before)) 4 _ _ (omega arith) refl refl .number .within
 
 put-line-requires-5 : tie.Need-put-line-requires-5
-put-line-requires-5 c κs = (line (c .before .before .before .before .before .before .before .before .before .before .before .before .before .before .before .before .before .before .before .before .before .before .before .before .before .before .before .before .before) 4 _ _ (omega arith) refl refl .number .small, next-fits Network _ 0 6 (room (c .before .before .before .before .before .before .before .before .before .before .before .before .before .before .before .before .before .before .before .before .before .before .before .before .before .before .before .before .before)) 4 4 (omega arith) refl (line (c .before .before .before .before .before .before .before .before .before .before .before .before .before .before .before .before .before .before .before .before .before .before .before .before .before .before .before .before .before) 4 _ _ (omega arith) refl refl .line) (four (c .before .before .before .before .before)))
+put-line-requires-5 c κs = let s = start-4 (c .before .before .before .before .before) in head-fits Network (list s) 6 (s .pre .1) 4 (omega arith) (line s 4 _ _ (omega arith) refl refl) (four (c .before .before .before .before .before))
 
 slice-aggregate-put-line-6 : tie.Need-slice-aggregate-put-line-6
 slice-aggregate-put-line-6 c = search needs
 
 shared-slice-read-put-line-6 : tie.Need-shared-slice-read-put-line-6
-shared-slice-read-put-line-6 c = line (c .before .before .before .before .before .before .before .before .before .before .before .before .before .before .before .before .before .before .before .before .before .before .before .before .before .before .before .before .before .before .before .before .before .before .before) 5 _ _ (omega arith) refl refl .number .within
+shared-slice-read-put-line-6 c = line (start-5 (c .before .before .before .before .before)) 5 _ _ (omega arith) refl refl .number .within
 
 put-line-requires-6 : tie.Need-put-line-requires-6
-put-line-requires-6 c κs = (line (c .before .before .before .before .before .before .before .before .before .before .before .before .before .before .before .before .before .before .before .before .before .before .before .before .before .before .before .before .before .before .before .before .before .before .before) 5 _ _ (omega arith) refl refl .number .small, next-fits Network _ 0 6 (room (c .before .before .before .before .before .before .before .before .before .before .before .before .before .before .before .before .before .before .before .before .before .before .before .before .before .before .before .before .before .before .before .before .before .before .before)) 5 5 (omega arith) refl (line (c .before .before .before .before .before .before .before .before .before .before .before .before .before .before .before .before .before .before .before .before .before .before .before .before .before .before .before .before .before .before .before .before .before .before .before) 5 _ _ (omega arith) refl refl .line) (five (c .before .before .before .before .before)))
+put-line-requires-6 c κs = let s = start-5 (c .before .before .before .before .before) in head-fits Network (list s) 6 (s .pre .1) 5 (omega arith) (line s 5 _ _ (omega arith) refl refl) (five (c .before .before .before .before .before))
 
 same-length : tie.Need-same-length
 same-length c = search needs

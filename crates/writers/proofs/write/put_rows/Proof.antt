@@ -9,7 +9,7 @@ use Rattle.forms.specs.declared.form.Form.the-variants.{Plan}
 use Rattle.forms.proofs.Good.{plan-size}
 use Rattle.writers.specs.Write.{Puts, decimalValue, decimalLine, linesFrom}
 use Rattle.writers.proofs.Writing.{puts-length, then-fits, then-puts}
-use Rattle.writers.proofs.Runs.{DecimalAt, at-line, run-starts, run-within, next-fits, next-put}
+use Rattle.writers.proofs.Runs.{DecimalAt, at-line, no-lines, run-within, next-fits, next-put}
 use borrow.Author.Needs.{needs}
 use Rattle.writers.proofs.write.put_rows.Statement.{statement}
 use Rattle.writers.proofs.write.put_rows.Tie as tie
@@ -38,7 +38,7 @@ sub-rows : tie.Need-sub-rows Inv-loop μ-loop
 sub-rows c = omega (arith, plan-size _ (c .before .before .pre .0))
 
 loop-holds : tie.Need-loop-holds Inv-loop μ-loop
-loop-holds c = record { few = search needs; put = run-starts Plan _ 4 _ (c .before .before .pre .1) }
+loop-holds c = record { few = search needs; put = no-lines Plan _ _ _ _ }
 
 slice-aggregate-put : tie.Need-slice-aggregate-put Inv-loop μ-loop
 slice-aggregate-put c = search needs

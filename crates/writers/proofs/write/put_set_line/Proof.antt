@@ -7,7 +7,6 @@ use lib.ListN.{length, length-append, length-set}
 use Rattle.forms.specs.Write.{digitsIn}
 use Rattle.forms.proofs.Numbers.{length-digits}
 use Rattle.writers.proofs.Writing.{puts-byte, puts-length, then-fits, then-puts}
-use borrow.Author.Needs.{needs}
 use Rattle.writers.proofs.write.put_set_line.Statement.{statement}
 use Rattle.writers.proofs.write.put_set_line.Tie as tie
 

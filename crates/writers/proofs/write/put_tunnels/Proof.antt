@@ -10,7 +10,7 @@ use Rattle.forms.specs.declared.form.Form.the-variants.{Network}
 use Rattle.forms.proofs.Good.{network-ranges}
 use Rattle.writers.specs.Write.{Puts, hexLine, lineAt, linesFrom}
 use Rattle.writers.proofs.Writing.{puts-length}
-use Rattle.writers.proofs.Runs.{DecimalAt, flow-line, via-line, old-line, new-line, run-starts, run-within, next-fits, next-put}
+use Rattle.writers.proofs.Runs.{DecimalAt, flow-line, via-line, old-line, new-line, no-lines, run-within, next-fits, next-put}
 use borrow.Author.Needs.{needs}
 use Rattle.writers.proofs.write.put_tunnels.Statement.{statement}
 use Rattle.writers.proofs.write.put_tunnels.Tie as tie
@@ -26,8 +26,11 @@ ranges s = network-ranges (s .args .list .now) (s .pre .0)
 
 -- in a turn
 module _ (c : tie.In-loop Inv-loop μ-loop) where
+  abbrev start : tie.Start Inv-loop μ-loop
+  start = c .before .before .before .before .before .before .before
+
   abbrev list : List ℕ
-  list = c .before .before .before .before .before .before .before .args .list .now
+  list = start .args .list .now
 
   abbrev first : ℕ
   first = 6 + getD list 3 0 + 2 * getD list 4 0
@@ -39,35 +42,48 @@ module _ (c : tie.In-loop Inv-loop μ-loop) where
   place = first + 4 * tunnel
 
   abbrev Written : ℕ → List ℕ → ℕ → Type 0
-  Written m out p = Puts (linesFrom Network list first m) (c .before .before .before .before .before .before .before .args .at) (c .before .before .before .before .before .before .before .args .out .now) out p
+  Written m out p = Puts (linesFrom Network list first m) (start .args .at) (start .args .out .now) out p
 
   flow : DecimalAt Network list place (bytes "flow=")
-  flow = flow-line list (c .before .before .before .before .before .before .before .pre .0) tunnel place (c .loop-test .taken) refl
+  flow = flow-line list (start .pre .0) tunnel place (c .loop-test .taken) refl
 
   via : lineAt Network list (place + 1) ≡ hexLine (bytes "via=") (getD list (place + 1) 0)
-  via = via-line list (c .before .before .before .before .before .before .before .pre .0) tunnel (place + 1) (c .loop-test .taken) refl
+  via = via-line list (start .pre .0) tunnel (place + 1) (c .loop-test .taken) refl
 
   old : DecimalAt Network list (place + 2) (bytes "old=")
-  old = old-line list (c .before .before .before .before .before .before .before .pre .0) tunnel (place + 2) (c .loop-test .taken) refl
+  old = old-line list (start .pre .0) tunnel (place + 2) (c .loop-test .taken) refl
 
   new : DecimalAt Network list (place + 3) (bytes "new=")
-  new = new-line list (c .before .before .before .before .before .before .before .pre .0) tunnel (place + 3) (c .loop-test .taken) refl
+  new = new-line list (start .pre .0) tunnel (place + 3) (c .loop-test .taken) refl
+
+-- the turn that a line is put in
+abbrev turn-1 : tie.After-put-line Inv-loop μ-loop → tie.In-loop Inv-loop μ-loop
+turn-1 c = c .before .before .before .before
+
+abbrev turn-2 : tie.After-put-set-line Inv-loop μ-loop → tie.In-loop Inv-loop μ-loop
+turn-2 c = turn-1 (c .before .before .before .before .before .before)
+
+abbrev turn-3 : tie.After-put-line2 Inv-loop μ-loop → tie.In-loop Inv-loop μ-loop
+turn-3 c = turn-2 (c .before .before .before .before .before .before)
+
+abbrev turn-4 : tie.After-put-line3 Inv-loop μ-loop → tie.In-loop Inv-loop μ-loop
+turn-4 c = turn-3 (c .before .before .before .before .before .before)
 
 -- one line after the other is put
-with-flow : (c : tie.After-put-line Inv-loop μ-loop) → Written (c .before .before .before .before) (4 * tunnel (c .before .before .before .before) + 1) (c .put-line .last .0) (c .put-line .result)
+with-flow : (c : tie.After-put-line Inv-loop μ-loop) → Written (turn-1 c) (4 * tunnel (turn-1 c) + 1) (c .put-line .last .0) (c .put-line .result)
 with-flow c =
-    let t = c .before .before .before .before in
-    next-put Network (list t) (first t) _ (t .before .before .before .before .before .before .before .pre .1) (4 * tunnel t) (place t) (omega (arith, t .loop-test .taken)) refl (flow t .line) (t .before .loop .inv .put) (4 * tunnel t + 1) refl (c .put-line .ensures)
+    let t = turn-1 c in
+    next-put Network (list t) (first t) _ (start t .pre .1) (4 * tunnel t) (place t) (omega (arith, t .loop-test .taken)) refl (flow t .line) (t .before .loop .inv .put) (4 * tunnel t + 1) refl (c .put-line .ensures)
 
-with-via : (c : tie.After-put-set-line Inv-loop μ-loop) → Written (c .before .before .before .before .before .before .before .before .before .before) (4 * tunnel (c .before .before .before .before .before .before .before .before .before .before) + 2) (c .put-set-line .last .0) (c .put-set-line .result)
+with-via : (c : tie.After-put-set-line Inv-loop μ-loop) → Written (turn-2 c) (4 * tunnel (turn-2 c) + 2) (c .put-set-line .last .0) (c .put-set-line .result)
 with-via c =
-    let t = c .before .before .before .before .before .before .before .before .before .before in
-    next-put Network (list t) (first t) _ (t .before .before .before .before .before .before .before .pre .1) (4 * tunnel t + 1) (place t + 1) (omega (arith, t .loop-test .taken)) (omega arith) (via t) (with-flow (c .before .before .before .before .before .before)) (4 * tunnel t + 2) (omega arith) (c .put-set-line .ensures)
+    let t = turn-2 c in
+    next-put Network (list t) (first t) _ (start t .pre .1) (4 * tunnel t + 1) (place t + 1) (omega (arith, t .loop-test .taken)) (omega arith) (via t) (with-flow (c .before .before .before .before .before .before)) (4 * tunnel t + 2) (omega arith) (c .put-set-line .ensures)
 
-with-old : (c : tie.After-put-line2 Inv-loop μ-loop) → Written (c .before .before .before .before .before .before .before .before .before .before .before .before .before .before .before .before) (4 * tunnel (c .before .before .before .before .before .before .before .before .before .before .before .before .before .before .before .before) + 3) (c .put-line2 .last .0) (c .put-line2 .result)
+with-old : (c : tie.After-put-line2 Inv-loop μ-loop) → Written (turn-3 c) (4 * tunnel (turn-3 c) + 3) (c .put-line2 .last .0) (c .put-line2 .result)
 with-old c =
-    let t = c .before .before .before .before .before .before .before .before .before .before .before .before .before .before .before .before in
-    next-put Network (list t) (first t) _ (t .before .before .before .before .before .before .before .pre .1) (4 * tunnel t + 2) (place t + 2) (omega (arith, t .loop-test .taken)) (omega arith) (old t .line) (with-via (c .before .before .before .before .before .before)) (4 * tunnel t + 3) (omega arith) (c .put-line2 .ensures)
+    let t = turn-3 c in
+    next-put Network (list t) (first t) _ (start t .pre .1) (4 * tunnel t + 2) (place t + 2) (omega (arith, t .loop-test .taken)) (omega arith) (old t .line) (with-via (c .before .before .before .before .before .before)) (4 * tunnel t + 3) (omega arith) (c .put-line2 .ensures)
 
 shared-slice-read-first : tie.Need-shared-slice-read-first Inv-loop μ-loop
 shared-slice-read-first c = omega (arith, ranges (c .before .before .before) .size)
@@ -88,7 +104,7 @@ shared-slice-read-tunnels : tie.Need-shared-slice-read-tunnels Inv-loop μ-loop
 shared-slice-read-tunnels c = omega (arith, ranges (c .before .before .before .before .before) .size)
 
 loop-holds : tie.Need-loop-holds Inv-loop μ-loop
-loop-holds c = record { few = search needs; put = run-starts Network _ _ _ (c .before .before .before .before .before .pre .1) }
+loop-holds c = record { few = search needs; put = no-lines Network _ _ _ _ }
 
 mul-i : tie.Need-mul-i Inv-loop μ-loop
 mul-i c = omega (arith, new c .number .few)
@@ -108,71 +124,71 @@ shared-slice-read-put-line c = flow (c .before .before .before) .number .within
 put-line-requires : tie.Need-put-line-requires Inv-loop μ-loop
 put-line-requires c κs =
     let t = c .before .before .before in
-    (flow t .number .small, next-fits Network (list t) (first t) _ (t .before .before .before .before .before .before .before .pre .1) (4 * tunnel t) (place t) (omega (arith, t .loop-test .taken)) refl (flow t .line) (t .before .loop .inv .put))
+    (flow t .number .small, next-fits Network (list t) (first t) _ (start t .pre .1) (4 * tunnel t) (place t) (omega (arith, t .loop-test .taken)) refl (flow t .line) (t .before .loop .inv .put))
 
 slice-aggregate-put-set-line : tie.Need-slice-aggregate-put-set-line Inv-loop μ-loop
 slice-aggregate-put-set-line c = search needs
 
 add-put-set-line : tie.Need-add-put-set-line Inv-loop μ-loop
-add-put-set-line c = omega (arith, new (c .before .before .before .before .before .before .before .before) .number .few)
+add-put-set-line c = omega (arith, new (turn-1 (c .before .before .before .before)) .number .few)
 
 mul-put-set-line : tie.Need-mul-put-set-line Inv-loop μ-loop
-mul-put-set-line c = omega (arith, new (c .before .before .before .before .before .before .before .before) .number .few)
+mul-put-set-line c = omega (arith, new (turn-1 (c .before .before .before .before)) .number .few)
 
 shared-slice-read-put-set-line : tie.Need-shared-slice-read-put-set-line Inv-loop μ-loop
-shared-slice-read-put-set-line c = omega (arith, new (c .before .before .before .before .before .before .before .before .before) .number .within)
+shared-slice-read-put-set-line c = omega (arith, new (turn-1 (c .before .before .before .before .before)) .number .within)
 
 put-set-line-requires : tie.Need-put-set-line-requires Inv-loop μ-loop
 put-set-line-requires c κs =
-    let t = c .before .before .before .before .before .before .before .before .before in
-    next-fits Network (list t) (first t) _ (t .before .before .before .before .before .before .before .pre .1) (4 * tunnel t + 1) (place t + 1) (omega (arith, t .loop-test .taken)) (omega arith) (via t) (with-flow (c .before .before .before .before .before))
+    let t = turn-1 (c .before .before .before .before .before) in
+    next-fits Network (list t) (first t) _ (start t .pre .1) (4 * tunnel t + 1) (place t + 1) (omega (arith, t .loop-test .taken)) (omega arith) (via t) (with-flow (c .before .before .before .before .before))
 
 slice-aggregate-put-line-2 : tie.Need-slice-aggregate-put-line-2 Inv-loop μ-loop
 slice-aggregate-put-line-2 c = search needs
 
 add-put-line : tie.Need-add-put-line Inv-loop μ-loop
-add-put-line c = omega (arith, new (c .before .before .before .before .before .before .before .before .before .before .before .before .before .before) .number .few)
+add-put-line c = omega (arith, new (turn-2 (c .before .before .before .before)) .number .few)
 
 mul-put-line-2 : tie.Need-mul-put-line-2 Inv-loop μ-loop
-mul-put-line-2 c = omega (arith, new (c .before .before .before .before .before .before .before .before .before .before .before .before .before .before) .number .few)
+mul-put-line-2 c = omega (arith, new (turn-2 (c .before .before .before .before)) .number .few)
 
 shared-slice-read-put-line-2 : tie.Need-shared-slice-read-put-line-2 Inv-loop μ-loop
-shared-slice-read-put-line-2 c = old (c .before .before .before .before .before .before .before .before .before .before .before .before .before .before .before) .number .within
+shared-slice-read-put-line-2 c = old (turn-2 (c .before .before .before .before .before)) .number .within
 
 put-line-requires-2 : tie.Need-put-line-requires-2 Inv-loop μ-loop
 put-line-requires-2 c κs =
-    let t = c .before .before .before .before .before .before .before .before .before .before .before .before .before .before .before in
-    (old t .number .small, next-fits Network (list t) (first t) _ (t .before .before .before .before .before .before .before .pre .1) (4 * tunnel t + 2) (place t + 2) (omega (arith, t .loop-test .taken)) (omega arith) (old t .line) (with-via (c .before .before .before .before .before)))
+    let t = turn-2 (c .before .before .before .before .before) in
+    (old t .number .small, next-fits Network (list t) (first t) _ (start t .pre .1) (4 * tunnel t + 2) (place t + 2) (omega (arith, t .loop-test .taken)) (omega arith) (old t .line) (with-via (c .before .before .before .before .before)))
 
 slice-aggregate-put-line-3 : tie.Need-slice-aggregate-put-line-3 Inv-loop μ-loop
 slice-aggregate-put-line-3 c = search needs
 
 add-put-line-2 : tie.Need-add-put-line-2 Inv-loop μ-loop
-add-put-line-2 c = omega (arith, new (c .before .before .before .before .before .before .before .before .before .before .before .before .before .before .before .before .before .before .before .before) .number .few)
+add-put-line-2 c = omega (arith, new (turn-3 (c .before .before .before .before)) .number .few)
 
 mul-put-line-3 : tie.Need-mul-put-line-3 Inv-loop μ-loop
-mul-put-line-3 c = omega (arith, new (c .before .before .before .before .before .before .before .before .before .before .before .before .before .before .before .before .before .before .before .before) .number .few)
+mul-put-line-3 c = omega (arith, new (turn-3 (c .before .before .before .before)) .number .few)
 
 shared-slice-read-put-line-3 : tie.Need-shared-slice-read-put-line-3 Inv-loop μ-loop
-shared-slice-read-put-line-3 c = new (c .before .before .before .before .before .before .before .before .before .before .before .before .before .before .before .before .before .before .before .before .before) .number .within
+shared-slice-read-put-line-3 c = new (turn-3 (c .before .before .before .before .before)) .number .within
 
 put-line-requires-3 : tie.Need-put-line-requires-3 Inv-loop μ-loop
 put-line-requires-3 c κs =
-    let t = c .before .before .before .before .before .before .before .before .before .before .before .before .before .before .before .before .before .before .before .before .before in
-    (new t .number .small, next-fits Network (list t) (first t) _ (t .before .before .before .before .before .before .before .pre .1) (4 * tunnel t + 3) (place t + 3) (omega (arith, t .loop-test .taken)) (omega arith) (new t .line) (with-old (c .before .before .before .before .before)))
+    let t = turn-3 (c .before .before .before .before .before) in
+    (new t .number .small, next-fits Network (list t) (first t) _ (start t .pre .1) (4 * tunnel t + 3) (place t + 3) (omega (arith, t .loop-test .taken)) (omega arith) (new t .line) (with-old (c .before .before .before .before .before)))
 
 add-t : tie.Need-add-t Inv-loop μ-loop
-add-t c = omega (arith, new (c .before .before .before .before .before .before .before .before .before .before .before .before .before .before .before .before .before .before .before .before .before .before .before .before) .number .few)
+add-t c = omega (arith, new (turn-4 (c .before .before)) .number .few)
 
 loop-less : tie.Need-loop-less Inv-loop μ-loop
-loop-less c = omega (arith, c .before .before .before .before .before .before .before .before .before .before .before .before .before .before .before .before .before .before .before .before .before .before .before .before .loop-test .taken)
+loop-less c = omega (arith, turn-4 (c .before .before) .loop-test .taken)
 
 loop-again : tie.Need-loop-again Inv-loop μ-loop
 loop-again c =
-    let t = c .before .before .before .before .before .before .before .before .before .before .before .before .before .before .before .before .before .before .before .before .before .before .before .before in
+    let t = turn-4 (c .before .before) in
     record {
       few = omega (arith, t .loop-test .taken);
-      put = next-put Network (list t) (first t) _ (t .before .before .before .before .before .before .before .pre .1) (4 * tunnel t + 3) (place t + 3) (omega (arith, t .loop-test .taken)) (omega arith) (new t .line) (with-old (c .before .before .before .before .before .before .before .before)) (4 * (tunnel t + 1)) (omega arith) (c .before .before .put-line3 .ensures);
+      put = next-put Network (list t) (first t) _ (start t .pre .1) (4 * tunnel t + 3) (place t + 3) (omega (arith, t .loop-test .taken)) (omega arith) (new t .line) (with-old (c .before .before .before .before .before .before .before .before)) (4 * (tunnel t + 1)) (omega arith) (c .before .before .put-line3 .ensures);
     }
 
 same-length : tie.Need-same-length Inv-loop μ-loop
