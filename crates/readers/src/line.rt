@@ -44,19 +44,22 @@ fn leading_digits(text: &[u8], from: usize) -> Run
     requires { ⌜ from ≤ length (now text) ⌝ }
     ensures { λ r. ⌜ Leading (now (text .entry)) from (r .number) (r .to) ⌝ }
 {
-    let left = text.len() - from;
-    let end = from + if left < 10 { left } else { 10 };
     let mut v: u64 = 0;
-    let mut i = from;
-    while i < end {
-        let x = num::wrapping_sub_u8(text[i], 48);
+    let mut n: usize = 0;
+    while n < 10 {
+        let to = from + n;
+        if to == text.len() {
+            return Run { number: v, to };
+        }
+        let x = num::wrapping_sub_u8(text[to], 48);
         if 10 <= x {
-            return Run { number: v, to: i };
+            return Run { number: v, to };
         }
         v = v * 10 + x as u64;
-        i += 1;
+        n += 1;
     }
-    Run { number: v, to: i }
+    let to = from + 10;
+    Run { number: v, to }
 }
 
 fn decimal(text: &[u8], from: usize) -> Value
