@@ -251,15 +251,16 @@ module _ (text : List ℕ) (from v to : ℕ) (r : Leading text from v to) where
       first : getD (unfed (drop from text)) 0 0 ≡ getD text from 0
       first = getD-take (bytesBefore (drop from text)) (drop from text) 0 0 (omega (arith, r .digits .begins, shut .count)) ∙ rw (getD-drop, add-zero)
 
-      pub decimal-zero : getD text from 0 ≡ 48 → decimalOf (valueAt text from) ≡ none
+      by-first : decimalOf (valueAt text from) ≡ cond (eqb (getD text from 0) 48) none (some v)
       unfolding decimalOf
-      decimal-zero z =
-          rw (shut .part, shut .count, ne-eqb (to - from) 0 (λ w. omega (arith, r .digits .begins)), le-ltb 10 (to - from) (omega (arith, r .few)), ne-eqb (to - from) 1 (λ w. omega arith), first, eq-eqb (getD text from 0) 48 z)
+      by-first =
+          rw (shut .part, shut .count, ne-eqb (to - from) 0 (λ w. omega (arith, r .digits .begins)), le-ltb 10 (to - from) (omega (arith, r .few)), ne-eqb (to - from) 1 (λ w. omega arith), first, shut .number)
+
+      pub decimal-zero : getD text from 0 ≡ 48 → decimalOf (valueAt text from) ≡ none
+      decimal-zero z = by-first ∙ rw (eq-eqb (getD text from 0) 48 z)
 
       pub decimal-many : (getD text from 0 ≡ 48 → ⊥) → decimalOf (valueAt text from) ≡ some v
-      unfolding decimalOf
-      decimal-many z =
-          rw (shut .part, shut .count, ne-eqb (to - from) 0 (λ w. omega (arith, r .digits .begins)), le-ltb 10 (to - from) (omega (arith, r .few)), ne-eqb (to - from) 1 (λ w. omega arith), first, ne-eqb (getD text from 0) 48 z) (shut .number)
+      decimal-many z = by-first ∙ rw (ne-eqb (getD text from 0) 48 z)
 
 -- ---- in hexadecimal
 

@@ -38,7 +38,7 @@ digitTable = 0 ∷ 1 ∷ 2 ∷ 3 ∷ 4 ∷ 5 ∷ 6 ∷ 7 ∷ 8 ∷ 9 ∷ (replic
 abbrev pub unfed : List ℕ → List ℕ
 unfed t = take (bytesBefore t) t
 
--- the bytes from `from` to `i` are digits of a base, and v is their number
+-- the bytes from `from` to `i` are digits of a base, none of them a line feed, and v is their number
 pub record DigitsTo (base : ℕ) (text : List ℕ) (from v i : ℕ) : Type 0 where
   pub begins : from ≤ i
   pub within : i ≤ length text

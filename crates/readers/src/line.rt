@@ -39,24 +39,28 @@ fn begins(text: &[u8], at: usize, key: &[u8]) -> bool
     true
 }
 
-// The decimal digits that stand from `from` on, at most 10.
+// The decimal digits that stand from `from` on, at most 10. Loops over digits go by a count with a constant end, so that the
+// compiler unrolls them.
 fn leading_digits(text: &[u8], from: usize) -> Run
     requires { ⌜ from ≤ length (now text) ⌝ }
     ensures { λ r. ⌜ Leading (now (text .entry)) from (r .number) (r .to) ⌝ }
 {
-    let left = text.len() - from;
-    let end = from + if left < 10 { left } else { 10 };
     let mut v: u64 = 0;
-    let mut i = from;
-    while i < end {
-        let x = num::wrapping_sub_u8(text[i], 48);
+    let mut n: usize = 0;
+    while n < 10 {
+        let to = from + n;
+        if to == text.len() {
+            return Run { number: v, to };
+        }
+        let x = num::wrapping_sub_u8(text[to], 48);
         if 10 <= x {
-            return Run { number: v, to: i };
+            return Run { number: v, to };
         }
         v = v * 10 + x as u64;
-        i += 1;
+        n += 1;
     }
-    Run { number: v, to: i }
+    let to = from + 10;
+    Run { number: v, to }
 }
 
 fn decimal(text: &[u8], from: usize) -> Value
@@ -83,12 +87,12 @@ fn decimal(text: &[u8], from: usize) -> Value
     Value::Is(run.number, to)
 }
 
-// The values of the bytes from `0` to `f` as digits, in lower case; 16 for a byte that is none. A table, for tests of random
-// digits are mispredicted.
+// The values of the bytes from `0` to `f` as digits, in lower case; 16 for a byte that is none. A table, since tests would be
+// mispredicted on random digits.
 const DIGITS: [u8; 55] =
     *b"\x00\x01\x02\x03\x04\x05\x06\x07\x08\x09\x10\x10\x10\x10\x10\x10\x10\x10\x10\x10\x10\x10\x10\x10\x10\x10\x10\x10\x10\x10\x10\x10\x10\x10\x10\x10\x10\x10\x10\x10\x10\x10\x10\x10\x10\x10\x10\x10\x10\x0a\x0b\x0c\x0d\x0e\x0f";
 
-// The value of a digit; 16 for a byte that is none. The caller has copied the table once.
+// The value of a digit; 16 for a byte that is none. A constant is copied where it is used: the caller does that once a line.
 fn digit(table: &[u8], b: u8) -> u64
     requires { ⌜ now table ≡ digitTable ⌝ }
     ensures { λ r. ⌜ r ≡ digitOf b ⌝ }

@@ -1,9 +1,9 @@
 -- `readers::line::leading_digits` meets its contract.
-use Prim.Native.Nat.{ℕ, _+_, _*_, _-_, _^_, _≤_, _<_}
+use Prim.Native.Nat.{_+_, _*_, _-_, _^_, _≤_, _<_}
 use mathlib.Core.Path.{_≡_}
-use mathlib.Core.Logic.{_⊎_, inl, inr, ⊎-elim}
-use mathlib.Core.List.{List}
+use mathlib.Core.Logic.{inl, inr}
 use native.Mathlib.Omega.{arith}
+use native.Mathlib.Nat.{add-zero, add-assoc}
 use lib.Dec.{lit≤}
 use lib.ListN.{length, getD}
 use Rattle.forms.specs.Line.{digitOf}
@@ -14,55 +14,47 @@ use Rattle.readers.proofs.line.leading_digits.Statement.{statement}
 use Rattle.readers.proofs.line.leading_digits.Tie as tie
 
 abbrev Inv-loop : tie.InvT-loop
-Inv-loop text from left end v₀ i₀ v i = record { digits : DigitsTo 10 text from v i; upto : i ≤ end }
+Inv-loop text from v₀ n₀ v n = record { digits : DigitsTo 10 text from v (from + n); few : n ≤ 10 }
 
 abbrev μ-loop : tie.MeasureT-loop
-μ-loop text from left end v₀ i₀ v i = end - i
+μ-loop text from v₀ n₀ v n = 10 - n
 
--- how many are read at most: 10, or as many bytes as are left
-module _ (c : tie.Joined1 Inv-loop μ-loop) where
-  abbrev begin : tie.Start Inv-loop μ-loop
-  begin = c .before .before
-
-  abbrev left : ℕ
-  left = length (begin .args .text .now) - begin .args .from
-
-  most : (c .if1 .end ≤ 10) × ((c .if1 .end ≤ left) × ((left ≤ c .if1 .end) ⊎ (10 ≤ c .if1 .end)))
-  most =
-      ⊎-elim (λ t. (omega (arith, t .1, t .0 .taken), (omega (arith, t .1), inl (omega (arith, t .1)))))
-      (λ t. (omega (arith, t .1), (omega (arith, t .1, t .0 .left), inr (omega (arith, t .1)))))
-      (c .if1 .came)
+abbrev begin : tie.At-loop Inv-loop μ-loop → tie.Start Inv-loop μ-loop
+begin c = c .before .before
 
 -- a byte is looked at
-module _ (c : tie.In-loop Inv-loop μ-loop) where
+module _ (c : tie.Else1 Inv-loop μ-loop) where
   abbrev head : tie.At-loop Inv-loop μ-loop
-  head = c .before
+  head = c .before .before
 
-  abbrev joined : tie.Joined1 Inv-loop μ-loop
-  joined = head .before .before
+  within : begin head .args .from + head .loop .n < length (begin head .args .text .now)
+  within = omega (arith, head .loop .inv .digits .within, c .if1 .left)
 
-  within : head .loop .i < length (begin joined .args .text .now)
-  within = omega (arith, c .loop-test .taken, most joined .1 .0, begin joined .pre)
+-- and is a digit
+module _ (c : tie.Else2 Inv-loop μ-loop) where
+  abbrev read : tie.After-wrapping-sub-u8 Inv-loop μ-loop
+  read = c .before
 
-module _ (c : tie.After-wrapping-sub-u8 Inv-loop μ-loop) where
-  abbrev turn : tie.In-loop Inv-loop μ-loop
-  turn = c .before .before
+  abbrev on : tie.Else1 Inv-loop μ-loop
+  on = read .before .before
 
-  is-digit : c .wrapping-sub-u8 .result < 10 → digitOf (getD (begin (joined turn) .args .text .now) (head turn .loop .i) 0) ≡ c .wrapping-sub-u8 .result
-  is-digit h = digit-decimal _ _ (c .wrapping-sub-u8 .ensures) (c .wrapping-sub-u8 .ok) h
+  is : digitOf (getD (begin (head on) .args .text .now) (begin (head on) .args .from + head on .loop .n) 0) ≡ read .wrapping-sub-u8 .result
+  is = digit-decimal _ _ (read .wrapping-sub-u8 .ensures) (read .wrapping-sub-u8 .ok) (c .if2 .left)
 
-  room : c .wrapping-sub-u8 .result < 10 → head turn .loop .v * 10 + c .wrapping-sub-u8 .result < 2 ^ 64
-  room h =
-      digit-room 10 _ _ _ _ _ (head turn .loop .inv .digits) (within turn) (is-digit h) h 10 (omega (arith, turn .loop-test .taken, most (joined turn) .0)) (lit≤ tt) (lit≤ tt)
-
-sub-left : tie.Need-sub-left Inv-loop μ-loop
-sub-left c = search needs
-
-add-end : tie.Need-add-end Inv-loop μ-loop
-add-end c = omega (arith, most (c .before) .1 .0, begin (c .before) .pre)
+  room : head on .loop .v * 10 + read .wrapping-sub-u8 .result < 2 ^ 64
+  room =
+      digit-room 10 _ _ _ _ _ (head on .loop .inv .digits) (within on) is (c .if2 .left) 10 (omega (arith, on .before .loop-test .taken)) (lit≤ tt) (lit≤ tt)
 
 loop-holds : tie.Need-loop-holds Inv-loop μ-loop
-loop-holds c = record { digits = digits-start 10 _ _ (begin (c .before) .pre); upto = omega arith }
+loop-holds c = record { digits = rw add-zero (digits-start 10 _ _ (c .before .pre)); few = omega arith }
+
+add-to : tie.Need-add-to Inv-loop μ-loop
+add-to c = omega (arith, c .before .loop .inv .digits .within)
+
+returns : tie.Need-returns Inv-loop μ-loop
+returns c =
+    let h = c .before .before in
+    record { digits = h .loop .inv .digits; few = omega (arith, h .loop .inv .few); ends = λ k. absurd (omega (arith, c .if1 .taken)) }
 
 shared-slice-read-wrapping-sub-u8 : tie.Need-shared-slice-read-wrapping-sub-u8 Inv-loop μ-loop
 shared-slice-read-wrapping-sub-u8 c = within (c .before)
@@ -70,46 +62,47 @@ shared-slice-read-wrapping-sub-u8 c = within (c .before)
 wrapping-sub-u8-requires : tie.Need-wrapping-sub-u8-requires Inv-loop μ-loop
 wrapping-sub-u8-requires c κs = search needs
 
-returns : tie.Need-returns Inv-loop μ-loop
-returns c =
-    let b = c .before in
+returns-2 : tie.Need-returns-2 Inv-loop μ-loop
+returns-2 c =
+    let w = c .before in
+    let h = head (w .before .before) in
     record {
-      digits = head (turn b) .loop .inv .digits;
-      few = omega (arith, head (turn b) .loop .inv .upto, most (joined (turn b)) .0);
-      ends = λ k. inl (digit-above _ _ (b .wrapping-sub-u8 .ensures) (b .wrapping-sub-u8 .ok) (c .if2 .taken));
+      digits = h .loop .inv .digits;
+      few = omega (arith, h .loop .inv .few);
+      ends = λ k. inl (digit-above _ _ (w .wrapping-sub-u8 .ensures) (w .wrapping-sub-u8 .ok) (c .if2 .taken));
     }
 
 mul-v : tie.Need-mul-v Inv-loop μ-loop
-mul-v c = omega (arith, room (c .before) (c .if2 .left))
+mul-v c = omega (arith, room c)
 
 cast-v : tie.Need-cast-v Inv-loop μ-loop
 cast-v c = search needs
 
 add-v : tie.Need-add-v Inv-loop μ-loop
-add-v c = omega (arith, room (c .before) (c .if2 .left))
+add-v c = omega (arith, room c)
 
-add-i : tie.Need-add-i Inv-loop μ-loop
-add-i c = omega (arith, within (turn (c .before)))
+add-n : tie.Need-add-n Inv-loop μ-loop
+add-n c = search needs
 
 loop-less : tie.Need-loop-less Inv-loop μ-loop
-loop-less c = omega (arith, c .before .before .before .loop-test .taken)
+loop-less c = omega (arith, on c .before .loop-test .taken)
 
 loop-again : tie.Need-loop-again Inv-loop μ-loop
 loop-again c =
-    let b = c .before in
+    let h = head (on c) in
     record {
-      digits = digits-more 10 _ _ _ _ _ (head (turn b) .loop .inv .digits) (within (turn b)) (is-digit b (c .if2 .left)) (c .if2 .left) (lit≤ tt);
-      upto = omega (arith, turn b .loop-test .taken);
+      digits = rw (← add-assoc (begin h .args .from) (h .loop .n) 1) (digits-more 10 _ _ _ _ _ (h .loop .inv .digits) (within (on c)) (is c) (c .if2 .left) (lit≤ tt));
+      few = omega (arith, on c .before .loop-test .taken);
     }
 
-returns-2 : tie.Need-returns-2 Inv-loop μ-loop
-returns-2 c =
-    let j = c .before .before .before in
-    record {
-      digits = c .before .loop .inv .digits;
-      few = omega (arith, c .before .loop .inv .upto, most j .0);
-      ends = λ k. ⊎-elim (λ m. absurd (omega (arith, c .loop-test .left))) (λ m. inr (omega (arith, c .loop-test .left))) (most j .1 .1);
-    }
+add-to-2 : tie.Need-add-to-2 Inv-loop μ-loop
+add-to-2 c = omega (arith, c .before .loop .inv .digits .within, c .loop-test .left)
+
+returns-3 : tie.Need-returns-3 Inv-loop μ-loop
+returns-3 c =
+    let h = c .before in
+    let e : h .loop .n ≡ 10 = omega (arith, h .loop .inv .few, c .loop-test .left) in
+    record { digits = rw e at (h .loop .inv .digits); few = omega arith; ends = λ k. inr (omega arith) }
 
 pub leading-digits-spec : {M : Type 1} → statement M
 leading-digits-spec =
@@ -117,16 +110,17 @@ leading-digits-spec =
     (tie.spec
     Inv-loop
     μ-loop
-    sub-left
-    add-end
     loop-holds
+    add-to
+    returns
     shared-slice-read-wrapping-sub-u8
     wrapping-sub-u8-requires
-    returns
+    returns-2
     mul-v
     cast-v
     add-v
-    add-i
+    add-n
     loop-less
     loop-again
-    returns-2)
+    add-to-2
+    returns-3)
