@@ -1,18 +1,15 @@
 -- Laws of the list of marks.
-use Prim.Native.Nat.{ℕ, zero, suc, _+_, _/_, _%_, _^_, _<_}
-use mathlib.Core.Path.{_≡_, refl, sym, ap, ap₂, _∙_}
+use Prim.Native.Nat.{ℕ, _+_, _/_, _%_, _^_}
+use mathlib.Core.Path.{_≡_, ap, ap₂, _∙_}
 use mathlib.Core.Bool.{Bool, cond, _&&_}
-use mathlib.Core.List.{List, [], _∷_, _++_, append-assoc}
-use native.Mathlib.Omega.{arith}
+use mathlib.Core.List.{List, _++_}
 use native.Mathlib.Numerals.{add-one}
 use lib.Dec.{eqb, ltb}
-use lib.ListN.{length, getD, set, drop, length-append}
-use lib.Seq.{drop-cons, set-at}
+use lib.ListN.{getD, drop}
 use Rattle.model.specs.Net.{Net, Plan, row}
 use Rattle.model.specs.Rule.{crosses, mark}
 use Rattle.checker.specs.Columns.{Holds}
 use Rattle.checker.specs.Inner.{marksOf, marksAt}
-use Rattle.lists.specs.Lists.{listed}
 use Rattle.lists.proofs.Listed.{listed-cong}
 
 -- the marks of a step's columns are the rule's

@@ -1,25 +1,17 @@
 -- What the checker comes to.
-use Prim.Native.Nat.{ℕ, zero, suc, _*_, _≤_, _<_}
-use mathlib.Core.Path.{_≡_}
-use mathlib.Core.Logic.{_≢_}
+use Prim.Native.Nat.{ℕ}
 use lib.Dec.{eqb, leb}
-use lib.ListN.{getD, drop}
-use mathlib.Core.Bool.{Bool, false, cond}
-use mathlib.Core.List.{List, [], _∷_, _++_}
+use lib.ListN.{drop}
+use mathlib.Core.Bool.{cond}
+use mathlib.Core.List.{List, _++_}
 use mathlib.Core.Option.{Option, none, some}
 use Rattle.model.specs.Outcome.{Outcome, good, refused, andThen, number, otherTunnels, missedRow, noRoom, unless}
-use Rattle.model.specs.Net.{Net, Plan}
-use Rattle.model.specs.Scan.{Bound, Overload, cause, step}
-use Rattle.model.specs.Outcome.{Place}
-use Rattle.model.specs.Rule.{exceeds, firstOverload, mark}
+use Rattle.model.specs.Scan.{Overload, cause, step}
+use Rattle.model.specs.Rule.{firstOverload, mark}
 use Rattle.model.specs.Rule as rule
-use Rattle.lists.specs.Lists.{at, networkOf, planOf, GoodNetwork, GoodPlan, listed}
+use Rattle.lists.specs.Lists.{at, networkOf, planOf, listed}
 use Rattle.lists.specs.declared.Answer.{Answer}
 use Rattle.lists.specs.declared.Answer.the-variants.{Done, Refused}
-use Rattle.checker.specs.declared.sums.Missed.{Missed}
-use Rattle.checker.specs.declared.sums.Missed.the-variants as missed
-use Rattle.checker.specs.declared.steps.Found.{Found}
-use Rattle.checker.specs.declared.steps.Found.the-variants.{Nothing, At}
 use Rattle.forms.specs.Read.{judgeList}
 use Rattle.forms.specs.declared.form.Form.the-variants as forms
 

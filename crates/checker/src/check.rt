@@ -3,7 +3,7 @@ ghost use mathlib.Core.Path.{_≡_};
 ghost use Prim.Native.Nat.{_≤_};
 ghost use lib.ListN.{length};
 ghost use Rattle.model.specs.Outcome.{Outcome};
-ghost use Rattle.model.specs.Rule.{firstOverload, missedRow};
+ghost use Rattle.model.specs.Rule.{firstOverload};
 ghost use Rattle.lists.specs.Lists.{at, networkOf, planOf, GoodNetwork, GoodPlan};
 ghost use Rattle.checker.specs.Check.{weighSteps, weigh, verdict, checked, marksAfter};
 ghost use Rattle.checker.specs.Inner.{Checkable, weighPlan};

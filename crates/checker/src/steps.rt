@@ -2,8 +2,7 @@
 ghost use mathlib.Core.Path.{_≡_};
 ghost use Prim.Native.Nat.{_+_, _*_, _≤_, _<_};
 ghost use lib.ListN.{length};
-ghost use Rattle.model.specs.Scan.{Bound};
-ghost use Rattle.model.specs.Rule.{exceeds, firstOverload};
+ghost use Rattle.model.specs.Rule.{firstOverload};
 ghost use Rattle.lists.specs.Lists.{at, networkOf, planOf, GoodNetwork};
 ghost use Rattle.checker.specs.Columns.{Small, linkSum};
 ghost use Rattle.checker.specs.Inner.{Checkable, overBy, foundOf};

@@ -1,10 +1,10 @@
 // The sums of a plan's rows: whether each flow's amounts add up to parts × rate.
 ghost use mathlib.Core.Path.{_≡_};
-ghost use Prim.Native.Nat.{ℕ, _+_, _*_, _≤_, _<_};
+ghost use Prim.Native.Nat.{_+_, _*_, _≤_, _<_};
 ghost use lib.ListN.{length, getD, replicate};
 ghost use Rattle.model.specs.Rule.{missedRow};
 ghost use Rattle.forms.specs.Sums.{Gathered};
-ghost use Rattle.lists.specs.Lists.{at, flowAt, networkOf, planOf, GoodNetwork};
+ghost use Rattle.lists.specs.Lists.{at, networkOf, planOf, GoodNetwork};
 ghost use Rattle.checker.specs.Columns.{Small};
 ghost use Rattle.checker.specs.Inner.{Checkable, FirstMissed, missedOf};
 use crate::rows;

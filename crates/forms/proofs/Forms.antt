@@ -13,7 +13,7 @@ use lib.Seq.{take-take, getD-take, length-take-le, take-append-le, take-append-s
 use borrow.Author.Tests.{ne-eqb, lt-ltb, le-ltb, le-leb}
 use Rattle.model.specs.Limits.{mostLinks, mostFlows, mostTunnels, mostSteps, mostAmount}
 use Rattle.lists.specs.Lists.{at}
-use Rattle.forms.specs.Form.{line, planBody, isHex, admitsOf, Sound, allows, fieldOf, networkLines, flowLines, tunnelLines, planLines, networkBody, mostNumbers}
+use Rattle.forms.specs.Form.{line, planBody, isHex, admitsOf, Sound, allows, fieldOf, networkLines, flowLines, tunnelLines, planLines, networkBody, mostNumbers, mostOf}
 use Rattle.forms.specs.declared.form.Form.{Form}
 use Rattle.forms.specs.declared.form.Form.the-variants.{Network, Plan}
 use Rattle.forms.specs.declared.form.Range.{Range}
@@ -175,9 +175,9 @@ head-of-plan l s h =
       tunnels = between 0 mostTunnels (at l 3) (plan-head-at l s 3 (omega arith) (omega arith)) .1;
     }
 
--- ---- no list of a form is longer than the most numbers
+-- ---- no list of a form is longer than the most numbers of the form
 
-pub full : (form : Form) (l : List ℕ) → Sound form l → mostNumbers ≤ length l → fieldOf form l ≡ End
+full : (form : Form) (l : List ℕ) → Sound form l → mostOf form ≤ length l → fieldOf form l ≡ End
 unfolding fieldOf
 full Network l s h =
     let b = head-of-network l s (omega arith) in
@@ -191,14 +191,18 @@ full Plan l s h =
     let w : 4 ≤ length l = omega arith in
     simp (le-ltb (length l) 4 w, le-ltb (length l - 4) ((at l 2 - 1) * at l 3) x)
 
-pub room : (form : Form) (l : List ℕ) (v : ℕ) → Sound form l → T (allows (fieldOf form l) v) → length l < mostNumbers
-room form l v s t = go (decLt (length l) mostNumbers)
+pub room : (form : Form) (l : List ℕ) (v : ℕ) → Sound form l → T (allows (fieldOf form l) v) → length l < mostOf form
+room form l v s t = go (decLt (length l) (mostOf form))
   where
-    go : Dec (length l < mostNumbers) → length l < mostNumbers
+    go : Dec (length l < mostOf form) → length l < mostOf form
     go (yes h) = h
     go (no h) =
         let e : fieldOf form l ≡ End = full form l s (omega arith) in
         absurd (rw e at t)
+
+pub room-in-all : (form : Form) (l : List ℕ) (v : ℕ) → Sound form l → T (allows (fieldOf form l) v) → length l < mostNumbers
+room-in-all Network l v s t = omega (arith, room Network l v s t)
+room-in-all Plan l v s t = room Plan l v s t
 
 -- ---- a bound on every range that a field can have
 

@@ -1,6 +1,5 @@
 -- Laws of the loops over the parts of a network's list, and that a list with its parts in their ranges is whole.
-use mathlib.Core.Path.{_≡_, refl, ap, subst, subst⁻¹}
-use mathlib.Core.Bool.{true}
+use mathlib.Core.Path.{_≡_, subst, subst⁻¹}
 use mathlib.Core.Logic.{⊎-elim}
 use mathlib.Core.List.{List}
 use Prim.Native.Nat.{ℕ, zero, suc, _+_, _*_, _-_, _/_, _%_, _≤_, _<_}
@@ -12,7 +11,7 @@ use lib.ListN.{length, getD, take}
 use lib.Seq.{length-take-le, getD-take}
 use borrow.Author.Tests.{lt-ltb, le-ltb}
 use Rattle.model.specs.Limits.{mostLinks, mostFlows, mostTunnels, mostAmount}
-use Rattle.lists.specs.Lists.{at, flowAt, tunnelAt}
+use Rattle.lists.specs.Lists.{at}
 use Rattle.forms.specs.Form.{line, Sound, Whole, allows, admitsOf, fieldOf, networkLines, networkBody, flowLines, tunnelLines}
 use Rattle.forms.specs.Ranges.{AtMost, PathsIn, HeadIn}
 use Rattle.forms.specs.declared.form.Form.the-variants.{Network}

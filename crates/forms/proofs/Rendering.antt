@@ -21,7 +21,7 @@ use Rattle.forms.specs.declared.form.Range.{Range}
 use Rattle.forms.specs.declared.form.Range.the-variants.{Between}
 use Rattle.forms.specs.declared.form.Field.{Field}
 use Rattle.forms.specs.declared.form.Field.the-variants.{Line, End}
-use Rattle.forms.proofs.Forms.{sound-take, sound-at, room, small}
+use Rattle.forms.proofs.Forms.{sound-take, sound-at, room-in-all, small}
 use Rattle.forms.proofs.Keys.{key-length}
 use Rattle.forms.proofs.Numbers.{length-digits, width-most}
 use Rattle.forms.proofs.Walks.{step}
@@ -43,7 +43,7 @@ module _ (form : Form) (l : List ℕ) (i : ℕ) (h : i < length l) (s : Sound fo
   count = length-take-le i l (le-of-lt h)
 
   pub at-most : i < mostNumbers
-  at-most = rw count at (room form (take i l) (getD l i 0) (sound-take form l i (le-of-lt h) s) (sound-at form l i h s))
+  at-most = rw count at (room-in-all form (take i l) (getD l i 0) (sound-take form l i (le-of-lt h) s) (sound-at form l i h s))
 
   pub short-value : (k : ℕ) (r : Range) → fieldOf form (take i l) ≡ Line k r → isHex r ≡ false → getD l i 0 < 10000000000
   short-value k r e x = small form (take i l) k r (getD l i 0) (sound-take form l i (le-of-lt h) s) e (rw e at (sound-at form l i h s)) x

@@ -96,6 +96,10 @@ pub record Whole (form : Form) (l : List ℕ) : Type 0 where
   pub sound : Sound form l
   pub ends : fieldOf form l ≡ End
 
--- no list that is sound is longer: the longest is a plan of 50 steps and 96 tunnels
+-- no list that is sound is longer
+abbrev pub mostOf : Form → ℕ
+mostOf network = 6 + mostLinks + 2 * mostFlows + 4 * mostTunnels
+mostOf plan = 4 + (mostSteps - 1) * mostTunnels
+
 abbrev pub mostNumbers : ℕ
-mostNumbers = 4 + (mostSteps - 1) * mostTunnels
+mostNumbers = mostOf plan

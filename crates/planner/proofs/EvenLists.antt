@@ -7,7 +7,7 @@ use native.Mathlib.Omega.{arith}
 use native.Mathlib.Nat.{add-assoc, mul-le-mul-right, eq-or-lt-of-le, le-of-suc-le-suc}
 use native.Mathlib.Numerals.{add-one}
 use lib.ListN.{length, getD, set, take, drop, length-append, length-drop, length-set, List·getD-append}
-use lib.Seq.{getD-at, getD-append-add, drop-cons, drop-length, append-snoc, set-at, take-at, drop-at, drop-drop, drop-set-lt}
+use lib.Seq.{getD-append-add, drop-length, take-at, drop-at, drop-drop, drop-set-lt}
 use Rattle.model.specs.Net.{Net}
 use Rattle.model.specs.Even.{evenRow}
 use Rattle.model.proofs.Rows.{even-at}

@@ -12,7 +12,6 @@ use Rattle.bound.specs.Bound.{boundOf}
 use Rattle.forms.specs.Form.{networkBody, fieldOf}
 use Rattle.forms.specs.Read.{walk, judgeNumbers, addUp}
 use Rattle.planner.specs.Planned.{evenRows, evenList, stuck, byFewest, evenPlan, planned}
-use Rattle.checker.specs.Inner.{marksOf}
 use Rattle.product.specs.Edges.{edges, same, hold}
 
 pub edges-hold : hold edges ≡ true

@@ -1,23 +1,21 @@
 -- Demand 3 holds.
-use Prim.Native.Nat.{ℕ, zero, suc, _-_, _≤_, _<_}
+use Prim.Native.Nat.{ℕ, suc, _-_, _≤_, _<_}
 use mathlib.Core.Path.{_≡_, refl, sym, ap, ap₂, _∙_, subst}
 use mathlib.Core.Bool.{Bool, true, false, cond}
-use mathlib.Core.Logic.{⊎-elim}
-use mathlib.Core.List.{List, [], _∷_, _++_, append-assoc}
+use mathlib.Core.List.{List, _++_}
 use mathlib.Core.Option.{Option, none, some}
 use native.Mathlib.Omega.{arith}
-use native.Mathlib.Nat.{eq-or-lt-of-le}
 use borrow.Author.Tests.{le-leb}
 use lib.Dec.{eqb, leb}
 use lib.ListN.{length, getD, take, drop, List·getD-append}
-use lib.Seq.{take-append-seam, getD-at}
+use lib.Seq.{take-append-seam}
 use Rattle.model.specs.Outcome.{Outcome, good, refused, Cause, number}
 use Rattle.model.specs.Net.{Net, Plan, row}
 use Rattle.model.specs.Scan.{Bound, Overload, cause, step}
 use Rattle.model.specs.Rule.{onLink, load, counts, shown, overloads, exceeds, mark, marked, stepCount}
 use Rattle.model.specs.Even.{keepsScratch, stepBound}
 use Rattle.model.proofs.Sums.{sum-cong}
-use Rattle.lists.specs.Lists.{at, networkOf, planOf, listed}
+use Rattle.lists.specs.Lists.{at, networkOf, planOf}
 use Rattle.lists.specs.Answers.{withRoom, plan, lent}
 use Rattle.lists.specs.declared.Answer.the-variants.{Done, Plan as Planned, Refused}
 use Rattle.forms.specs.Read.{readText, judgeList}

@@ -1,6 +1,6 @@
 -- Demand 3: "one claim, over every network and every plan, given as lists or as texts that the readers take, and over every step, link and choice".
 -- Step a of the paper leads from row a - 1; `length marks` is the room for the marks.
-use Prim.Native.Nat.{ℕ, suc, _-_, _≤_, _<_}
+use Prim.Native.Nat.{ℕ, _-_, _≤_, _<_}
 use mathlib.Core.Path.{_≡_}
 use mathlib.Core.Bool.{true, false}
 use mathlib.Core.List.{List, _++_}

@@ -4,26 +4,23 @@ use mathlib.Core.Bool.{Bool, true, false, cond}
 use mathlib.Core.List.{List, [], _∷_, _++_}
 use mathlib.Core.Option.{Option, none, some}
 use Prim.Native.Nat.{ℕ, _+_, _-_, _≤_, _<_}
-use native.Mathlib.Decide.{decLt, ℕ-discrete}
+use native.Mathlib.Decide.{ℕ-discrete}
 use native.Mathlib.Omega.{arith}
-use lib.Dec.{T}
 use lib.ListN.{length, take, drop, length-drop, length-take}
 use lib.Seq.{drop-drop, drop-length}
-use borrow.Author.Tests.{eq-eqb, ne-eqb, le-ltb}
+use borrow.Author.Tests.{eq-eqb, ne-eqb}
 use Rattle.model.specs.Outcome.{Outcome, good, refused, missing, malformed, outOfRange}
 use Rattle.lists.specs.Lists.{at}
 use Rattle.lists.specs.Answers.{done}
 use Rattle.lists.specs.declared.Answer.the-variants.{Done, Refused}
 use Rattle.forms.specs.Line.{lines, lineValue}
-use Rattle.forms.specs.Form.{fieldOf, admitsOf, allows, secondOf, Sound}
+use Rattle.forms.specs.Form.{fieldOf, admitsOf, secondOf}
 use Rattle.forms.specs.Read.{walk, onValue}
 use Rattle.forms.specs.declared.form.Form.{Form}
-use Rattle.forms.specs.declared.form.Form.the-variants.{Network, Plan}
 use Rattle.forms.specs.declared.form.Range.{Range}
 use Rattle.forms.specs.declared.form.Field.the-variants.{Line, End}
-use Rattle.forms.proofs.Forms.{head-of-network, body-end, room}
 use Rattle.readers.specs.Line.{lineLen, firstLine}
-use Rattle.readers.specs.Read.{takenOf, mostOf, Holds}
+use Rattle.readers.specs.Read.{takenOf, Holds}
 use Rattle.readers.specs.declared.read.Taken.{Taken}
 use Rattle.readers.specs.declared.read.Taken.the-variants.{Number, Stop}
 use Rattle.readers.proofs.Lines.{lines-some, line-some, line-within}
@@ -105,26 +102,6 @@ module _ (form : Form) (n : ℕ) (done′ text : List ℕ) where
 
     pub walk-stop : (m : ℕ) → takenOf k r text at ≡ Stop m → done (walk lineValue form n done′ (lines (drop at text))) ≡ Refused m n (secondOf form)
     walk-stop m e = rw e at walk-taken
-
--- ---- there is room for a number that was taken
-
--- a network of the most lines ends there
-network-full : (l : List ℕ) → Sound Network l → mostOf Network ≤ length l → fieldOf Network l ≡ End
-unfolding fieldOf
-network-full l s h =
-    let b = head-of-network l s (omega arith) in
-    let w : 6 ≤ length l = omega arith in
-    rw (le-ltb (length l) 6 w) (body-end (at l 3) (at l 4) (at l 5) (length l - 6) (omega arith))
-
-pub room-of : (form : Form) (l : List ℕ) (v : ℕ) → Sound form l → T (allows (fieldOf form l) v) → length l < mostOf form
-room-of Network l v s t = go (decLt (length l) (mostOf Network))
-  where
-    go : Dec (length l < mostOf Network) → length l < mostOf Network
-    go (yes h) = h
-    go (no h) =
-        let e : fieldOf Network l ≡ End = network-full l s (omega arith) in
-        absurd (rw e at t)
-room-of Plan l v s t = room Plan l v s t
 
 -- ---- what is known of a number that was taken
 

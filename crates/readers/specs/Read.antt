@@ -1,17 +1,14 @@
 -- What the readers' code comes to, line by line.
-use Prim.Native.Nat.{ℕ, _+_, _*_}
+use Prim.Native.Nat.{ℕ, _+_}
 use mathlib.Core.Path.{_≡_}
 use mathlib.Core.Bool.{cond}
 use mathlib.Core.List.{List}
 use lib.Dec.{eqb}
 use lib.ListN.{length, take, drop}
-use Rattle.model.specs.Limits.{mostLinks, mostFlows, mostTunnels}
 use Rattle.model.specs.Outcome.{Outcome, good, refused, number, malformed, outOfRange, missing}
 use Rattle.forms.specs.Line.{lineValue}
-use Rattle.forms.specs.Form.{admitsOf, mostNumbers}
+use Rattle.forms.specs.Form.{admitsOf}
 use Rattle.forms.specs.Read.{onValue}
-use Rattle.forms.specs.declared.form.Form.{Form}
-use Rattle.forms.specs.declared.form.Form.the-variants.{Network, Plan}
 use Rattle.forms.specs.declared.form.Range.{Range}
 use Rattle.readers.specs.Line.{lineLen, firstLine}
 use Rattle.readers.specs.declared.read.Taken.{Taken}
@@ -27,11 +24,6 @@ takenOf k r text at =
 abbrev pub stopOf : Taken → ℕ
 stopOf (Number v next) = 0
 stopOf (Stop m) = m
-
--- no list of a form that is sound is longer: the longest network has 64 links, 32 flows and 96 tunnels
-abbrev pub mostOf : Form → ℕ
-mostOf Network = 6 + mostLinks + 2 * mostFlows + 4 * mostTunnels
-mostOf Plan = mostNumbers
 
 -- the numbers that were read stand first in a list
 abbrev pub Holds : Outcome (List ℕ) → List ℕ → Type 0

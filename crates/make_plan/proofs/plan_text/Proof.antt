@@ -1,5 +1,5 @@
 -- `make_plan::plan_text` meets its contract: each list has room for what is read or planned, so the three operations come one after the other.
-use Prim.Native.Nat.{ℕ, _≤_}
+use Prim.Native.Nat.{ℕ}
 use mathlib.Core.Path.{_≡_, sym, ap, _∙_}
 use mathlib.Core.List.{List}
 use native.Mathlib.Omega.{arith}

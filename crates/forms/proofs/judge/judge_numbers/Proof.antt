@@ -12,7 +12,7 @@ use Rattle.forms.specs.Form.{Sound, fieldOf, mostNumbers}
 use Rattle.forms.specs.Read.{walk, itself, judgeNumbers}
 use Rattle.forms.specs.declared.form.Field.the-variants.{Line, End}
 use Rattle.lists.specs.declared.Answer.the-variants.{Done}
-use Rattle.forms.proofs.Forms.{room, sound-more, sound-none}
+use Rattle.forms.proofs.Forms.{room-in-all, sound-more, sound-none}
 use Rattle.forms.proofs.Walks.{judge-done, judge-missing, judge-many, judge-outside, judge-more, allows-line}
 use borrow.Author.Needs.{needs}
 use Rattle.forms.proofs.judge.judge_numbers.Statement.{statement}
@@ -108,7 +108,7 @@ loop-again c =
     let more : take (l .loop .i + 1) (l .before .before .args .list .now) ≡ take (l .loop .i) (l .before .before .args .list .now) ++ (getD (l .before .before .args .list .now) (l .loop .i) 0 ∷ []) = rw add-one (take-suc _ _ 0 h) in
     record {
       within = omega (arith, h);
-      few = omega (arith, length-take-le (l .loop .i) (l .before .before .args .list .now) (l .loop .inv .within), room (l .before .before .args .form) (take (l .loop .i) (l .before .before .args .list .now)) _ (l .loop .inv .sound) t);
+      few = omega (arith, length-take-le (l .loop .i) (l .before .before .args .list .now) (l .loop .inv .within), room-in-all (l .before .before .args .form) (take (l .loop .i) (l .before .before .args .list .now)) _ (l .loop .inv .sound) t);
       sound = rw more (sound-more _ _ _ (l .loop .inv .sound) t);
       rest = rw more (l .loop .inv .rest ∙ judge-more _ _ _ _ _ _ _ h (is-line f) a);
     }

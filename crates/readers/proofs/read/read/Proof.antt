@@ -1,7 +1,7 @@
 -- `readers::read::read` meets its contract.
 use Rattle.lists.specs.declared.Answer.the-variants.{Refused, Done}
-use Rattle.forms.specs.Form.{secondOf, Sound, fieldOf, admitsOf, allows}
-use Rattle.readers.specs.Read.{stopOf, takenOf, mostOf}
+use Rattle.forms.specs.Form.{secondOf, Sound, fieldOf, admitsOf, allows, mostOf}
+use Rattle.readers.specs.Read.{stopOf, takenOf}
 use Prim.Native.Nat.{ℕ, _≤_, _<_, _+_, _-_}
 use mathlib.Core.Path.{_≡_, refl, sym, ap, _∙_}
 use mathlib.Core.Bool.{true}
@@ -16,10 +16,10 @@ use Rattle.lists.specs.Answers.{done}
 use Rattle.forms.specs.Line.{lines, lineValue}
 use Rattle.forms.specs.Read.{walk, readLines}
 use Rattle.forms.specs.declared.form.Field.the-variants.{Line, End}
-use Rattle.forms.proofs.Forms.{sound-more, sound-none}
+use Rattle.forms.proofs.Forms.{sound-more, sound-none, room}
 use Rattle.forms.proofs.Walks.{allows-line}
 use Rattle.readers.specs.declared.read.Taken.the-variants.{Number}
-use Rattle.readers.proofs.Reading.{room-of, walk-ended, walk-many, walk-number, walk-stop, number-facts, holds-refused}
+use Rattle.readers.proofs.Reading.{walk-ended, walk-many, walk-number, walk-stop, number-facts, holds-refused}
 use borrow.Author.Needs.{needs}
 use Rattle.readers.proofs.read.read.Statement.{statement}
 use Rattle.readers.proofs.read.read.Tie as tie
@@ -91,7 +91,7 @@ module _ (c : tie.After-taken Inv-loop μ-loop) where
   allowed = allows-line _ _ _ _ (is-line asked) (known .1 .1)
 
   free : head asked .loop .i < mostOf (begin (head asked) .args .form)
-  free = rw (count (head asked)) at (room-of _ _ _ (head asked .loop .inv .sound) allowed)
+  free = rw (count (head asked)) at (room _ _ _ (head asked .loop .inv .sound) allowed)
 
   more : take (head asked .loop .i + 1) (set (head asked .loop .vals) (head asked .loop .i) v) ≡ so-far (head asked) ++ (v ∷ [])
   more = rw add-one (take-suc-set (head asked .loop .vals) (head asked .loop .i) v (omega (arith, free, full (head asked))))
