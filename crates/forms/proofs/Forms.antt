@@ -1,5 +1,5 @@
 -- Laws of the forms: sets and shifts, which field stands where, and what the numbers of a sound list are bounded by.
-use mathlib.Core.Path.{_≡_}
+use mathlib.Core.Path.{_≡_, refl}
 use mathlib.Core.Bool.{Bool, true, false, cond, _&&_, _||_, not, true≢false, false≢true}
 use mathlib.Core.List.{List, [], _∷_, _++_}
 use Prim.Native.Nat.{ℕ, zero, suc, _+_, _*_, _-_, _/_, _%_, _^_, _≤_, _<_}
@@ -110,22 +110,37 @@ module _ (links flows tunnels : ℕ) where
       let z : tunnels ≤ (n - links - 2 * flows) / 4 = omega arith in
       rw (le-ltb n links x, le-ltb ((n - links) / 2) flows y, le-ltb ((n - links - 2 * flows) / 4) tunnels z)
 
+-- the field at an index of a list, in the head and after it
+module _ (l : List ℕ) (i : ℕ) (h : i ≤ length l) where
+  pub network-head-field : i < 6 → fieldOf Network (take i l) ≡ getD networkLines i End
+  unfolding fieldOf
+  network-head-field k = rw (length-take-le i l h, lt-ltb i 6 k)
+
+  pub network-body-field : (n : ℕ) → i ≡ 6 + n → fieldOf Network (take i l) ≡ networkBody (at l 3) (at l 4) (at l 5) n
+  unfolding fieldOf
+  network-body-field n e =
+      let k : 6 ≤ i = omega arith in
+      let d : i - 6 ≡ n = omega arith in
+      rw (length-take-le i l h, le-ltb i 6 k, getD-take i l 3 0 (omega arith), getD-take i l 4 0 (omega arith), getD-take i l 5 0 (omega arith), d)
+
+  pub plan-head-field : i < 4 → fieldOf Plan (take i l) ≡ getD planLines i End
+  unfolding fieldOf
+  plan-head-field k = rw (length-take-le i l h, lt-ltb i 4 k)
+
+  pub plan-body-field : (n : ℕ) → i ≡ 4 + n → fieldOf Plan (take i l) ≡ planBody l n
+  unfolding fieldOf
+  plan-body-field n e =
+      let k : 4 ≤ i = omega arith in
+      let d : i - 4 ≡ n = omega arith in
+      rw (length-take-le i l h, le-ltb i 4 k, getD-take i l 1 0 (omega arith), getD-take i l 2 0 (omega arith), getD-take i l 3 0 (omega arith), d)
+
 -- a sound network's number in the head, and after it
 module _ (l : List ℕ) (s : Sound Network l) where
   pub network-head-at : (i : ℕ) → i < length l → i < 6 → T (allows (getD networkLines i End) (at l i))
-  unfolding fieldOf
-  network-head-at i h k =
-      let n : length (take i l) ≡ i = length-take-le i l (le-of-lt h) in
-      rw (n, lt-ltb i 6 k) at (sound-at Network l i h s)
+  network-head-at i h k = rw (network-head-field l i (le-of-lt h) k) at (sound-at Network l i h s)
 
   pub network-body-at : (n : ℕ) → 6 + n < length l → T (allows (networkBody (at l 3) (at l 4) (at l 5) n) (at l (6 + n)))
-  unfolding fieldOf
-  network-body-at n h =
-      let m : length (take (6 + n) l) ≡ 6 + n = length-take-le (6 + n) l (le-of-lt h) in
-      let k : 6 ≤ 6 + n = omega arith in
-      let d : 6 + n - 6 ≡ n = omega arith in
-      rw (m, le-ltb (6 + n) 6 k, getD-take (6 + n) l 3 0 (omega arith), getD-take (6 + n) l 4 0 (omega arith), getD-take (6 + n) l 5 0 (omega arith), d)
-      at (sound-at Network l (6 + n) h s)
+  network-body-at n h = rw (network-body-field l (6 + n) (le-of-lt h) n refl) at (sound-at Network l (6 + n) h s)
 
 pub record NetworkHead (l : List ℕ) : Type 0 where
   pub links : (1 ≤ at l 3) × (at l 3 ≤ mostLinks)
@@ -148,19 +163,10 @@ rowLines l = (at l 2 - 1) * at l 3
 
 module _ (l : List ℕ) (s : Sound Plan l) where
   pub plan-head-at : (i : ℕ) → i < length l → i < 4 → T (allows (getD planLines i End) (at l i))
-  unfolding fieldOf
-  plan-head-at i h k =
-      let n : length (take i l) ≡ i = length-take-le i l (le-of-lt h) in
-      rw (n, lt-ltb i 4 k) at (sound-at Plan l i h s)
+  plan-head-at i h k = rw (plan-head-field l i (le-of-lt h) k) at (sound-at Plan l i h s)
 
   pub plan-body-at : (n : ℕ) → 4 + n < length l → T (allows (planBody l n) (at l (4 + n)))
-  unfolding fieldOf
-  plan-body-at n h =
-      let m : length (take (4 + n) l) ≡ 4 + n = length-take-le (4 + n) l (le-of-lt h) in
-      let k : 4 ≤ 4 + n = omega arith in
-      let d : 4 + n - 4 ≡ n = omega arith in
-      rw (m, le-ltb (4 + n) 4 k, getD-take (4 + n) l 1 0 (omega arith), getD-take (4 + n) l 2 0 (omega arith), getD-take (4 + n) l 3 0 (omega arith), d)
-      at (sound-at Plan l (4 + n) h s)
+  plan-body-at n h = rw (plan-body-field l (4 + n) (le-of-lt h) n refl) at (sound-at Plan l (4 + n) h s)
 
 pub record PlanHead (l : List ℕ) : Type 0 where
   pub parts : (1 ≤ at l 1) × (at l 1 ≤ mostSteps)

@@ -10,7 +10,6 @@ use native.Mathlib.Decide.{decLt}
 use native.Mathlib.Omega.{arith}
 use lib.Dec.{T, eqb, leb, ltb, ltb→lt, eqb·suc-zero}
 use lib.ListN.{length, getD, take}
-use lib.Seq.{getD-take, length-take-le}
 use borrow.Author.Tests.{lt-ltb, le-ltb}
 use Rattle.model.specs.Limits.{mostLinks, mostFlows, mostTunnels, mostSteps, mostAmount, leastShare, mostShare}
 use Rattle.model.specs.Outcome.{good, Cause, unless, Place}
@@ -24,7 +23,7 @@ use Rattle.forms.specs.declared.form.Form.the-variants.{Network, Plan}
 use Rattle.forms.specs.declared.form.Range.the-variants.{Between}
 use Rattle.forms.specs.declared.form.Field.{Field}
 use Rattle.forms.specs.declared.form.Field.the-variants.{Line, End}
-use Rattle.forms.proofs.Forms.{both, between, in-between, network-head-at, network-body-at, plan-head-at, plan-body-at, rowLines, body-cap, body-flow, body-tunnel, body-end}
+use Rattle.forms.proofs.Forms.{both, between, in-between, network-head-at, network-body-at, plan-head-at, plan-body-at, rowLines, body-cap, body-flow, body-tunnel, body-end, plan-head-field, plan-body-field}
 use Rattle.forms.proofs.Walks.{judged-good, good-judged}
 use Rattle.forms.specs.Named.{judgeNetwork, judgePlan}
 
@@ -115,7 +114,7 @@ module _ (l : List ℕ) (w : Whole Network l) where
   flow-line f j i h k e =
       rw (body-flow (at l 3) (at l 4) (at l 5) f j h k) at (body-line (at l 3 + 2 * f + j) i (omega arith) (omega (arith, network-size)))
 
-  tunnel-line : (t j i : ℕ) → t < at l 5 → j < 4 → i ≡ 6 + at l 3 + 2 * at l 4 + 4 * t + j → T (allows (getD (tunnelLines (at l 3) (at l 4)) j End) (at l i))
+  pub tunnel-line : (t j i : ℕ) → t < at l 5 → j < 4 → i ≡ 6 + at l 3 + 2 * at l 4 + 4 * t + j → T (allows (getD (tunnelLines (at l 3) (at l 4)) j End) (at l i))
   tunnel-line t j i h k e =
       rw (body-tunnel (at l 3) (at l 4) (at l 5) t j h k) at (body-line (at l 3 + 2 * at l 4 + 4 * t + j) i (omega arith) (omega (arith, network-size)))
 
@@ -231,12 +230,11 @@ module _ (l : List ℕ) (g : GoodPlan l) where
   head-in (suc (suc (suc (suc i)))) h = absurd (omega arith)
 
   plan-sound : (i : ℕ) → i < length l → Dec (i < 4) → T (allows (fieldOf Plan (take i l)) (getD l i 0))
-  unfolding fieldOf
-  plan-sound i h (yes k) = rw (length-take-le i l (le-of-lt h), lt-ltb i 4 k) (head-in i k)
+  plan-sound i h (yes k) = rw (plan-head-field l i (le-of-lt h) k) (head-in i k)
   plan-sound i h (no k) =
       let four : 4 ≤ i = omega arith in
       let n : i - 4 < (at l 2 - 1) * at l 3 = omega (arith, g .size) in
-      rw (length-take-le i l (le-of-lt h), le-ltb i 4 four, getD-take i l 1 0 (omega arith), getD-take i l 2 0 (omega arith), getD-take i l 3 0 (omega arith), lt-ltb (i - 4) ((at l 2 - 1) * at l 3) n)
+      rw (plan-body-field l i (le-of-lt h) (i - 4) (omega arith), lt-ltb (i - 4) ((at l 2 - 1) * at l 3) n)
       (in-between 0 (mostAmount * at l 1) (at l i) (omega arith) (g .amounts i four h))
 
   plan-ends : fieldOf Plan l ≡ End

@@ -1,5 +1,6 @@
 -- Laws of the loops over the parts of a network's list, and that a list with its parts in their ranges is whole.
-use mathlib.Core.Path.{_≡_, subst, subst⁻¹}
+use mathlib.Core.Bool.{Bool, true, false, true≢false, false≢true}
+use mathlib.Core.Path.{_≡_, refl, subst, subst⁻¹}
 use mathlib.Core.Logic.{⊎-elim}
 use mathlib.Core.List.{List}
 use Prim.Native.Nat.{ℕ, zero, suc, _+_, _*_, _-_, _/_, _%_, _≤_, _<_}
@@ -8,16 +9,38 @@ use native.Mathlib.Decide.{decLt}
 use native.Mathlib.Omega.{arith}
 use lib.Dec.{T, ltb}
 use lib.ListN.{length, getD, take}
-use lib.Seq.{length-take-le, getD-take}
 use borrow.Author.Tests.{lt-ltb, le-ltb}
 use Rattle.model.specs.Limits.{mostLinks, mostFlows, mostTunnels, mostAmount}
 use Rattle.lists.specs.Lists.{at}
 use Rattle.forms.specs.Form.{line, Sound, Whole, allows, admitsOf, fieldOf, networkLines, networkBody, flowLines, tunnelLines}
-use Rattle.forms.specs.Ranges.{AtMost, PathsIn, HeadIn}
+use Rattle.forms.specs.Ranges.{Decides, AtMost, PathsIn, HeadIn}
 use Rattle.forms.specs.declared.form.Form.the-variants.{Network}
 use Rattle.forms.specs.declared.form.Range.the-variants.{Between, Set}
-use Rattle.forms.specs.declared.form.Field.the-variants.{End}
-use Rattle.forms.proofs.Forms.{NetworkHead, between, in-between, body-cap, body-flow, body-tunnel, body-end}
+use Rattle.forms.specs.declared.form.Field.the-variants.{Line, End}
+use Rattle.forms.proofs.Forms.{NetworkHead, between, in-between, body-cap, body-flow, body-tunnel, body-end, network-head-field, network-body-field, network-head-at}
+use Rattle.forms.proofs.Good.{network-ranges, tunnel-line}
+use Rattle.forms.specs.declared.form.Field.{Field}
+use Rattle.forms.specs.declared.form.Range.{Range}
+
+-- ---- tests
+
+pub decides-yes : {X : Type 0} → X → Decides true X
+decides-yes x = record { yes = λ e. x; no = λ e. absurd (true≢false e) }
+
+pub decides-no : {X : Type 0} → (X → ⊥) → Decides false X
+decides-no h = record { yes = λ e. absurd (false≢true e); no = λ e. h }
+
+pub decides-same : {X Y : Type 0} (b : Bool) → (X → Y) → (Y → X) → Decides b X → Decides b Y
+decides-same b f g d = record { yes = λ e. f (d .yes e); no = λ e y. d .no e (g y) }
+
+pub untrue : (b : Bool) → b ≡ false → T b → ⊥
+untrue b e t = rw e at t
+
+pub no-line : (f : Field) (v : ℕ) → f ≡ End → T (allows f v) → ⊥
+no-line f v e t = rw e at t
+
+pub not-allowed : (f : Field) (k : ℕ) (r : Range) (v : ℕ) → f ≡ Line k r → admitsOf r v ≡ false → T (allows f v) → ⊥
+not-allowed f k r v e a t = rw (e, a) at t
 
 -- ---- what holds of the numbers passed holds with one more
 
@@ -118,14 +141,11 @@ module _ (l : List ℕ) (r : InRange l) where
       caps (yes less) = rw (body-cap (at l 3) (at l 4) (at l 5) n less) (cap-in n less)
       caps (no more) = flows (omega arith) (decLt n (at l 3 + 2 * at l 4))
 
-  sound-at : (i : ℕ) → i < length l → Dec (i < 6) → T (allows (fieldOf Network (take i l)) (at l i))
-  unfolding fieldOf
-  sound-at i h (yes k) = rw (length-take-le i l (le-of-lt h), lt-ltb i 6 k) (r .head .each i k)
-  sound-at i h (no k) =
-      let six : 6 ≤ i = omega arith in
+  in-sound : (i : ℕ) → i < length l → Dec (i < 6) → T (allows (fieldOf Network (take i l)) (at l i))
+  in-sound i h (yes k) = rw (network-head-field l i (le-of-lt h) k) (r .head .each i k)
+  in-sound i h (no k) =
       let e : 6 + (i - 6) ≡ i = omega arith in
-      rw (length-take-le i l (le-of-lt h), le-ltb i 6 six, getD-take i l 3 0 (omega arith), getD-take i l 4 0 (omega arith), getD-take i l 5 0 (omega arith))
-      (rw e at (body-in (i - 6) (omega arith)))
+      rw (network-body-field l i (le-of-lt h) (i - 6) (omega arith)) (rw e at (body-in (i - 6) (omega arith)))
 
   ends : fieldOf Network l ≡ End
   unfolding fieldOf
@@ -135,4 +155,19 @@ module _ (l : List ℕ) (r : InRange l) where
 
   pub in-range-whole : Whole Network l
   unfolding Sound
-  in-range-whole = record { sound = λ i h. sound-at i h (decLt i 6); ends = ends }
+  in-range-whole = record { sound = λ i h. in-sound i h (decLt i 6); ends = ends }
+
+-- and the parts of a whole list are in their ranges
+pub whole-in-range : (l : List ℕ) → Whole Network l → InRange l
+whole-in-range l w =
+    let r = network-ranges l w in
+    record {
+      head = record { each = λ i h. network-head-at l (w .sound) i (omega (arith, r .size)) h };
+      size = r .size;
+      caps = record { each = λ k h. subst (λ (i : ℕ). at l i ≤ mostAmount) (omega arith) (r .cap k h) };
+      classes = record { each = r .class };
+      rates = record { each = λ f h. subst (λ (i : ℕ). at l i ≤ mostAmount) (omega arith) (r .rate f h) };
+      paths = record { flow = r .flow; via = λ t h. tunnel-line l w t 1 _ h (omega arith) refl };
+      olds = record { each = λ t h. subst (λ (i : ℕ). at l i ≤ mostAmount) (omega arith) (r .old t h) };
+      news = record { each = λ t h. subst (λ (i : ℕ). at l i ≤ mostAmount) (omega arith) (r .new t h) };
+    }

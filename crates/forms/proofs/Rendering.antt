@@ -7,8 +7,8 @@ use native.Mathlib.Nat.{le-of-lt, mul-le-mul}
 use native.Mathlib.Numerals.{add-one}
 use native.Mathlib.Omega.{arith}
 use lib.ListN.{length, getD, take, drop, drop-of-length-le, length-append}
-use lib.Seq.{take-suc, length-take-le, getD-take}
-use borrow.Author.Tests.{lt-ltb, le-ltb}
+use lib.Seq.{take-suc, length-take-le}
+use borrow.Author.Tests.{lt-ltb}
 use Rattle.model.specs.Limits.{mostAmount}
 use Rattle.lists.specs.Lists.{at}
 use Rattle.forms.specs.Keys.{prefixOf, keys, placeIn}
@@ -21,7 +21,7 @@ use Rattle.forms.specs.declared.form.Range.{Range}
 use Rattle.forms.specs.declared.form.Range.the-variants.{Between}
 use Rattle.forms.specs.declared.form.Field.{Field}
 use Rattle.forms.specs.declared.form.Field.the-variants.{Line, End}
-use Rattle.forms.proofs.Forms.{sound-take, sound-at, room-in-all, small}
+use Rattle.forms.proofs.Forms.{sound-take, sound-at, room-in-all, small, plan-body-field}
 use Rattle.forms.proofs.Keys.{key-length}
 use Rattle.forms.proofs.Numbers.{length-digits, width-most}
 use Rattle.forms.proofs.Walks.{step}
@@ -95,12 +95,11 @@ module _ (form : Form) (l : List ℕ) (s : Sound form l) where
 -- and an `at` line at most 13
 module _ (l : List ℕ) (w : Whole Plan l) where
   at-line : (j : ℕ) → 4 ≤ j → j < length l → length (lineOf (fieldOf Plan (take j l)) (getD l j 0)) ≤ 13
-  unfolding fieldOf
   at-line j four h =
       let g = plan-ranges l w in
       let n : j - 4 < (at l 2 - 1) * at l 3 = omega (arith, g .size) in
       let v : getD l j 0 < 10 ^ 9 = omega (arith, g .amounts j four h, g .parts .1) in
-      rw (length-take-le j l (le-of-lt h), le-ltb j 4 four, getD-take j l 1 0 (omega arith), getD-take j l 2 0 (omega arith), getD-take j l 3 0 (omega arith), lt-ltb (j - 4) ((at l 2 - 1) * at l 3) n)
+      rw (plan-body-field l j (le-of-lt h) (j - 4) (omega arith), lt-ltb (j - 4) ((at l 2 - 1) * at l 3) n)
       (omega (arith, line-length (placeIn keys "at=") (Between 0 (mostAmount * at l 1)) (getD l j 0), width-most (getD l j 0) 9 (omega arith) (omega arith) v))
 
   plan-short : length (render Plan l) ≤ mostBytes

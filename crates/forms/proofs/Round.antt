@@ -226,7 +226,8 @@ module _ (form : Form) (text l : List ℕ) (e : readText form text ≡ good l) w
   same : l ≡ taken .0
   same = judged-good form (taken .0) l judged-again .same
 
-  read-good : judgeList form l ≡ good l
+  -- what a text is read as is judged good as a list
+  pub read-good : judgeList form l ≡ good l
   read-good = rw (sym same) at judged-again
 
   rendered : render form l ≡ text

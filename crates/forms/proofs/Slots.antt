@@ -8,6 +8,7 @@ use lib.ListN.{replicate, getD, take, drop}
 use Rattle.forms.specs.Keys.{prefixOf}
 use Rattle.forms.specs.Slots.{keyBytes}
 use Rattle.forms.proofs.Table.{at}
+use Rattle.forms.proofs.Forms.{both}
 
 -- the number at the end of a slot
 abbrev pub slotLength : ℕ → ℕ
@@ -18,10 +19,6 @@ same [] [] = true
 same [] (y ∷ ys) = false
 same (x ∷ xs) [] = false
 same (x ∷ xs) (y ∷ ys) = eqb x y && same xs ys
-
-both : (a b : Bool) → T (a && b) → T a × T b
-both true b t = (tt, t)
-both false b t = absurd t
 
 same-eq : (xs ys : List ℕ) → T (same xs ys) → xs ≡ ys
 same-eq [] [] t = refl

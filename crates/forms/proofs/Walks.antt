@@ -125,6 +125,11 @@ add-up-same Network l g e = go (rule.missedRate (networkOf l)) e
     go (some p) e = let z : _≡_ {A = ℕ} 0 1 = cc in absurd (omega arith)
 add-up-same Plan l g e = cc
 
+-- what is not good is passed on
+pub not-good-then : (o : Outcome (List ℕ)) (next : List ℕ → Outcome (List ℕ)) → ((g : List ℕ) → o ≡ good g → ⊥) → andThen o next ≡ o
+not-good-then (good g) next h = absurd (h g refl)
+not-good-then (refused c place second) next h = refl
+
 pub then-good : (o : Outcome (List ℕ)) (next : List ℕ → Outcome (List ℕ)) (g : List ℕ) → andThen o next ≡ good g
     → (l : List ℕ) × (o ≡ good l) × (next l ≡ good g)
 then-good (good l) next g e = (l, refl, e)

@@ -53,13 +53,10 @@ pub fn judge_network(list: &[u64]) -> Answer
     ensures { λ r. ⌜ r ≡ done (judgeNetwork (now (list .entry))) ⌝ }
 {
     if ranges::is_network(list) {
-        return sums::add_up(list);
+        sums::add_up(list)
+    } else {
+        judge_numbers(Form::Network, list)
     }
-    let answer = judge_numbers(Form::Network, list);
-    let Answer::Done(_) = answer else {
-        return answer;
-    };
-    sums::add_up(list)
 }
 
 // Judges the list of a plan. Done carries its length.

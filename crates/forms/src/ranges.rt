@@ -1,11 +1,9 @@
 // Whether a list is in the form of a network, by loops over its parts. No refusal is told: where the answer is no, the
-// judge goes through the numbers one by one.
-ghost use mathlib.Core.Path.{_≡_};
-ghost use mathlib.Core.Bool.{true};
+// judge goes through the numbers one by one for its place.
 ghost use Prim.Native.Nat.{_+_, _≤_};
 ghost use lib.ListN.{length};
 ghost use Rattle.forms.specs.Form.{Whole};
-ghost use Rattle.forms.specs.Ranges.{Inside, AtMost, PathsIn, HeadIn};
+ghost use Rattle.forms.specs.Ranges.{Decides, Inside, AtMost, PathsIn, HeadIn};
 ghost use Rattle.model.specs.Limits.{mostLinks, mostFlows, mostTunnels};
 ghost use Rattle.lists.specs.Lists.{at};
 use crate::form;
@@ -16,7 +14,7 @@ use lists::Network;
 // Are the first six numbers those of a network's head?
 fn head_in(list: &[u64]) -> bool
     requires { ⌜ 6 ≤ length (now list) ⌝ }
-    ensures { λ r. ⌜ (r ≡ true → HeadIn (now (list .entry)) 6) ⌝ }
+    ensures { λ r. ⌜ Decides r (HeadIn (now (list .entry)) 6) ⌝ }
 {
     let mut i: usize = 0;
     while i < 6 {
@@ -35,7 +33,7 @@ fn head_in(list: &[u64]) -> bool
 // Is each number at most `high`, of those that stand at `from` and every `stride` from there on?
 fn at_most(list: &[u64], from: usize, stride: usize, count: usize, high: u64) -> bool
     requires { ⌜ Inside (length (now list)) from stride count ⌝ }
-    ensures { λ r. ⌜ (r ≡ true → AtMost (now (list .entry)) from stride count high) ⌝ }
+    ensures { λ r. ⌜ Decides r (AtMost (now (list .entry)) from stride count high) ⌝ }
 {
     let mut k: usize = 0;
     while k < count {
@@ -50,7 +48,7 @@ fn at_most(list: &[u64], from: usize, stride: usize, count: usize, high: u64) ->
 // Does each tunnel, of those whose numbers stand from `from` on, belong to a flow and cross links that there are?
 fn paths_in(list: &[u64], from: usize, count: usize, links: u64, flows: u64) -> bool
     requires { ⌜ Inside (length (now list)) (from + 1) 4 count ⌝ }
-    ensures { λ r. ⌜ (r ≡ true → PathsIn (now (list .entry)) from count links flows) ⌝ }
+    ensures { λ r. ⌜ Decides r (PathsIn (now (list .entry)) from count links flows) ⌝ }
 {
     let mut t: usize = 0;
     while t < count {
@@ -71,7 +69,7 @@ fn paths_in(list: &[u64], from: usize, count: usize, links: u64, flows: u64) -> 
 fn body_in(list: &[u64]) -> bool
     requires { ⌜ (6 ≤ length (now list)) × HeadIn (now list) 6 ⌝ }
     requires { ⌜ (at (now list) 3 ≤ mostLinks) × (at (now list) 4 ≤ mostFlows) × (at (now list) 5 ≤ mostTunnels) ⌝ }
-    ensures { λ r. ⌜ (r ≡ true → Whole Form.Network (now (list .entry))) ⌝ }
+    ensures { λ r. ⌜ Decides r (Whole Form.Network (now (list .entry))) ⌝ }
 {
     let links = list[3] as usize;
     let flows = list[4] as usize;
@@ -100,7 +98,7 @@ fn body_in(list: &[u64]) -> bool
 }
 
 pub(crate) fn is_network(list: &[u64]) -> bool
-    ensures { λ r. ⌜ (r ≡ true → Whole Form.Network (now (list .entry))) ⌝ }
+    ensures { λ r. ⌜ Decides r (Whole Form.Network (now (list .entry))) ⌝ }
 {
     if list.len() < 6 {
         return false;

@@ -18,10 +18,9 @@ use Rattle.model.proofs.Sums.{sum-cong}
 use Rattle.lists.specs.Lists.{at, networkOf, planOf}
 use Rattle.lists.specs.Answers.{withRoom, plan, lent}
 use Rattle.lists.specs.declared.Answer.the-variants.{Done, Plan as Planned, Refused}
-use Rattle.forms.specs.Read.{readText, judgeList}
+use Rattle.forms.specs.Read.{judgeList}
 use Rattle.forms.specs.declared.form.Form.{Form}
-use Rattle.forms.proofs.Round.{file-form}
-use Rattle.model.proofs.Outcomes.{good-same}
+use Rattle.forms.proofs.Round.{read-good}
 use Rattle.planner.specs.Planned.{planned}
 use Rattle.planner.proofs.Main as planner
 use Rattle.checker.specs.Check.{verdict, checked, marksAfter}
@@ -106,16 +105,9 @@ shown-at n p marks b a l o s =
 
 -- ---- lists and texts
 
--- what a reader takes is judged good
-taken : (form : Form) (text l : List ℕ) → readText form text ≡ good l → judgeList form l ≡ good l
-taken form text l e =
-    let f = file-form form .follows text l e in
-    let same : f .list ≡ l = good-same _ _ (sym (file-form form .read text f) ∙ e) in
-    subst (λ (m : List ℕ). judgeList form m ≡ good m) same (f .judged)
-
 valid : (form : Form) (l : List ℕ) → Valid form l → judgeList form l ≡ good l
 valid form l (as-list e) = e
-valid form l (as-text text e) = taken form text l e
+valid form l (as-text text e) = read-good form text l e
 
 -- a plan that the planner comes to is answered and written, given the room
 returned : (n p out : List ℕ) → planned n ≡ good p → length p ≤ length out → Returns n p out

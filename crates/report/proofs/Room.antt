@@ -1,6 +1,6 @@
 -- The arrays of the programs have room for every network and every plan, and what stands in them after an operation is what it gave.
 use Prim.Native.Nat.{ℕ, _+_, _-_, _*_, _≤_}
-use mathlib.Core.Path.{_≡_, refl, sym, ap, _∙_, subst}
+use mathlib.Core.Path.{_≡_, refl, sym, ap, _∙_}
 use mathlib.Core.List.{List, _++_}
 use mathlib.Core.Logic.{_⊎_, ⊎-elim}
 use native.Mathlib.Omega.{arith}
@@ -9,18 +9,15 @@ use lib.ListN.{length, take, drop, length-append}
 use lib.Seq.{take-append-seam}
 use denote.Enum.Declared.{tagOf}
 use Rattle.model.specs.Outcome.{Outcome, good, refused, andThen}
-use Rattle.model.proofs.Outcomes.{good-same}
 use Rattle.lists.specs.Lists.{at}
 use Rattle.lists.specs.Answers.{withRoom, done, plan, lent}
 use Rattle.lists.specs.declared.Answer.{Answer}
 use Rattle.lists.specs.declared.Answer.the-variants.{Done, Plan}
 use Rattle.lists.proofs.Answer.{the-type}
-use Rattle.forms.specs.Read.{readText, judgeList}
-use Rattle.forms.specs.declared.form.Form.{Form}
 use Rattle.forms.specs.declared.form.Form.the-variants as form
 use Rattle.forms.proofs.Answers.{done-good, good-room}
 use Rattle.forms.proofs.Good.{good-network, good-plan}
-use Rattle.forms.proofs.Round.{file-form}
+use Rattle.forms.proofs.Round.{read-good}
 use Rattle.planner.specs.Planned.{planned}
 use Rattle.planner.proofs.Main.{safe}
 use Rattle.forms.specs.Named.{readNetwork, readPlan, judgePlan}
@@ -31,13 +28,6 @@ fits : (room : ℕ) (o : Outcome (List ℕ)) → ((l : List ℕ) → o ≡ good 
 fits room (good l) h = good-room room l (h l refl)
 fits room (refused c place second) h = refl
 
--- what a text is read as is judged good as a list
-judged : (f : Form) (text l : List ℕ) → readText f text ≡ good l → judgeList f l ≡ good l
-judged f text l e =
-    let w = file-form f .follows text l e in
-    let same : w .list ≡ l = good-same (w .list) l (sym (file-form f .read text w) ∙ e) in
-    subst (λ k. judgeList f k ≡ good k) same (w .judged)
-
 plan-length : (l : List ℕ) → judgePlan l ≡ good l → length l ≤ 4708
 plan-length l e =
     let g = good-plan l l e .1 in
@@ -47,11 +37,11 @@ plan-length l e =
 
 pub network-fits : (room : ℕ) (text : List ℕ) → 518 ≤ room → withRoom room (readNetwork text) ≡ readNetwork text
 network-fits room text h = fits room (readNetwork text) (λ l e.
-    let g = good-network l l (judged form.Network text l e) .1 in
+    let g = good-network l l (read-good form.Network text l e) .1 in
     omega (arith, g .size, g .links .1, g .flows, g .tunnels))
 
 pub plan-fits : (room : ℕ) (text : List ℕ) → 4708 ≤ room → withRoom room (readPlan text) ≡ readPlan text
-plan-fits room text h = fits room (readPlan text) (λ l e. omega (arith, plan-length l (judged form.Plan text l e)))
+plan-fits room text h = fits room (readPlan text) (λ l e. omega (arith, plan-length l (read-good form.Plan text l e)))
 
 pub planned-fits : (room : ℕ) (network : List ℕ) → 4708 ≤ room → withRoom room (planned network) ≡ planned network
 planned-fits room network h = fits room (planned network) (λ l e. omega (arith, plan-length l (safe network l e .judged)))

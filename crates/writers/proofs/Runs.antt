@@ -7,18 +7,17 @@ use native.Mathlib.Nat.{add-zero, zero-add, add-suc, add-assoc, le-of-lt}
 use native.Mathlib.Numerals.{add-one}
 use native.Mathlib.Omega.{arith}
 use lib.ListN.{length, getD, take, drop, length-append}
-use lib.Seq.{getD-take, length-take-le}
-use borrow.Author.Tests.{lt-ltb, le-ltb}
+use borrow.Author.Tests.{lt-ltb}
 use Rattle.lists.specs.Lists.{at}
 use Rattle.forms.specs.Bytes.{bytes}
 use Rattle.forms.specs.Keys.{prefixOf}
-use Rattle.forms.specs.Form.{fieldOf, isHex, Sound, Whole, networkLines, networkBody, flowLines, tunnelLines, planLines, planBody}
+use Rattle.forms.specs.Form.{fieldOf, isHex, Sound, Whole, networkLines, flowLines, tunnelLines, planLines}
 use Rattle.forms.specs.Write.{lineOf, render, renderFrom}
 use Rattle.forms.specs.declared.form.Form.{Form}
 use Rattle.forms.specs.declared.form.Form.the-variants.{Network, Plan}
 use Rattle.forms.specs.declared.form.Range.{Range}
 use Rattle.forms.specs.declared.form.Field.the-variants.{Line, End}
-use Rattle.forms.proofs.Forms.{body-cap, body-flow, body-tunnel, rowLines}
+use Rattle.forms.proofs.Forms.{body-cap, body-flow, body-tunnel, rowLines, network-head-field, network-body-field, plan-head-field, plan-body-field}
 use Rattle.forms.proofs.Good.{network-size, plan-size}
 use Rattle.forms.proofs.Rendering.{render-step, render-end, at-most, short-value}
 use Rattle.writers.specs.Write.{Puts, decimalLine, hexLine, lineAt, linesFrom, Decimal}
@@ -132,36 +131,22 @@ module _ (form : Form) (l : List ℕ) (n : ℕ) {out : List ℕ} (fits : length 
   head-next q = next-put form l 0 n head-room m m less (sym (zero-add m)) (d .line) p (m + 1) refl q
 
 module _ (l : List ℕ) (w : Whole Network l) where
-  network-head-field : (i : ℕ) → i < 6 → fieldOf Network (take i l) ≡ getD networkLines i End
-  unfolding fieldOf
-  network-head-field i h =
-      let n : length (take i l) ≡ i = length-take-le i l (omega (arith, network-size l w)) in
-      rw (n, lt-ltb i 6 h)
-
-  network-body-field : (n i : ℕ) → i ≡ 6 + n → i ≤ length l → fieldOf Network (take i l) ≡ networkBody (at l 3) (at l 4) (at l 5) n
-  unfolding fieldOf
-  network-body-field n i e h =
-      let m : length (take i l) ≡ i = length-take-le i l h in
-      let k : 6 ≤ i = omega arith in
-      let d : i - 6 ≡ n = omega arith in
-      rw (m, le-ltb i 6 k, getD-take i l 3 0 (omega arith), getD-take i l 4 0 (omega arith), getD-take i l 5 0 (omega arith), d)
-
   pub network-head-line : (i k : ℕ) (r : Range) → i < 6 → getD networkLines i End ≡ Line k r → isHex r ≡ false → DecimalAt Network l i (prefixOf k)
-  network-head-line i k r h e x = decimal-at Network l i k r (w .sound) (omega (arith, network-size l w)) (network-head-field i h ∙ e) x
+  network-head-line i k r h e x = decimal-at Network l i k r (w .sound) (omega (arith, network-size l w)) (network-head-field l i (omega (arith, network-size l w)) h ∙ e) x
 
   pub cap-line : (k i : ℕ) → k < at l 3 → i ≡ 6 + k → DecimalAt Network l i (bytes "cap=")
   cap-line k i h e =
       let within : i < length l = omega (arith, network-size l w) in
-      decimal-at Network l i _ _ (w .sound) within (network-body-field k i e (le-of-lt within) ∙ body-cap (at l 3) (at l 4) (at l 5) k h) refl
+      decimal-at Network l i _ _ (w .sound) within (network-body-field l i (le-of-lt within) k e ∙ body-cap (at l 3) (at l 4) (at l 5) k h) refl
 
   -- the lines of flow f, and those of tunnel t
   flow-field : (f j i : ℕ) → f < at l 4 → j < 2 → i ≡ 6 + at l 3 + 2 * f + j → fieldOf Network (take i l) ≡ getD flowLines j End
   flow-field f j i h k e =
-      network-body-field (at l 3 + 2 * f + j) i (omega arith) (omega (arith, network-size l w)) ∙ body-flow (at l 3) (at l 4) (at l 5) f j h k
+      network-body-field l i (omega (arith, network-size l w)) (at l 3 + 2 * f + j) (omega arith) ∙ body-flow (at l 3) (at l 4) (at l 5) f j h k
 
   tunnel-field : (t j i : ℕ) → t < at l 5 → j < 4 → i ≡ 6 + at l 3 + 2 * at l 4 + 4 * t + j → fieldOf Network (take i l) ≡ getD (tunnelLines (at l 3) (at l 4)) j End
   tunnel-field t j i h k e =
-      network-body-field (at l 3 + 2 * at l 4 + 4 * t + j) i (omega arith) (omega (arith, network-size l w)) ∙ body-tunnel (at l 3) (at l 4) (at l 5) t j h k
+      network-body-field l i (omega (arith, network-size l w)) (at l 3 + 2 * at l 4 + 4 * t + j) (omega arith) ∙ body-tunnel (at l 3) (at l 4) (at l 5) t j h k
 
   of-flow : (f j i k : ℕ) (r : Range) → f < at l 4 → j < 2 → i ≡ 6 + at l 3 + 2 * f + j → getD flowLines j End ≡ Line k r → isHex r ≡ false → DecimalAt Network l i (prefixOf k)
   of-flow f j i k r h below e line x = decimal-at Network l i k r (w .sound) (omega (arith, network-size l w)) (flow-field f j i h below e ∙ line) x
@@ -190,21 +175,10 @@ module _ (l : List ℕ) (w : Whole Network l) where
   new-line t i h e = of-tunnel t 3 i _ _ h (omega arith) e refl refl
 
 module _ (l : List ℕ) (w : Whole Plan l) where
-  plan-head-field : (i : ℕ) → i < 4 → fieldOf Plan (take i l) ≡ getD planLines i End
-  unfolding fieldOf
-  plan-head-field i h =
-      let n : length (take i l) ≡ i = length-take-le i l (omega (arith, plan-size l w)) in
-      rw (n, lt-ltb i 4 h)
-
   pub plan-head-line : (i k : ℕ) (r : Range) → i < 4 → getD planLines i End ≡ Line k r → isHex r ≡ false → DecimalAt Plan l i (prefixOf k)
-  plan-head-line i k r h e x = decimal-at Plan l i k r (w .sound) (omega (arith, plan-size l w)) (plan-head-field i h ∙ e) x
-
-  row-field : (i : ℕ) → 4 ≤ i → i < length l → fieldOf Plan (take i l) ≡ planBody l (i - 4)
-  unfolding fieldOf
-  row-field i four h =
-      rw (length-take-le i l (le-of-lt h), le-ltb i 4 four, getD-take i l 1 0 (omega arith), getD-take i l 2 0 (omega arith), getD-take i l 3 0 (omega arith))
+  plan-head-line i k r h e x = decimal-at Plan l i k r (w .sound) (omega (arith, plan-size l w)) (plan-head-field l i (omega (arith, plan-size l w)) h ∙ e) x
 
   pub at-line : (i : ℕ) → 4 ≤ i → i < length l → DecimalAt Plan l i (bytes "at=")
   at-line i four h =
       let n : i - 4 < rowLines l = omega (arith, plan-size l w) in
-      decimal-at Plan l i _ _ (w .sound) h (rw (lt-ltb (i - 4) (rowLines l) n) at (row-field i four h)) refl
+      decimal-at Plan l i _ _ (w .sound) h (rw (lt-ltb (i - 4) (rowLines l) n) at (plan-body-field l i (le-of-lt h) (i - 4) (omega arith))) refl

@@ -4,9 +4,8 @@ use Rattle.forms.specs.Ranges.{AtMost}
 use borrow.Author.Needs.{needs}
 use Rattle.forms.proofs.ranges.at_most.Statement.{statement}
 use Rattle.forms.proofs.ranges.at_most.Tie as tie
-use Rattle.forms.proofs.InRange.{at-most-none, at-most-more}
+use Rattle.forms.proofs.InRange.{at-most-none, at-most-more, decides-yes, decides-no}
 use native.Mathlib.Omega.{arith}
-use mathlib.Core.Bool.{false≢true}
 use mathlib.Core.Path.{_≡_}
 
 abbrev Inv-loop : tie.InvT-loop
@@ -31,7 +30,7 @@ shared-slice-read-if1 : tie.Need-shared-slice-read-if1 Inv-loop μ-loop
 shared-slice-read-if1 c = c .before .before .before .pre .each (c .before .before .loop .k) (omega arith)
 
 returns : tie.Need-returns Inv-loop μ-loop
-returns c = λ e. absurd (false≢true e)
+returns c = decides-no (λ a. absurd (omega (arith, a .each (c .before .before .before .loop .k) (omega arith))))
 
 add-k : tie.Need-add-k Inv-loop μ-loop
 add-k c = search needs
@@ -43,7 +42,7 @@ loop-again : tie.Need-loop-again Inv-loop μ-loop
 loop-again c = (omega arith, at-most-more _ _ _ _ _ (c .before .before .before .loop .inv .1) (omega arith))
 
 returns-2 : tie.Need-returns-2 Inv-loop μ-loop
-returns-2 c = λ _. let e : c .before .loop .k ≡ c .before .before .args .count = omega arith in rw (← e) (c .before .loop .inv .1)
+returns-2 c = let e : c .before .loop .k ≡ c .before .before .args .count = omega arith in decides-yes (rw (← e) (c .before .loop .inv .1))
 
 pub at-most-spec : {M : Type 1} → statement M
 at-most-spec =

@@ -1,11 +1,11 @@
 -- `forms::ranges::body_in` meets its contract.
-use mathlib.Core.Bool.{false≢true}
 use native.Mathlib.Omega.{arith}
 use borrow.Author.Needs.{needs}
 use Rattle.forms.proofs.ranges.body_in.Statement.{statement}
 use Rattle.forms.proofs.ranges.body_in.Tie as tie
-use Rattle.model.proofs.Searches.{not-false}
-use Rattle.forms.proofs.InRange.{in-range-whole}
+use Rattle.model.proofs.Searches.{not-false, not-true}
+use Rattle.forms.proofs.InRange.{in-range-whole, decides-no, decides-same, whole-in-range}
+use Rattle.forms.proofs.Good.{network-size}
 
 shared-slice-read-links : tie.Need-shared-slice-read-links
 shared-slice-read-links c = search needs
@@ -32,19 +32,19 @@ add-if1 : tie.Need-add-if1
 add-if1 c = search needs
 
 returns : tie.Need-returns
-returns c = λ e. absurd (false≢true e)
+returns c = decides-no (λ w. absurd (omega (arith, network-size _ w)))
 
 at-most-requires : tie.Need-at-most-requires
 at-most-requires c κs = record { size = omega arith; each = λ k h. omega arith }
 
 returns-2 : tie.Need-returns-2
-returns-2 c = λ e. absurd (false≢true e)
+returns-2 c = decides-no (λ w. c .before .at-most .ensures .no (not-true _ (c .if2 .taken)) (whole-in-range _ w .caps))
 
 at-most-requires-2 : tie.Need-at-most-requires-2
 at-most-requires-2 c κs = record { size = omega arith; each = λ k h. omega arith }
 
 returns-3 : tie.Need-returns-3
-returns-3 c = λ e. absurd (false≢true e)
+returns-3 c = decides-no (λ w. c .before .at-most2 .ensures .no (not-true _ (c .if3 .taken)) (whole-in-range _ w .classes))
 
 add-at-most : tie.Need-add-at-most
 add-at-most c = search needs
@@ -53,7 +53,7 @@ at-most-requires-3 : tie.Need-at-most-requires-3
 at-most-requires-3 c κs = record { size = omega arith; each = λ k h. omega arith }
 
 returns-4 : tie.Need-returns-4
-returns-4 c = λ e. absurd (false≢true e)
+returns-4 c = decides-no (λ w. c .before .at-most3 .ensures .no (not-true _ (c .if4 .taken)) (whole-in-range _ w .rates))
 
 shared-slice-read-paths-in : tie.Need-shared-slice-read-paths-in
 shared-slice-read-paths-in c = search needs
@@ -65,7 +65,7 @@ paths-in-requires : tie.Need-paths-in-requires
 paths-in-requires c κs = record { size = omega arith; each = λ k h. omega arith }
 
 returns-5 : tie.Need-returns-5
-returns-5 c = λ e. absurd (false≢true e)
+returns-5 c = decides-no (λ w. c .before .paths-in .ensures .no (not-true _ (c .if5 .taken)) (whole-in-range _ w .paths))
 
 add-at-most-2 : tie.Need-add-at-most-2
 add-at-most-2 c = search needs
@@ -74,7 +74,7 @@ at-most-requires-4 : tie.Need-at-most-requires-4
 at-most-requires-4 c κs = record { size = omega arith; each = λ k h. omega arith }
 
 returns-6 : tie.Need-returns-6
-returns-6 c = λ e. absurd (false≢true e)
+returns-6 c = decides-no (λ w. c .before .at-most4 .ensures .no (not-true _ (c .if6 .taken)) (whole-in-range _ w .olds))
 
 add-at-most-3 : tie.Need-add-at-most-3
 add-at-most-3 c = search needs
@@ -84,23 +84,22 @@ at-most-requires-5 c κs = record { size = omega arith; each = λ k h. omega ari
 
 returns-7 : tie.Need-returns-7
 returns-7 c =
-    λ yes.
     let m4 = c .before .before in
     let p = m4 .before .before in
     let m3 = p .before .before .before .before in
     let m2 = m3 .before .before in
     let m1 = m2 .before .before in
     let s = m1 .before .before .before .before .before .before in
-    in-range-whole (s .args .list .now) (record {
+    decides-same _ (λ news. in-range-whole (s .args .list .now) (record {
       head = s .pre .0 .1;
       size = omega arith;
-      caps = m1 .at-most .ensures (not-false _ (m2 .before .if2 .left));
-      classes = m2 .at-most2 .ensures (not-false _ (m3 .before .if3 .left));
-      rates = m3 .at-most3 .ensures (not-false _ (p .before .before .before .if4 .left));
-      paths = p .paths-in .ensures (not-false _ (m4 .before .if5 .left));
-      olds = m4 .at-most4 .ensures (not-false _ (c .before .if6 .left));
-      news = c .at-most5 .ensures yes;
-    })
+      caps = m1 .at-most .ensures .yes (not-false _ (m2 .before .if2 .left));
+      classes = m2 .at-most2 .ensures .yes (not-false _ (m3 .before .if3 .left));
+      rates = m3 .at-most3 .ensures .yes (not-false _ (p .before .before .before .if4 .left));
+      paths = p .paths-in .ensures .yes (not-false _ (m4 .before .if5 .left));
+      olds = m4 .at-most4 .ensures .yes (not-false _ (c .before .if6 .left));
+      news = news;
+    })) (λ w. whole-in-range _ w .news) (c .at-most5 .ensures)
 
 pub body-in-spec : {M : Type 1} → statement M
 body-in-spec =

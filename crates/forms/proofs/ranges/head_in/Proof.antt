@@ -4,9 +4,8 @@ use Rattle.forms.specs.Ranges.{HeadIn}
 use borrow.Author.Needs.{needs}
 use Rattle.forms.proofs.ranges.head_in.Statement.{statement}
 use Rattle.forms.proofs.ranges.head_in.Tie as tie
-use Rattle.forms.proofs.InRange.{head-none, head-more}
+use Rattle.forms.proofs.InRange.{head-none, head-more, decides-yes, decides-no, no-line, not-allowed}
 use native.Mathlib.Omega.{arith}
-use mathlib.Core.Bool.{false≢true}
 use mathlib.Core.Path.{_≡_, sym, _∙_}
 use Rattle.forms.proofs.Walks.{allows-line}
 
@@ -29,7 +28,9 @@ enum-told : tie.Need-enum-told Inv-loop μ-loop
 enum-told c = search needs
 
 returns : tie.Need-returns Inv-loop μ-loop
-returns c = λ e. absurd (false≢true e)
+returns c =
+    let n = c .before .before in
+    decides-no (λ h. no-line _ _ (sym (n .network-head .ensures) ∙ c .enum-told .given .1) (h .each (n .before .before .loop .i) (omega arith)))
 
 mul-admits : tie.Need-mul-admits Inv-loop μ-loop
 mul-admits c = search needs
@@ -41,7 +42,10 @@ admits-requires : tie.Need-admits-requires Inv-loop μ-loop
 admits-requires c κs = search needs
 
 returns-2 : tie.Need-returns-2 Inv-loop μ-loop
-returns-2 c = λ e. absurd (false≢true e)
+returns-2 c =
+    let r = c .before .before .before .before in
+    let n = r .before .before in
+    decides-no (λ h. not-allowed _ _ _ _ (sym (n .network-head .ensures) ∙ r .range .given .1) (sym (c .before .admits .ensures) ∙ c .if1 .left) (h .each (n .before .before .loop .i) (omega arith)))
 
 add-i : tie.Need-add-i Inv-loop μ-loop
 add-i c = search needs
@@ -57,7 +61,7 @@ loop-again c =
     (omega arith, head-more _ _ (i .inv .1) (allows-line _ _ _ _ (sym (n .network-head .ensures) ∙ r .range .given .1) (sym (c .before .admits .ensures) ∙ c .if1 .taken)))
 
 returns-3 : tie.Need-returns-3 Inv-loop μ-loop
-returns-3 c = λ _. let e : c .before .loop .i ≡ 6 = omega arith in rw (← e) (c .before .loop .inv .1)
+returns-3 c = let e : c .before .loop .i ≡ 6 = omega arith in decides-yes (rw (← e) (c .before .loop .inv .1))
 
 pub head-in-spec : {M : Type 1} → statement M
 head-in-spec =

@@ -4,9 +4,8 @@ use Rattle.forms.specs.Ranges.{PathsIn}
 use borrow.Author.Needs.{needs}
 use Rattle.forms.proofs.ranges.paths_in.Statement.{statement}
 use Rattle.forms.proofs.ranges.paths_in.Tie as tie
-use Rattle.forms.proofs.InRange.{paths-none, paths-more}
+use Rattle.forms.proofs.InRange.{paths-none, paths-more, decides-yes, decides-no, untrue}
 use native.Mathlib.Omega.{arith}
-use mathlib.Core.Bool.{false≢true}
 use mathlib.Core.Path.{_≡_, sym, _∙_, subst⁻¹}
 use lib.Dec.{T}
 
@@ -32,7 +31,7 @@ shared-slice-read-if1 : tie.Need-shared-slice-read-if1 Inv-loop μ-loop
 shared-slice-read-if1 c = omega (arith, c .before .before .before .before .pre .each (c .before .before .loop .t) (omega arith))
 
 returns : tie.Need-returns Inv-loop μ-loop
-returns c = λ e. absurd (false≢true e)
+returns c = decides-no (λ p. absurd (omega (arith, p .flow (c .before .before .before .loop .t) (omega arith))))
 
 add-is-set : tie.Need-add-is-set Inv-loop μ-loop
 add-is-set c = record { fits = omega (arith, c .before .before .before .before .before .pre .each (c .before .before .before .loop .t) (omega arith), c .before .before .before .before .before .pre .size) }
@@ -47,7 +46,9 @@ is-set-requires : tie.Need-is-set-requires Inv-loop μ-loop
 is-set-requires c κs = search needs
 
 returns-2 : tie.Need-returns-2 Inv-loop μ-loop
-returns-2 c = λ e. absurd (false≢true e)
+returns-2 c =
+    let i = c .before .before .before .before .before .before .loop in
+    decides-no (λ p. untrue _ (sym (c .before .is-set .ensures) ∙ c .if2 .left) (p .via (i .t) (omega arith)))
 
 add-t : tie.Need-add-t Inv-loop μ-loop
 add-t c = search needs
@@ -62,7 +63,7 @@ loop-again c =
     (omega arith, paths-more _ _ _ _ _ (i .inv .1) (omega arith) (subst⁻¹ T (sym (c .before .is-set .ensures) ∙ c .if2 .taken) tt))
 
 returns-3 : tie.Need-returns-3 Inv-loop μ-loop
-returns-3 c = λ _. let e : c .before .loop .t ≡ c .before .before .before .args .count = omega arith in rw (← e) (c .before .loop .inv .1)
+returns-3 c = let e : c .before .loop .t ≡ c .before .before .before .args .count = omega arith in decides-yes (rw (← e) (c .before .loop .inv .1))
 
 pub paths-in-spec : {M : Type 1} → statement M
 paths-in-spec =
