@@ -1,4 +1,4 @@
-.PHONY: help test check plan check-plan compare bench install
+.PHONY: help test check plan check-plan card compare bench install
 
 NETWORK ?= samples/swap/network.txt
 PLAN ?= samples/swap/plan.txt
@@ -16,6 +16,7 @@ help:
 	@echo 'make check   prove every crate, without the must-fail edits'
 	@echo 'make plan NETWORK=FILE                  print the plan for a network, as make plan NETWORK=samples/swap/network.txt'
 	@echo 'make check-plan NETWORK=FILE PLAN=FILE  print whether a plan is accepted for a network'
+	@echo 'make card    print the card of step bounds, from the table in the code'
 	@echo 'make compare CASES=10000000 SEED=1      hold every operation against the second implementation on so many cases'
 	@echo 'make bench   print the time of every operation beside the second implementation'
 	@echo 'make install PREFIX=DIR                 install programs, static library, header and man pages (DESTDIR is put before it)'
@@ -36,6 +37,9 @@ plan:
 check-plan:
 	@tools/program check_plan 1>&2
 	@tools/check-plan '$(NETWORK)' '$(PLAN)'
+
+card:
+	@tools/card
 
 compare:
 	@mkdir -p target

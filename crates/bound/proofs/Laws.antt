@@ -1,5 +1,5 @@
 -- What the step bound's definition says, case by case.
-use Prim.Native.Nat.{ℕ, suc, zero, _-_, _≤_, _<_, max}
+use Prim.Native.Nat.{ℕ, suc, zero, _+_, _-_, _≤_, max}
 use mathlib.Core.Path.{_≡_, refl}
 use mathlib.Core.Logic.{_≢_}
 use mathlib.Core.Bool.{Bool, true, false, _||_}
@@ -15,15 +15,12 @@ use Rattle.bound.specs.Bound.{isShare, boundOf}
 pub share : (x : ℕ) → isShare x ≡ true → (20 ≤ x) × (x ≤ 500)
 share x e = let s = and-true (leb 20 x) (leb x 500) e in (leb-true 20 x (s .0), leb-true x 500 (s .1))
 
-pub share-small : (x : ℕ) → isShare x ≡ true → (0 < x) × (x < 1000)
-share-small x e = let s = share x e in (omega arith, omega arith)
-
 or-true : (a b : Bool) → b ≡ true → (a || b) ≡ true
 or-true true b e = refl
 or-true false b e = e
 
-pub share-pieces : (x : ℕ) → isShare x ≡ true → 2 ≤ ceilDiv 1000 x
-share-pieces x e = let s = share x e in ceil-least x (omega arith) (s .1)
+pub one-more : (x : ℕ) → isShare x ≡ true → ceilDiv 1000 x - 1 + 1 ≡ ceilDiv 1000 x
+one-more x e = let s = share x e in omega (arith, ceil-least x (omega arith) (s .1))
 
 pub scratch-out : (s o : ℕ) → isShare s ≡ false → boundOf s o ≡ refused outOfRange 2 0
 unfolding boundOf

@@ -1,9 +1,14 @@
 // The step bound: how many even steps suffice for a network that keeps its scratch.
 ghost use mathlib.Core.Path.{_≡_};
-ghost use Prim.Native.Nat.{_<_, max};
+ghost use mathlib.Core.Bool.{true};
+ghost use Prim.Native.Nat.{_-_, max};
 ghost use Rattle.model.specs.Even.{ceilDiv};
 ghost use Rattle.bound.specs.Bound.{isShare, boundOf, told};
+ghost use Rattle.bound.specs.Card.{IsCard};
+use card::CARD;
 use lists::Network;
+
+mod card;
 
 // The step bound's answer is its number or a refusal.
 pub enum StepBound {
@@ -15,18 +20,19 @@ pub enum StepBound {
     },
 }
 
+// A share is a scratch or an overrun.
 fn is_share(x: u64) -> bool
     ensures { λ r. ⌜ r ≡ isShare x ⌝ }
 {
     Network::SHARE_LOW <= x && x <= Network::SHARE_HIGH
 }
 
-// 1000 / x, rounded up.
-fn pieces(x: u64) -> u64
-    requires { ⌜ (0 < x) × (x < 1000) ⌝ }
-    ensures { λ r. ⌜ r ≡ ceilDiv 1000 x ⌝ }
+// The card's entry for a share.
+fn entry(card: &[u8], share: u64) -> u8
+    requires { ⌜ IsCard (now card) × (isShare share ≡ true) ⌝ }
+    ensures { λ r. ⌜ r ≡ ceilDiv 1000 share - 1 ⌝ }
 {
-    (1000 + (x - 1)) / x
+    card[(share - Network::SHARE_LOW) as usize]
 }
 
 fn larger(a: u64, b: u64) -> u64
@@ -35,7 +41,8 @@ fn larger(a: u64, b: u64) -> u64
     if a < b { b } else { a }
 }
 
-pub fn step_bound(scratch: u64, overrun: u64) -> StepBound
+fn by_card(card: &[u8], scratch: u64, overrun: u64) -> StepBound
+    requires { ⌜ IsCard (now card) ⌝ }
     ensures { λ r. ⌜ r ≡ told (boundOf scratch overrun) ⌝ }
 {
     if !is_share(scratch) {
@@ -45,7 +52,7 @@ pub fn step_bound(scratch: u64, overrun: u64) -> StepBound
             second: 0,
         };
     }
-    let steps = pieces(scratch) - 1;
+    let steps = entry(card, scratch) as u64;
     if overrun == 0 {
         return StepBound::Steps(steps);
     }
@@ -56,5 +63,13 @@ pub fn step_bound(scratch: u64, overrun: u64) -> StepBound
             second: 0,
         };
     }
-    StepBound::Steps(larger(steps, pieces(overrun)))
+    // 1000 / overrun, rounded up, is one more than the overrun's entry.
+    StepBound::Steps(larger(steps, entry(card, overrun) as u64 + 1))
+}
+
+// A constant is copied where it is used: once a call.
+pub fn step_bound(scratch: u64, overrun: u64) -> StepBound
+    ensures { λ r. ⌜ r ≡ told (boundOf scratch overrun) ⌝ }
+{
+    by_card(&CARD, scratch, overrun)
 }

@@ -1,4 +1,3 @@
-pub mod Table
 pub mod Slots
 pub mod Numbers
 pub mod Forms

@@ -7,7 +7,7 @@ use lib.Dec.{T, eqb, leb, leb→le, eqb→eq}
 use lib.ListN.{replicate, getD, take, drop}
 use Rattle.forms.specs.Keys.{prefixOf}
 use Rattle.forms.specs.Slots.{keyBytes}
-use Rattle.forms.proofs.Table.{at}
+use Rattle.model.proofs.Table.{at}
 use Rattle.forms.proofs.Forms.{both}
 
 -- the number at the end of a slot

@@ -6,7 +6,7 @@ use native.Mathlib.Omega.{arith}
 use lib.Dec.{eqb, eqb→eq}
 use lib.ListN.{length, getD}
 use Rattle.forms.specs.Line.{digitOf}
-use Rattle.forms.proofs.Table.{at}
+use Rattle.model.proofs.Table.{at}
 use Rattle.readers.specs.Line.{digitTable}
 use Rattle.readers.proofs.Digits.{digit-outside}
 use borrow.Author.Needs.{needs}

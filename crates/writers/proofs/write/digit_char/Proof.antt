@@ -4,7 +4,7 @@ use Prim.Native.Nat.{ℕ}
 use lib.Dec.{eqb, eqb→eq}
 use Rattle.forms.specs.Bytes.{bytes}
 use Rattle.forms.specs.Write.{digitChar}
-use Rattle.forms.proofs.Table.{at}
+use Rattle.model.proofs.Table.{at}
 use borrow.Author.Needs.{needs}
 use Rattle.writers.proofs.write.digit_char.Statement.{statement}
 use Rattle.writers.proofs.write.digit_char.Tie as tie
