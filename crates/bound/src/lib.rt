@@ -41,6 +41,7 @@ fn larger(a: u64, b: u64) -> u64
     if a < b { b } else { a }
 }
 
+// The step bound, looked up in a card.
 fn by_card(card: &[u8], scratch: u64, overrun: u64) -> StepBound
     requires { ⌜ IsCard (now card) ⌝ }
     ensures { λ r. ⌜ r ≡ told (boundOf scratch overrun) ⌝ }

@@ -11,6 +11,7 @@ use lib.Pow.{pow-mono, pow-pos}
 use lib.ListN.{length, getD, take, length-append, List·getD-append}
 use lib.Seq.{take-take, getD-take, length-take-le, take-append-le, take-append-seam, getD-append-seam}
 use borrow.Author.Tests.{ne-eqb, lt-ltb, le-ltb, le-leb}
+use Rattle.model.proofs.Searches.{both}
 use Rattle.model.specs.Limits.{mostLinks, mostFlows, mostTunnels, mostSteps, mostAmount}
 use Rattle.lists.specs.Lists.{at}
 use Rattle.forms.specs.Form.{line, planBody, isHex, admitsOf, Sound, allows, fieldOf, networkLines, flowLines, tunnelLines, planLines, networkBody, mostNumbers, mostOf}
@@ -36,10 +37,6 @@ shifted v n = go (decLt v (2 ^ n))
         rw (le-ltb v (2 ^ n) k) (ne-eqb (v / 2 ^ n) 0 (λ e. let z : v / 2 ^ n ≡ (v - 2 ^ n) / 2 ^ n + 1 = div-eq-sub-div (pow-pos n) k in omega arith))
 
 -- ---- what a range allows
-
-pub both : (a b : Bool) → T (a && b) → T a × T b
-both true b t = (tt, t)
-both false b t = absurd t
 
 pub between : (low high v : ℕ) → T (leb low v && leb v high) → (low ≤ v) × (v ≤ high)
 between low high v t = (leb→le low v (both (leb low v) (leb v high) t .0), leb→le v high (both (leb low v) (leb v high) t .1))

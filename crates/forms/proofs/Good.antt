@@ -23,7 +23,8 @@ use Rattle.forms.specs.declared.form.Form.the-variants.{Network, Plan}
 use Rattle.forms.specs.declared.form.Range.the-variants.{Between}
 use Rattle.forms.specs.declared.form.Field.{Field}
 use Rattle.forms.specs.declared.form.Field.the-variants.{Line, End}
-use Rattle.forms.proofs.Forms.{both, between, in-between, network-head-at, network-body-at, plan-head-at, plan-body-at, rowLines, body-cap, body-flow, body-tunnel, body-end, plan-head-field, plan-body-field}
+use Rattle.model.proofs.Searches.{both}
+use Rattle.forms.proofs.Forms.{between, in-between, network-head-at, network-body-at, plan-head-at, plan-body-at, rowLines, body-cap, body-flow, body-tunnel, body-end, plan-head-field, plan-body-field}
 use Rattle.forms.proofs.Walks.{judged-good, good-judged}
 use Rattle.forms.specs.Named.{judgeNetwork, judgePlan}
 

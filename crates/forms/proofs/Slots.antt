@@ -8,7 +8,7 @@ use lib.ListN.{replicate, getD, take, drop}
 use Rattle.forms.specs.Keys.{prefixOf}
 use Rattle.forms.specs.Slots.{keyBytes}
 use Rattle.model.proofs.Table.{at}
-use Rattle.forms.proofs.Forms.{both}
+use Rattle.model.proofs.Searches.{both}
 
 -- the number at the end of a slot
 abbrev pub slotLength : ℕ → ℕ

@@ -1,6 +1,6 @@
-pub mod Table
 pub mod Sums
 pub mod Searches
+pub mod Table
 pub mod Outcomes
 pub mod Scans
 pub mod Choices

@@ -11,7 +11,7 @@ use lib.ListN.{length, getD, take, drop, set, drop-of-length-le, length-append}
 use lib.Seq.{paste-suc, length-take-le}
 use borrow.Author.Tests.{eq-eqb, ne-eqb, eqb-true}
 use Rattle.forms.specs.Line.{lines, onFirst, valuePart, beforeFeed}
-use Rattle.forms.proofs.Forms.{both}
+use Rattle.model.proofs.Searches.{both}
 use Rattle.forms.proofs.Keys.{no-feeds}
 use Rattle.forms.proofs.Lines.{part-line}
 use Rattle.forms.proofs.Walks.{step}

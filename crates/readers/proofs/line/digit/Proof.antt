@@ -1,24 +1,19 @@
 -- `readers::line::digit` meets its contract: the table's rule is a test at each of its entries, which antt computes.
 use Prim.Native.Nat.{ℕ, _+_, _<_}
 use mathlib.Core.Path.{_≡_, sym, ap, _∙_}
-use mathlib.Core.Bool.{Bool}
 use native.Mathlib.Omega.{arith}
-use lib.Dec.{eqb, eqb→eq}
 use lib.ListN.{length, getD}
 use Rattle.forms.specs.Line.{digitOf}
-use Rattle.model.proofs.Table.{at}
+use Rattle.model.proofs.Table.{value}
 use Rattle.readers.specs.Line.{digitTable}
 use Rattle.readers.proofs.Digits.{digit-outside}
 use borrow.Author.Needs.{needs}
 use Rattle.readers.proofs.line.digit.Statement.{statement}
 use Rattle.readers.proofs.line.digit.Tie as tie
 
-right : ℕ → ℕ → Bool
-right k x = eqb x (digitOf (k + 48))
-
 entry : (k : ℕ) → k < 55 → getD digitTable k 0 ≡ digitOf (k + 48)
-unfolding right digitOf
-entry k h = eqb→eq (getD digitTable k 0) (digitOf (k + 48)) (at right digitTable tt k h)
+unfolding digitOf
+entry k h = value (λ i. digitOf (i + 48)) digitTable tt k h
 
 size : (c : tie.After-wrapping-sub-u8) → length (c .before .before .args .table .now) ≡ 55
 size c = ap length (c .before .before .pre)

@@ -1,23 +1,16 @@
 -- `writers::write::digit_char` meets its contract: the table has each digit's byte, by a test that antt computes over it.
-use mathlib.Core.Bool.{Bool}
-use Prim.Native.Nat.{ℕ}
-use lib.Dec.{eqb, eqb→eq}
 use Rattle.forms.specs.Bytes.{bytes}
 use Rattle.forms.specs.Write.{digitChar}
-use Rattle.model.proofs.Table.{at}
+use Rattle.model.proofs.Table.{value}
 use borrow.Author.Needs.{needs}
 use Rattle.writers.proofs.write.digit_char.Statement.{statement}
 use Rattle.writers.proofs.write.digit_char.Tie as tie
-
-right : ℕ → ℕ → Bool
-right x byte = eqb byte (digitChar x)
 
 array-read-result : tie.Need-array-read-result
 array-read-result c = search needs
 
 returns : tie.Need-returns
-unfolding right
-returns c = eqb→eq _ _ (at right (bytes "0123456789abcdef") tt (c .before .before .args .x) (c .before .before .pre))
+returns c = value digitChar (bytes "0123456789abcdef") tt (c .before .before .args .x) (c .before .before .pre)
 
 pub digit-char-spec : {M : Type 1} → statement M
 digit-char-spec = tie.close (tie.spec array-read-result returns)
