@@ -10,7 +10,7 @@ use Rattle.model.specs.Net.{Net, Plan, row}
 use Rattle.model.specs.Rule.{crosses, mark}
 use Rattle.checker.specs.Columns.{Holds}
 use Rattle.checker.specs.Inner.{marksOf, marksAt}
-use Rattle.lists.proofs.Listed.{listed-cong}
+use Rattle.model.proofs.Listed.{listed-cong}
 
 -- the marks of a step's columns are the rule's
 pub marks-step : (N : Net) (P : Plan) (i l n : ℕ) (vias earlier later xs ys : List ℕ) → Holds vias n (N .via) → Holds earlier n (row N P i) → Holds later n (row N P (i + 1))

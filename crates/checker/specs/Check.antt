@@ -9,7 +9,8 @@ use Rattle.model.specs.Outcome.{Outcome, good, refused, andThen, number, otherT
 use Rattle.model.specs.Scan.{Overload, cause, step}
 use Rattle.model.specs.Rule.{firstOverload, mark}
 use Rattle.model.specs.Rule as rule
-use Rattle.lists.specs.Lists.{at, networkOf, planOf, listed}
+use Rattle.model.specs.Listed.{listed}
+use Rattle.lists.specs.Lists.{at, networkOf, planOf}
 use Rattle.lists.specs.declared.Answer.{Answer}
 use Rattle.lists.specs.declared.Answer.the-variants.{Done, Refused}
 use Rattle.forms.specs.Read.{judgeList}

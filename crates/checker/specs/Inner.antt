@@ -10,7 +10,8 @@ use Rattle.model.specs.Outcome.{Outcome, Place, andThen, number}
 use Rattle.model.specs.Net.{Net, Plan}
 use Rattle.model.specs.Scan.{Bound, Overload, cause}
 use Rattle.model.specs.Rule.{exceeds, mark}
-use Rattle.lists.specs.Lists.{at, listed, GoodNetwork, GoodPlan}
+use Rattle.model.specs.Listed.{listed}
+use Rattle.lists.specs.Lists.{at, GoodNetwork, GoodPlan}
 use Rattle.checker.specs.Check.{weigh}
 use Rattle.checker.specs.declared.sums.Missed.{Missed}
 use Rattle.checker.specs.declared.sums.Missed.the-variants as missed

@@ -11,11 +11,6 @@ use Rattle.model.specs.Claim.{Valid}
 abbrev pub at : List ℕ → ℕ → ℕ
 at l i = getD l i 0
 
--- x 0, x 1, .. x (n - 1)
-unfoldable pub listed : ℕ → (ℕ → ℕ) → List ℕ
-listed zero x = []
-listed (suc n) x = listed n x ++ x n ∷ []
-
 -- where the two lines of flow f begin, and the four of tunnel t
 abbrev pub flowAt : List ℕ → ℕ → ℕ
 flowAt l f = 6 + at l 3 + 2 * f

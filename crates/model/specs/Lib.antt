@@ -1,6 +1,7 @@
 pub mod Limits
 pub mod Sum
 pub mod Search
+pub mod Listed
 pub mod Outcome
 pub mod Net
 pub mod Scan

@@ -11,6 +11,9 @@ ghost use Rattle.pavuneshil.specs.Four.{four, fourOfBound};
 ghost use Rattle.forms.specs.declared.form.Form.the-variants as forms;
 ghost use Rattle.forms.specs.Read.{readText};
 ghost use Rattle.forms.specs.Write.{writeText};
+
+mod desks_for_c;
+
 use bound::StepBound;
 use lists::Answer;
 

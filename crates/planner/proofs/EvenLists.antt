@@ -11,9 +11,10 @@ use lib.Seq.{getD-append-add, drop-length, take-at, drop-at, drop-drop, drop-set
 use Rattle.model.specs.Net.{Net}
 use Rattle.model.specs.Even.{evenRow}
 use Rattle.model.proofs.Rows.{even-at}
-use Rattle.lists.specs.Lists.{at, tunnelAt, networkOf, planOf, listed}
+use Rattle.model.specs.Listed.{listed}
+use Rattle.lists.specs.Lists.{at, tunnelAt, networkOf, planOf}
 use Rattle.planner.specs.Planned.{evenRows, evenList}
-use Rattle.lists.proofs.Listed.{listed-length, listed-to, listed-at}
+use Rattle.model.proofs.Listed.{listed-length, listed-to, listed-at}
 
 -- ---- one row
 

@@ -6,7 +6,8 @@ use Rattle.model.specs.Outcome.{Outcome, good, refused, noEvenPlan}
 use Rattle.model.specs.Net.{Net}
 use Rattle.model.specs.Scan.{Overload, step}
 use Rattle.model.specs.Even.{evenRow, fewest, even}
-use Rattle.lists.specs.Lists.{networkOf, listed}
+use Rattle.model.specs.Listed.{listed}
+use Rattle.lists.specs.Lists.{networkOf}
 use Rattle.model.specs.Outcome.{andThen}
 use Rattle.model.specs.Limits.{mostSteps}
 use Rattle.model.specs.Rule.{firstOverload}

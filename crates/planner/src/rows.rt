@@ -5,7 +5,8 @@ ghost use Prim.Native.Nat.{_≤_, _<_};
 ghost use lib.ListN.{length, drop};
 ghost use Rattle.model.specs.Limits.{mostSteps};
 ghost use Rattle.model.specs.Even.{evenRow};
-ghost use Rattle.lists.specs.Lists.{networkOf, GoodNetwork, listed};
+ghost use Rattle.model.specs.Listed.{listed};
+ghost use Rattle.lists.specs.Lists.{networkOf, GoodNetwork};
 ghost use Rattle.planner.specs.Planned.{evenList};
 
 // Writes row a of the even plan of q steps.

@@ -7,7 +7,8 @@ use Rattle.model.specs.Net.{row}
 use Rattle.model.specs.Scan.{scan, testLink, test}
 use Rattle.model.specs.Rule.{crosses, onLink, counts, load, exceeds, flowSum, missedBy, missedRate, missedIn, missedRow, stepCount, worst, worstOver, firstOverload, accepted, mark}
 use Rattle.model.specs.Even.{evenRow, even, fewest, ceilDiv, stepBound}
-use Rattle.lists.specs.Lists.{networkOf, planOf, listed}
+use Rattle.model.specs.Listed.{listed}
+use Rattle.lists.specs.Lists.{networkOf, planOf}
 use Rattle.bound.specs.Bound.{boundOf}
 use Rattle.forms.specs.Form.{networkBody, fieldOf}
 use Rattle.forms.specs.Read.{walk, judgeNumbers, addUp}

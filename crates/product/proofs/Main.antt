@@ -31,7 +31,7 @@ use Rattle.product.proofs.Causes.{NotOver, verdict-all, over-number, sa
 use Rattle.model.proofs.Choices.{none-kept}
 use Rattle.product.specs.Accepted.{Accepted}
 use Rattle.product.specs.Demand3.{Valid, as-list, as-text, byMarks, Returns, Demand3}
-use Rattle.lists.proofs.Listed.{listed-length, listed-at}
+use Rattle.model.proofs.Listed.{listed-length, listed-at}
 
 -- ---- what an answer tells of an outcome
 
@@ -75,7 +75,7 @@ bit false = refl
 
 mark-at : (m : ℕ → Bool) (n t : ℕ) (rest : List ℕ) → t < n → eqb (getD (marksOf m n ++ rest) t 0) 1 ≡ m t
 mark-at m n t rest h =
-    ap (λ (k : ℕ). eqb k 1) (List·getD-append (marksOf m n) rest 0 t (rw (listed-length n (λ i. cond (m i) 1 0)) h) ∙ listed-at n (λ i. cond (m i) 1 0) t h) ∙ bit (m t)
+    ap (λ (k : ℕ). eqb k 1) (List·getD-append (marksOf m n) rest 0 t (rw (listed-length {A = ℕ} n (λ i. cond (m i) 1 0)) h) ∙ listed-at n (λ i. cond (m i) 1 0) t h) ∙ bit (m t)
 
 shows-same : (N : Net) (P : Plan) (o : Overload) (marks : List ℕ) → ((t : ℕ) → t < N .tunnels → eqb (getD marks t 0) 1 ≡ mark N P o t)
     → overloads N P (o .from) (o .link) (λ t. eqb (getD marks t 0) 1) (o .bound) ≡ overloads N P (o .from) (o .link) (marked N P o) (o .bound)

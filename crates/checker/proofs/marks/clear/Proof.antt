@@ -7,7 +7,7 @@ use native.Mathlib.Omega.{arith}
 use borrow.Author.Needs.{needs}
 use lib.ListN.{length, drop, length-set}
 use Rattle.checker.specs.Inner.{marksOf}
-use Rattle.lists.proofs.Listed.{listed-none, listed-on, listed-to}
+use Rattle.model.proofs.Listed.{listed-none, listed-on, listed-to}
 use Rattle.checker.proofs.marks.clear.Statement.{statement}
 use Rattle.checker.proofs.marks.clear.Tie as tie
 

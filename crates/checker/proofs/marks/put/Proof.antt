@@ -8,7 +8,7 @@ use borrow.Author.Needs.{needs}
 use lib.Dec.{eqb, ltb}
 use lib.ListN.{length, getD, drop, length-set}
 use Rattle.checker.specs.Inner.{marksOf}
-use Rattle.lists.proofs.Listed.{listed-none, listed-on, listed-to}
+use Rattle.model.proofs.Listed.{listed-none, listed-on, listed-to}
 use Rattle.checker.proofs.marks.put.Statement.{statement}
 use Rattle.checker.proofs.marks.put.Tie as tie
 

@@ -7,11 +7,12 @@ use native.Mathlib.Nat.{mul-le-mul}
 use lib.ListN.{length, drop, length-set}
 use borrow.Author.Needs.{needs}
 use Rattle.model.specs.Even.{evenRow}
-use Rattle.lists.specs.Lists.{at, tunnelAt, networkOf, listed}
+use Rattle.model.specs.Listed.{listed}
+use Rattle.lists.specs.Lists.{at, tunnelAt, networkOf}
 use Rattle.planner.proofs.EvenLists.{listed-all, even-number}
 use Rattle.planner.proofs.rows.write_row.Statement.{statement}
 use Rattle.planner.proofs.rows.write_row.Tie as tie
-use Rattle.lists.proofs.Listed.{listed-none, listed-on}
+use Rattle.model.proofs.Listed.{listed-none, listed-on}
 
 abbrev Inv-loop : tie.InvT-loop
 Inv-loop network q a row₀ tunnels-at rest t₀ row t = record { size : length row ≡ length row₀; low : t ≤ length row₀; done : row ≡ listed t (evenRow (networkOf network) q a) ++ drop t row₀ }

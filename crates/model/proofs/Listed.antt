@@ -8,9 +8,9 @@ use native.Mathlib.Numerals.{add-one}
 use native.Mathlib.Omega.{arith}
 use lib.ListN.{length, getD, set, drop, length-append, List·getD-append}
 use lib.Seq.{drop-cons, set-at, append-snoc, getD-at}
-use Rattle.lists.specs.Lists.{listed}
+use Rattle.model.specs.Listed.{listed}
 
-pub listed-length : (n : ℕ) (x : ℕ → ℕ) → length (listed n x) ≡ n
+pub listed-length : {A : Type 0} (n : ℕ) (x : ℕ → A) → length (listed n x) ≡ n
 unfolding listed
 listed-length zero x = refl
 listed-length (suc n) x = length-append (listed n x) (x n ∷ []) ∙ add-one _ ∙ ap suc (listed-length n x)
@@ -41,7 +41,13 @@ listed-at (suc n) x t h =
     (λ k. List·getD-append (listed n x) (x n ∷ []) 0 t (rw (listed-length n x) k) ∙ listed-at n x t k)
     (eq-or-lt-of-le (le-of-suc-le-suc h))
 
-pub listed-cong : (x y : ℕ → ℕ) (n : ℕ) → ((t : ℕ) → t < n → x t ≡ y t) → listed n x ≡ listed n y
+pub listed-cong : {A : Type 0} (x y : ℕ → A) (n : ℕ) → ((t : ℕ) → t < n → x t ≡ y t) → listed n x ≡ listed n y
 unfolding listed
 listed-cong x y zero h = refl
-listed-cong x y (suc n) h = ap₂ (λ (l : List ℕ) (v : ℕ). l ++ (v ∷ [])) (listed-cong x y n (λ t k. h t (omega arith))) (h n (omega arith))
+listed-cong {A} x y (suc n) h = ap₂ (λ (l : List A) (v : A). l ++ (v ∷ [])) (listed-cong x y n (λ t k. h t (omega arith))) (h n (omega arith))
+
+-- seen from the front
+pub listed-front : {A : Type 0} (n : ℕ) (x : ℕ → A) → listed (suc n) x ≡ x 0 ∷ listed n (λ t. x (suc t))
+unfolding listed
+listed-front zero x = refl
+listed-front {A} (suc n) x = ap (λ (l : List A). l ++ (x (suc n) ∷ [])) (listed-front n x)

@@ -1,0 +1,4 @@
+pub mod States
+pub mod Runs
+pub mod Main
+pub mod Queues

@@ -1,0 +1,70 @@
+-- Runs: any calls, one after the other.
+use Prim.Native.Nat.{ℕ, suc}
+use mathlib.Core.Bool.{cond}
+use mathlib.Core.List.{List, [], _∷_, _++_}
+use lib.Dec.{eqb}
+use Rattle.model.specs.Outcome.{Outcome, good, refused}
+use Rattle.desks.specs.State.{Job, State, Result, Handed, submitted, handedOut}
+
+pub data Call : Type 0 where
+  submit : (desk tag : ℕ) → Call
+  handOut : Call
+
+-- a call with its answer
+pub data Event : Type 0 where
+  submission : (desk tag : ℕ) → Outcome ℕ → Event
+  hand : Outcome Handed → Event
+
+abbrev pub event : Call → State → Event
+event (submit desk tag) s = submission desk tag (submitted desk tag s .answer)
+event handOut s = hand (handedOut s .answer)
+
+abbrev pub next : Call → State → State
+next (submit desk tag) s = submitted desk tag s .state
+next handOut s = handedOut s .state
+
+-- the calls with their answers, from a state on, and the state after them
+unfoldable pub log : State → List Call → List Event
+log s [] = []
+log s (c ∷ calls) = event c s ∷ log (next c s) calls
+
+unfoldable pub after : State → List Call → State
+after s [] = s
+after s (c ∷ calls) = after (next c s) calls
+
+-- the job of desk d that was accepted, or handed out, if there is one
+abbrev pub acceptedIn : ℕ → Event → List Job
+acceptedIn d (submission desk tag (good number)) = cond (eqb d desk) (record { number = number; tag = tag } ∷ []) []
+acceptedIn d (submission desk tag (refused c place second)) = []
+acceptedIn d (hand answer) = []
+
+abbrev pub handedIn : ℕ → Event → List Job
+handedIn d (submission desk tag answer) = []
+handedIn d (hand (good h)) = cond (eqb d (h .desk)) (h .job ∷ []) []
+handedIn d (hand (refused c place second)) = []
+
+-- and the jobs of all other desks that were handed out
+abbrev pub othersIn : ℕ → Event → List Job
+othersIn d (submission desk tag answer) = []
+othersIn d (hand (good h)) = cond (eqb d (h .desk)) [] (h .job ∷ [])
+othersIn d (hand (refused c place second)) = []
+
+-- all jobs of a log, in its order
+unfoldable pub all : (Event → List Job) → List Event → List Job
+all jobs [] = []
+all jobs (e ∷ events) = jobs e ++ all jobs events
+
+abbrev pub accepted : ℕ → List Event → List Job
+accepted d = all (acceptedIn d)
+
+abbrev pub handed : ℕ → List Event → List Job
+handed d = all (handedIn d)
+
+abbrev pub others : ℕ → List Event → List Job
+others d = all (othersIn d)
+
+-- how many hand-outs are called
+unfoldable pub handOuts : List Call → ℕ
+handOuts [] = 0
+handOuts (submit desk tag ∷ calls) = handOuts calls
+handOuts (handOut ∷ calls) = suc (handOuts calls)

@@ -1,0 +1,38 @@
+-- How a value of the state's type is seen as a state, and how an answer is told. Every value is a state: of a desk's count at most four are read, places in its
+-- ring count from 0 to 3 and again from 0, and desks in the round from 0 to 7 and again from 0.
+use Prim.Native.Nat.{ℕ, _+_, _*_, _%_, min}
+use mathlib.Core.Path.{_≡_}
+use mathlib.Core.List.{List}
+use lib.ListN.{getD}
+use Rattle.model.specs.Outcome.{Outcome, good, refused, number}
+use Rattle.model.specs.Listed.{listed}
+use Rattle.desks.specs.State.{Job, State, Handed}
+use Rattle.desks.specs.declared.Desks.{Desks}
+use Rattle.desks.specs.declared.Submission.{Submission}
+use Rattle.desks.specs.declared.Submission.the-variants as submission
+use Rattle.desks.specs.declared.HandOut.{HandOut}
+use Rattle.desks.specs.declared.HandOut.the-variants as handOut
+
+-- the job of desk d before which i others wait
+unfoldable pub jobAt : Desks → ℕ → ℕ → Job
+jobAt s d i = record {
+  number = getD (s .numbers) (4 * d + (getD (s .oldest) d 0 + i) % 4) 0;
+  tag = getD (s .tags) (4 * d + (getD (s .oldest) d 0 + i) % 4) 0;
+}
+
+unfoldable pub seen : Desks → State
+seen s = record { queue = λ d. listed (min (getD (s .waiting) d 0) 4) (jobAt s d); last = s .last; counter = s .counter }
+
+-- "All leave the state": what a refusal hands back is the value that it was given
+abbrev pub Left : {A : Type 0} → Outcome A → Desks → Desks → Type 0
+Left (good a) s t = Unit {0}
+Left (refused c place second) s t = t ≡ s
+
+-- the answers, a refusal with "this paper's number and values"
+abbrev pub toldNumber : Outcome ℕ → Submission
+toldNumber (good n) = submission.Accepted n
+toldNumber (refused c place second) = submission.Refused (number c) place second
+
+abbrev pub toldJob : Outcome Handed → HandOut
+toldJob (good h) = handOut.Job (h .desk) (h .job .number) (h .job .tag)
+toldJob (refused c place second) = handOut.Refused (number c) place second

@@ -1,0 +1,89 @@
+-- A fair hand-out for eight desks: the state, and what a submission and a hand-out make of it. Paper 02, (iv).
+use Prim.Native.Nat.{ℕ, _+_, _%_}
+use mathlib.Core.Bool.{cond}
+use mathlib.Core.List.{List, [], _∷_, _++_}
+use mathlib.Core.Option.{Option, none, some}
+use lib.Dec.{ltb, eqb}
+use lib.ListN.{length}
+use Rattle.model.specs.Outcome.{Outcome, good, refused, noSuchDesk, fourWait, nothingWaits}
+use Rattle.model.specs.Search.{first}
+
+-- "Desks 0 to 7 submit jobs, each a 32-bit tag"; a job has a number too
+pub record Job : Type 0 where
+  pub number : ℕ
+  pub tag : ℕ
+
+-- for each desk the jobs that wait, the oldest first; the last desk served; the last number given
+pub record State : Type 0 where
+  pub queue : ℕ → List Job
+  pub last : ℕ
+  pub counter : ℕ
+
+-- nothing waits; "at first from desk 0", the desk after 7; numbers "from 1"
+unfoldable pub empty : State
+empty = record { queue = λ d. []; last = 7; counter = 0 }
+
+-- "the next job number, from 1, returning to 1 after 4,294,967,295"
+unfoldable pub nextNumber : ℕ → ℕ
+nextNumber n = cond (ltb n 4294967295) (n + 1) 1
+
+-- the queues, with that of one desk replaced
+unfoldable pub replaced : ℕ → List Job → (ℕ → List Job) → ℕ → List Job
+replaced desk jobs queue d = cond (eqb d desk) jobs (queue d)
+
+-- what a call comes to: what it is answered, and the state afterwards
+pub record Result (A : Type 0) : Type 0 where
+  pub answer : Outcome A
+  pub state : State
+
+-- a job joins its desk's queue as the youngest, and its number is the last given
+unfoldable pub joined : ℕ → Job → State → State
+joined desk job s = record { queue = replaced desk (s .queue desk ++ job ∷ []) (s .queue); last = s .last; counter = job .number }
+
+-- "An accepted submission answers with the next job number"
+abbrev pub nextJob : ℕ → State → Job
+nextJob tag s = record { number = nextNumber (s .counter); tag = tag }
+
+abbrev pub accept : ℕ → ℕ → State → Result ℕ
+accept desk tag s = record { answer = good (nextJob tag s .number); state = joined desk (nextJob tag s) s }
+
+-- "12: no such desk, tested first. 13: four already wait. .. All leave the state; place the desk"
+unfoldable pub submitted : ℕ → ℕ → State → Result ℕ
+submitted desk tag s =
+    cond (ltb desk 8)
+    (cond (ltb (length (s .queue desk)) 4) (accept desk tag s) (record { answer = refused fourWait desk 0; state = s }))
+    (record { answer = refused noSuchDesk desk 0; state = s })
+
+-- "a hand-out answers with desk, number and tag"
+pub record Handed : Type 0 where
+  pub desk : ℕ
+  pub job : Job
+
+-- a desk with work: its oldest job, and the others
+pub record Work : Type 0 where
+  pub desk : ℕ
+  pub oldest : Job
+  pub others : List Job
+
+unfoldable pub work : ℕ → List Job → Option Work
+work desk [] = none
+work desk (job ∷ jobs) = some (record { desk = desk; oldest = job; others = jobs })
+
+-- "going round from the desk after the last one served": the desk that comes k-th, counted from 0
+unfoldable pub inRound : ℕ → ℕ → ℕ
+inRound last k = (last + 1 + k) % 8
+
+-- "the first desk with work"
+unfoldable pub firstWork : State → Option Work
+firstWork s = first 8 (λ k. work (inRound (s .last) k) (s .queue (inRound (s .last) k)))
+
+-- "A hand-out takes the oldest job"; "14: hand-out with nothing waiting. .. place .. 0 for 14"
+unfoldable pub handOf : State → Option Work → Result Handed
+handOf s none = record { answer = refused nothingWaits 0 0; state = s }
+handOf s (some w) = record {
+  answer = good (record { desk = w .desk; job = w .oldest });
+  state = record { queue = replaced (w .desk) (w .others) (s .queue); last = w .desk; counter = s .counter };
+}
+
+abbrev pub handedOut : State → Result Handed
+handedOut s = handOf s (firstWork s)

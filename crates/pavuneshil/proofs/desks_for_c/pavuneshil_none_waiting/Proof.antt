@@ -1,0 +1,25 @@
+-- `pavuneshil::pavuneshil_none_waiting` meets its contract. Assumes nothing.
+use mathlib.Core.Path.{ap, _∙_}
+use Rattle.desks.specs.Seen.{seen}
+use borrow.Author.Needs.{needs}
+use Rattle.pavuneshil.proofs.desks_for_c.pavuneshil_none_waiting.Statement.{statement}
+use Rattle.pavuneshil.proofs.desks_for_c.pavuneshil_none_waiting.Tie as tie
+use Rattle.pavuneshil.proofs.desks_for_c.pavuneshil_none_waiting.Reads as reads
+use Rattle.pavuneshil.proofs.desks_for_c.pavuneshil_none_waiting.Lts as lts
+use Rattle.desks.proofs.none_waiting.Reads as none-waiting-reads
+use Rattle.pavuneshil.proofs.desks_for_c.leave.Reads as leave-reads
+
+-- src/desks_for_c.rt:46:9
+none-waiting-requires : tie.Need-none-waiting-requires
+none-waiting-requires c κs = search needs
+
+-- src/desks_for_c.rt:45:5
+leave-requires : tie.Need-leave-requires
+leave-requires c κs = search needs
+
+-- src/desks_for_c.rt:34:1
+returns : tie.Need-returns
+returns c = ap seen (c .leave .ensures) ∙ c .before .before .before .before .before .before .before .none-waiting .ensures
+
+pub pavuneshil-none-waiting-spec : {M : Type 1} → statement M
+pavuneshil-none-waiting-spec = tie.close (tie.spec none-waiting-requires leave-requires returns)

@@ -1,0 +1,122 @@
+// The hand-out for eight desks, for C and Rust. The state is lent in six parts, the fields of `desks::Desks`.
+ghost use mathlib.Core.Path.{_≡_};
+ghost use Rattle.desks.specs.State.{empty, submitted, handedOut};
+ghost use Rattle.desks.specs.Seen.{seen, Left, toldNumber, toldJob};
+ghost use Rattle.desks.specs.Four.{fourOfNumber, fourOfJob};
+use desks::Desks;
+use desks::numbers;
+
+// Leaves a state in the parts that are lent.
+fn leave(
+    s: Desks,
+    numbers: &mut [u32; 32],
+    tags: &mut [u32; 32],
+    oldest: &mut [u8; 8],
+    waiting: &mut [u8; 8],
+    last: &mut u8,
+    counter: &mut u32,
+)
+    ensures { λ _. ⌜ record { numbers = now (numbers .exit); tags = now (tags .exit); oldest = now (oldest .exit); waiting = now (waiting .exit); last = now (last .exit); counter = now (counter .exit) } ≡ s ⌝ }
+{
+    let n = s.numbers;
+    let t = s.tags;
+    let o = s.oldest;
+    let w = s.waiting;
+    *numbers = n;
+    *tags = t;
+    *oldest = o;
+    *waiting = w;
+    *last = s.last;
+    *counter = s.counter;
+}
+
+// The empty state.
+#[no_mangle]
+pub extern "C" fn pavuneshil_none_waiting(
+    numbers: &mut [u32; 32],
+    tags: &mut [u32; 32],
+    oldest: &mut [u8; 8],
+    waiting: &mut [u8; 8],
+    last: &mut u8,
+    counter: &mut u32,
+)
+    ensures { λ _. ⌜ seen (record { numbers = now (numbers .exit); tags = now (tags .exit); oldest = now (oldest .exit); waiting = now (waiting .exit); last = now (last .exit); counter = now (counter .exit) }) ≡ empty ⌝ }
+{
+    leave(
+        desks::none_waiting(),
+        numbers,
+        tags,
+        oldest,
+        waiting,
+        last,
+        counter,
+    );
+}
+
+// A desk submits a job.
+#[no_mangle]
+pub extern "C" fn pavuneshil_submit(
+    numbers: &mut [u32; 32],
+    tags: &mut [u32; 32],
+    oldest: &mut [u8; 8],
+    waiting: &mut [u8; 8],
+    last: &mut u8,
+    counter: &mut u32,
+    desk: u64,
+    tag: u32,
+    answer: &mut [u64; 4],
+)
+    ensures { λ _. ⌜ now (answer .exit) ≡ fourOfNumber (toldNumber (submitted desk tag (seen (record { numbers = now (numbers .entry); tags = now (tags .entry); oldest = now (oldest .entry); waiting = now (waiting .entry); last = now (last .entry); counter = now (counter .entry) })) .answer)) ⌝ }
+    ensures { λ _. ⌜ seen (record { numbers = now (numbers .exit); tags = now (tags .exit); oldest = now (oldest .exit); waiting = now (waiting .exit); last = now (last .exit); counter = now (counter .exit) }) ≡ submitted desk tag (seen (record { numbers = now (numbers .entry); tags = now (tags .entry); oldest = now (oldest .entry); waiting = now (waiting .entry); last = now (last .entry); counter = now (counter .entry) })) .state ⌝ }
+    ensures { λ _. ⌜ Left (submitted desk tag (seen (record { numbers = now (numbers .entry); tags = now (tags .entry); oldest = now (oldest .entry); waiting = now (waiting .entry); last = now (last .entry); counter = now (counter .entry) })) .answer) (record { numbers = now (numbers .entry); tags = now (tags .entry); oldest = now (oldest .entry); waiting = now (waiting .entry); last = now (last .entry); counter = now (counter .entry) }) (record { numbers = now (numbers .exit); tags = now (tags .exit); oldest = now (oldest .exit); waiting = now (waiting .exit); last = now (last .exit); counter = now (counter .exit) }) ⌝ }
+{
+    let n = *numbers;
+    let t = *tags;
+    let o = *oldest;
+    let w = *waiting;
+    let s = Desks {
+        numbers: n,
+        tags: t,
+        oldest: o,
+        waiting: w,
+        last: *last,
+        counter: *counter,
+    };
+    let r = desks::submit(s, desk, tag);
+    leave(r.desks, numbers, tags, oldest, waiting, last, counter);
+    let a = r.answer;
+    *answer = numbers::of_submission(a);
+}
+
+// The next job in turn.
+#[no_mangle]
+pub extern "C" fn pavuneshil_hand_out(
+    numbers: &mut [u32; 32],
+    tags: &mut [u32; 32],
+    oldest: &mut [u8; 8],
+    waiting: &mut [u8; 8],
+    last: &mut u8,
+    counter: &mut u32,
+    answer: &mut [u64; 4],
+)
+    ensures { λ _. ⌜ now (answer .exit) ≡ fourOfJob (toldJob (handedOut (seen (record { numbers = now (numbers .entry); tags = now (tags .entry); oldest = now (oldest .entry); waiting = now (waiting .entry); last = now (last .entry); counter = now (counter .entry) })) .answer)) ⌝ }
+    ensures { λ _. ⌜ seen (record { numbers = now (numbers .exit); tags = now (tags .exit); oldest = now (oldest .exit); waiting = now (waiting .exit); last = now (last .exit); counter = now (counter .exit) }) ≡ handedOut (seen (record { numbers = now (numbers .entry); tags = now (tags .entry); oldest = now (oldest .entry); waiting = now (waiting .entry); last = now (last .entry); counter = now (counter .entry) })) .state ⌝ }
+    ensures { λ _. ⌜ Left (handedOut (seen (record { numbers = now (numbers .entry); tags = now (tags .entry); oldest = now (oldest .entry); waiting = now (waiting .entry); last = now (last .entry); counter = now (counter .entry) })) .answer) (record { numbers = now (numbers .entry); tags = now (tags .entry); oldest = now (oldest .entry); waiting = now (waiting .entry); last = now (last .entry); counter = now (counter .entry) }) (record { numbers = now (numbers .exit); tags = now (tags .exit); oldest = now (oldest .exit); waiting = now (waiting .exit); last = now (last .exit); counter = now (counter .exit) }) ⌝ }
+{
+    let n = *numbers;
+    let t = *tags;
+    let o = *oldest;
+    let w = *waiting;
+    let s = Desks {
+        numbers: n,
+        tags: t,
+        oldest: o,
+        waiting: w,
+        last: *last,
+        counter: *counter,
+    };
+    let r = desks::hand_out(s);
+    leave(r.desks, numbers, tags, oldest, waiting, last, counter);
+    let a = r.answer;
+    *answer = numbers::of_hand_out(a);
+}
