@@ -2,3 +2,4 @@ pub mod States
 pub mod Runs
 pub mod Main
 pub mod Queues
+pub mod Numbered

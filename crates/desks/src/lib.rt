@@ -5,6 +5,7 @@ ghost use mathlib.Core.Path.{_≡_};
 ghost use Rattle.desks.specs.State.{empty, submitted, handedOut};
 ghost use Rattle.desks.specs.Seen.{seen, Left, toldNumber, toldJob};
 
+pub mod calls;
 pub mod numbers;
 mod rings;
 

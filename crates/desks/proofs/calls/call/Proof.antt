@@ -1,0 +1,111 @@
+-- `desks::calls::call` meets its contract. Assumes nothing.
+use mathlib.Core.Path.{sym, ap, _∙_}
+use denote.Ref.{now}
+use Rattle.desks.specs.Run.{event, next}
+use Rattle.desks.specs.Seen.{seen}
+use Rattle.desks.specs.Four.{fourOfNumber, fourOfJob}
+use Rattle.desks.specs.Numbers.{fourOf}
+use Rattle.desks.proofs.Numbered.{in-submit, in-hand-out}
+use borrow.Author.Needs.{needs}
+use Rattle.desks.proofs.calls.call.Statement.{statement}
+use Rattle.desks.proofs.calls.call.Tie as tie
+use Rattle.desks.proofs.calls.call.Reads as reads
+use Rattle.desks.proofs.calls.call.Lts as lts
+use Rattle.desks.proofs.hand_out.Reads as hand-out-reads
+use Rattle.desks.proofs.numbers.of_hand_out.Reads as of-hand-out-reads
+use Rattle.desks.proofs.numbers.of_submission.Reads as of-submission-reads
+use Rattle.desks.proofs.submit.Reads as submit-reads
+
+-- src/calls.rt:25:8
+mul-if1 : tie.Need-mul-if1
+mul-if1 c = search needs
+
+-- src/calls.rt:25:8
+shared-slice-read-if1 : tie.Need-shared-slice-read-if1
+shared-slice-read-if1 c = search needs
+
+-- src/calls.rt:26:25
+add-tag : tie.Need-add-tag
+add-tag c = search needs
+
+-- src/calls.rt:26:19
+mul-tag : tie.Need-mul-tag
+mul-tag c = search needs
+
+-- src/calls.rt:26:19
+shared-slice-read-tag : tie.Need-shared-slice-read-tag
+shared-slice-read-tag c = search needs
+
+-- src/calls.rt:27:48
+add-submit : tie.Need-add-submit
+add-submit c = search needs
+
+-- src/calls.rt:27:42
+mul-submit : tie.Need-mul-submit
+mul-submit c = search needs
+
+-- src/calls.rt:27:42
+shared-slice-read-submit : tie.Need-shared-slice-read-submit
+shared-slice-read-submit c = search needs
+
+-- src/calls.rt:27:57
+cast-submit : tie.Need-cast-submit
+cast-submit c = search needs
+
+-- src/calls.rt:27:13
+submit-requires : tie.Need-submit-requires
+submit-requires c κs = search needs
+
+-- src/calls.rt:29:13
+of-submission-requires : tie.Need-of-submission-requires
+of-submission-requires c κs = search needs
+
+-- src/calls.rt:33:13
+hand-out-requires : tie.Need-hand-out-requires
+hand-out-requires c κs = search needs
+
+-- src/calls.rt:35:13
+of-hand-out-requires : tie.Need-of-hand-out-requires
+of-hand-out-requires c κs = search needs
+
+-- src/calls.rt:20:1
+returns : tie.Need-returns
+returns c =
+    let m = c .before .before .submit in
+    let b = c .before .before .before .before .before in
+    let s = b .before .before .before .args in
+    let q = in-submit (now (s .calls)) (s .at) (b .if1 .taken) in (
+      c .before .of-submission .ensures ∙ ap fourOfNumber (m .ensures .0) ∙ ap (λ k. fourOf (event k (seen (s .s)))) (sym q),
+      m .ensures .1 .0 ∙ ap (λ k. next k (seen (s .s))) (sym q),
+    )
+
+-- src/calls.rt:20:1
+returns-2 : tie.Need-returns-2
+returns-2 c =
+    let m = c .before .before .hand-out in
+    let b = c .before .before .before in
+    let s = b .before .before .before .args in
+    let q = in-hand-out (now (s .calls)) (s .at) (b .if1 .left) in (
+      c .before .of-hand-out .ensures ∙ ap fourOfJob (m .ensures .0) ∙ ap (λ k. fourOf (event k (seen (s .s)))) (sym q),
+      m .ensures .1 .0 ∙ ap (λ k. next k (seen (s .s))) (sym q),
+    )
+
+pub call-spec : {M : Type 1} → statement M
+call-spec =
+    tie.close
+    (tie.spec
+    mul-if1
+    shared-slice-read-if1
+    add-tag
+    mul-tag
+    shared-slice-read-tag
+    add-submit
+    mul-submit
+    shared-slice-read-submit
+    cast-submit
+    submit-requires
+    of-submission-requires
+    hand-out-requires
+    of-hand-out-requires
+    returns
+    returns-2)
