@@ -1,8 +1,6 @@
 // Runs a long fixed sequence of calls at the desks, from the empty state, and prints each call with its answer, a line
 // each. What is printed is held to a stored output, and that to the second implementation.
-ghost use mathlib.Core.Path.{_≡_};
 ghost use Prim.Native.Nat.{_+_, _*_, _≤_, _<_};
-ghost use lib.ListN.{length};
 use libc::STDOUT_FILENO;
 
 const CALLS: usize = 1000;

@@ -6,7 +6,7 @@ use native.Mathlib.Omega.{arith}
 use lib.ListN.{length, take, drop, take-append-drop}
 use lib.Seq.{take-append-seam, take-append-le}
 use Rattle.desks.specs.State.{Job, State, empty}
-use Rattle.desks.specs.Run.{Call, Event, log, after, handedIn, accepted, handed, others, handOuts}
+use Rattle.desks.specs.Run.{Call, log, after, handedIn, accepted, handed, others, handOuts}
 use Rattle.desks.specs.Claim.{Claim}
 use Rattle.desks.proofs.States.{round-all}
 use Rattle.desks.proofs.Runs.{log-append, all-append, four-wait, conserved, others-most, waits}

@@ -1,18 +1,15 @@
 -- Laws of runs, from any state on.
-use Prim.Native.Nat.{ℕ, zero, suc, _+_, _-_, _*_, _≤_, _<_}
-use mathlib.Core.Path.{_≡_, refl, sym, ap, _∙_, subst}
+use Prim.Native.Nat.{ℕ, suc, _+_, _-_, _*_, _≤_, _<_}
+use mathlib.Core.Path.{_≡_, refl, sym, ap, _∙_}
 use mathlib.Core.Logic.{_⊎_, inl, inr, ⊎-elim}
 use mathlib.Core.Bool.{Bool, true, false, cond}
 use mathlib.Core.List.{List, [], _∷_, _++_, append-assoc, append-nil}
-use mathlib.Core.Option.{none, some, Option·some-ne-none, Option·some-injective}
 use native.Mathlib.Omega.{arith}
 use borrow.Author.Tests.{eq-eqb, ne-eqb}
 use native.Mathlib.Nat.{eq-or-lt-of-le}
 use lib.Dec.{eqb}
 use lib.ListN.{length, length-append}
-use Rattle.model.specs.Outcome.{good, refused}
-use Rattle.model.proofs.Searches.{bool-cases}
-use Rattle.desks.specs.State.{Job, State, Work, replaced, joined, nextJob, inRound, firstWork, handOf, submitted, handedOut}
+use Rattle.desks.specs.State.{Job, State, Work, replaced, joined, nextJob, inRound, handOf, submitted}
 use Rattle.desks.specs.Run.{Call, submit, handOut, Event, submission, hand, event, next, log, after, acceptedIn, handedIn, othersIn, all, accepted, handed, others, handOuts}
 use Rattle.desks.proofs.States.{by-submit, by-hand-out, first-work, turn, round-other, round-again, round-full, by-desk}
 

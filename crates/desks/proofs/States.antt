@@ -1,18 +1,17 @@
 -- Laws of the state: what a submission and a hand-out come to, case by case.
-use Prim.Native.Nat.{ℕ, zero, suc, _+_, _-_, _*_, _%_, _≤_, _<_}
-use mathlib.Core.Path.{_≡_, refl, sym, ap, _∙_, subst}
-use mathlib.Core.Logic.{⊎-elim, _≢_}
+use Prim.Native.Nat.{ℕ, suc, _+_, _-_, _*_, _%_, _≤_, _<_}
+use mathlib.Core.Path.{_≡_, refl, sym, ap, _∙_}
+use mathlib.Core.Logic.{_≢_}
 use mathlib.Core.Bool.{Bool, true, false, cond}
-use mathlib.Core.List.{List, [], _∷_, _++_}
+use mathlib.Core.List.{List, [], _∷_}
 use mathlib.Core.Option.{Option, none, some, Option·some-ne-none, Option·some-injective}
 use native.Mathlib.Omega.{arith}
 use lib.Dec.{ltb, eqb}
 use lib.ListN.{length}
 use borrow.Author.Tests.{lt-ltb, le-ltb, ltb-true, eqb-true, eqb-false}
-use Rattle.model.specs.Outcome.{Outcome, good, refused, Cause}
-use Rattle.model.specs.Search.{first}
-use Rattle.model.proofs.Searches.{bool-cases, option-cases, first-some, first-least}
-use Rattle.desks.specs.State.{Job, State, Result, Handed, Work, replaced, accept, submitted, work, inRound, firstWork, handOf, handedOut}
+use Rattle.model.specs.Outcome.{refused, Cause}
+use Rattle.model.proofs.Searches.{first-some, first-least}
+use Rattle.desks.specs.State.{Job, State, Result, Handed, Work, accept, submitted, work, inRound, firstWork, handOf, handedOut}
 
 -- ---- a submission: whatever holds of a refusal, and of an acceptance that is due, holds of it
 pub by-submit : (desk tag : ℕ) (s : State) (P : Result ℕ → Type 0)

@@ -1,5 +1,5 @@
 -- What the inner functions come to. No promise cites these.
-use Prim.Native.Nat.{ℕ, _<_}
+use Prim.Native.Nat.{_<_}
 use mathlib.Core.Option.{Option, none}
 use lib.ListN.{getD}
 use Rattle.desks.specs.State.{State, Work, work}

@@ -4,7 +4,7 @@ use mathlib.Core.Bool.{cond}
 use mathlib.Core.List.{List, [], _∷_, _++_}
 use lib.Dec.{eqb}
 use Rattle.model.specs.Outcome.{Outcome, good, refused}
-use Rattle.desks.specs.State.{Job, State, Result, Handed, submitted, handedOut}
+use Rattle.desks.specs.State.{Job, State, Handed, submitted, handedOut}
 
 pub data Call : Type 0 where
   submit : (desk tag : ℕ) → Call

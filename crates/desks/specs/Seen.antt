@@ -2,7 +2,6 @@
 -- ring count from 0 to 3 and again from 0, and desks in the round from 0 to 7 and again from 0.
 use Prim.Native.Nat.{ℕ, _+_, _*_, _%_, min}
 use mathlib.Core.Path.{_≡_}
-use mathlib.Core.List.{List}
 use lib.ListN.{getD}
 use Rattle.model.specs.Outcome.{Outcome, good, refused, number}
 use Rattle.model.specs.Listed.{listed}

@@ -83,6 +83,19 @@ pub fn none_waiting() -> Desks
     }
 }
 
+// A submission that leaves the state.
+fn refuse(s: Desks, number: u64, desk: u64) -> Submitted
+    ensures { λ r. ⌜ r .answer ≡ Submission.Refused number desk 0 ⌝ }
+    ensures { λ r. ⌜ r .desks ≡ s ⌝ }
+{
+    let answer = Submission::Refused {
+        number,
+        place: desk,
+        second: 0,
+    };
+    Submitted { answer, desks: s }
+}
+
 // A desk submits a job: its number, or why it is refused.
 pub fn submit(s: Desks, desk: u64, tag: u32) -> Submitted
     ensures { λ r. ⌜ r .answer ≡ toldNumber (submitted desk tag (seen s) .answer) ⌝ }
@@ -90,25 +103,11 @@ pub fn submit(s: Desks, desk: u64, tag: u32) -> Submitted
     ensures { λ r. ⌜ Left (submitted desk tag (seen s) .answer) s (r .desks) ⌝ }
 {
     if Desks::DESKS <= desk {
-        return Submitted {
-            answer: Submission::Refused {
-                number: 12,
-                place: desk,
-                second: 0,
-            },
-            desks: s,
-        };
+        return refuse(s, 12, desk);
     }
     let d = desk as usize;
     if Desks::WAITING <= s.waiting[d] {
-        return Submitted {
-            answer: Submission::Refused {
-                number: 13,
-                place: desk,
-                second: 0,
-            },
-            desks: s,
-        };
+        return refuse(s, 13, desk);
     }
     let number = rings::next_number(s.counter);
     let desks = rings::put(s, d, number, tag);

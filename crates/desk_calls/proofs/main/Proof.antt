@@ -1,15 +1,8 @@
 -- `desk_calls::main` is safe and ends. Assumes nothing.
-use Prim.Native.Nat.{_-_, _<_, _≤_}
+use Prim.Native.Nat.{_-_, _≤_}
 use borrow.Author.Needs.{needs}
 use Rattle.desk_calls.proofs.main.Statement.{statement}
 use Rattle.desk_calls.proofs.main.Tie as tie
-use Rattle.desk_calls.proofs.main.Reads as reads
-use Rattle.desk_calls.proofs.main.Lts as lts
-use Rattle.desk_calls.proofs.print_answer.Reads as print-answer-reads
-use Rattle.desk_calls.proofs.print_number.Reads as print-number-reads
-use Rattle.desk_calls.proofs.sequence.Reads as sequence-reads
-use Rattle.desks.proofs.calls.run.Reads as run-reads
-use Rattle.io.proofs.write_all.Reads as write-all-reads
 
 abbrev Inv-loop : tie.InvT-loop
 Inv-loop calls answers i₀ t5 t6 t7 t8 i = i ≤ 1000

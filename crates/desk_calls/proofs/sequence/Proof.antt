@@ -1,13 +1,8 @@
 -- `desk_calls::sequence` is safe and ends. Assumes nothing.
-use Prim.Native.Nat.{_-_, _<_, _≤_}
+use Prim.Native.Nat.{_-_, _<_}
 use borrow.Author.Needs.{needs}
 use Rattle.desk_calls.proofs.sequence.Statement.{statement}
 use Rattle.desk_calls.proofs.sequence.Tie as tie
-use Rattle.desk_calls.proofs.sequence.Reads as reads
-use Rattle.desk_calls.proofs.sequence.Lts as lts
-use Rattle.desk_calls.proofs.desk_of.Reads as desk-of-reads
-use Rattle.desk_calls.proofs.draw.Reads as draw-reads
-use Rattle.desk_calls.proofs.kind_of.Reads as kind-of-reads
 
 abbrev Inv-loop : tie.InvT-loop
 Inv-loop calls₀ x₀ i₀ calls x i = x < 2147483648

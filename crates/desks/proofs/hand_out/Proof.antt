@@ -8,10 +8,6 @@ use Rattle.desks.proofs.Queues.{seen-work}
 use borrow.Author.Needs.{needs}
 use Rattle.desks.proofs.hand_out.Statement.{statement}
 use Rattle.desks.proofs.hand_out.Tie as tie
-use Rattle.desks.proofs.hand_out.Reads as reads
-use Rattle.desks.proofs.hand_out.Lts as lts
-use Rattle.desks.proofs.rings.serve.Reads as serve-reads
-use Rattle.desks.proofs.rings.whose_turn.Reads as whose-turn-reads
 
 -- src/lib.rt:125:9
 whose-turn-requires : tie.Need-whose-turn-requires

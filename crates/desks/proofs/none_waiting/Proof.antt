@@ -3,8 +3,6 @@ use mathlib.Core.Path.{refl}
 use Rattle.desks.proofs.Queues.{seen-empty}
 use Rattle.desks.proofs.none_waiting.Statement.{statement}
 use Rattle.desks.proofs.none_waiting.Tie as tie
-use Rattle.desks.proofs.none_waiting.Reads as reads
-use Rattle.desks.proofs.none_waiting.Lts as lts
 
 -- src/lib.rt:71:1
 returns : tie.Need-returns

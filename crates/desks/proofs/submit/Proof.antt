@@ -1,36 +1,49 @@
 -- `desks::submit` meets its contract. Assumes nothing.
-use mathlib.Core.Path.{_≡_, refl, sym, ap, _∙_, subst}
+use Prim.Native.Nat.{ℕ}
+use mathlib.Core.Path.{_≡_, sym, ap, _∙_, subst}
 use native.Mathlib.Omega.{arith}
 use Rattle.desks.specs.Seen.{seen, Left, toldNumber}
-use Rattle.desks.specs.State.{joined}
-use Rattle.desks.specs.declared.Submission.the-variants.{Accepted}
+use Rattle.model.specs.Outcome.{Cause, refused, number}
+use Rattle.desks.specs.State.{submitted, joined}
+use Rattle.desks.specs.declared.Desks.{Desks}
+use Rattle.desks.specs.declared.Submission.{Submission}
+use Rattle.desks.specs.declared.Submission.the-variants.{Accepted, Refused}
 use Rattle.desks.proofs.States.{no-desk, full, accepts}
 use Rattle.desks.proofs.Queues.{seen-length}
 use borrow.Author.Needs.{needs}
 use Rattle.desks.proofs.submit.Statement.{statement}
 use Rattle.desks.proofs.submit.Tie as tie
-use Rattle.desks.proofs.submit.Reads as reads
-use Rattle.desks.proofs.submit.Lts as lts
-use Rattle.desks.proofs.rings.next_number.Reads as next-number-reads
-use Rattle.desks.proofs.rings.put.Reads as put-reads
+
+-- a refusal that is due, and the value that it was given
+refusal : (s t : Desks) (desk tag : ℕ) (c : Cause) (a : Submission) → submitted desk tag (seen s) ≡ record { answer = refused c desk 0; state = seen s }
+    → a ≡ Refused (number c) desk 0 → t ≡ s
+    → (a ≡ toldNumber (submitted desk tag (seen s) .answer)) × ((seen t ≡ submitted desk tag (seen s) .state) × Left (submitted desk tag (seen s) .answer) s t)
+refusal s t desk tag c a e h k =
+    (h ∙ ap (λ r. toldNumber (r .answer)) (sym e), (ap seen k ∙ ap (λ r. r .state) (sym e), subst (λ r. Left (r .answer) s t) (sym e) k))
 
 -- src/lib.rt:90:9
+refuse-requires : tie.Need-refuse-requires
+refuse-requires c κs = search needs
+
 returns : tie.Need-returns
 returns c =
-    let s = c .before .args in
-    let e = no-desk (s .desk) (s .tag) (seen (s .t1)) (c .if1 .taken) in
-    (ap (λ r. toldNumber (r .answer)) (sym e), (ap (λ r. r .state) (sym e), subst (λ r. Left (r .answer) (s .t1) (s .t1)) (sym e) refl))
+    let s = c .before .before .args in
+    refusal (s .t1) _ (s .desk) (s .tag) Cause.noSuchDesk _ (no-desk (s .desk) (s .tag) (seen (s .t1)) (c .before .if1 .taken)) (c .refuse .ensures .0) (c .refuse .ensures .1)
 
 -- src/lib.rt:100:26
 element-copy-out-if2 : tie.Need-element-copy-out-if2
 element-copy-out-if2 c = search needs
 
+refuse-requires-2 : tie.Need-refuse-requires-2
+refuse-requires-2 c κs = search needs
+
 -- src/lib.rt:101:9
 returns-2 : tie.Need-returns-2
 returns-2 c =
-    let s = c .before .before .before .args in
-    let e = full (s .desk) (s .tag) (seen (s .t1)) (c .before .before .if1 .left) (omega (arith, seen-length (s .t1) (s .desk), c .if2 .taken)) in
-    (ap (λ r. toldNumber (r .answer)) (sym e), (ap (λ r. r .state) (sym e), subst (λ r. Left (r .answer) (s .t1) (s .t1)) (sym e) refl))
+    let s = c .before .before .before .before .args in
+    refusal (s .t1) _ (s .desk) (s .tag) Cause.fourWait _
+    (full (s .desk) (s .tag) (seen (s .t1)) (c .before .before .before .if1 .left) (omega (arith, seen-length (s .t1) (s .desk), c .before .if2 .taken)))
+    (c .refuse2 .ensures .0) (c .refuse2 .ensures .1)
 
 -- src/lib.rt:110:9
 next-number-requires : tie.Need-next-number-requires
@@ -57,4 +70,4 @@ returns-3 c =
 pub submit-spec : {M : Type 1} → statement M
 submit-spec =
     tie.close
-    (tie.spec returns element-copy-out-if2 returns-2 next-number-requires put-requires returns-3)
+    (tie.spec refuse-requires returns element-copy-out-if2 refuse-requires-2 returns-2 next-number-requires put-requires returns-3)

@@ -9,12 +9,6 @@ use Rattle.desks.proofs.Numbered.{in-submit, in-hand-out}
 use borrow.Author.Needs.{needs}
 use Rattle.desks.proofs.calls.call.Statement.{statement}
 use Rattle.desks.proofs.calls.call.Tie as tie
-use Rattle.desks.proofs.calls.call.Reads as reads
-use Rattle.desks.proofs.calls.call.Lts as lts
-use Rattle.desks.proofs.hand_out.Reads as hand-out-reads
-use Rattle.desks.proofs.numbers.of_hand_out.Reads as of-hand-out-reads
-use Rattle.desks.proofs.numbers.of_submission.Reads as of-submission-reads
-use Rattle.desks.proofs.submit.Reads as submit-reads
 
 -- src/calls.rt:25:8
 mul-if1 : tie.Need-mul-if1

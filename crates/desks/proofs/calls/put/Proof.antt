@@ -6,8 +6,6 @@ use Rattle.desks.proofs.Numbered.{stores-eq}
 use borrow.Author.Needs.{needs}
 use Rattle.desks.proofs.calls.put.Statement.{statement}
 use Rattle.desks.proofs.calls.put.Tie as tie
-use Rattle.desks.proofs.calls.put.Reads as reads
-use Rattle.desks.proofs.calls.put.Lts as lts
 
 -- src/calls.rt:45:15
 array-read-out : tie.Need-array-read-out

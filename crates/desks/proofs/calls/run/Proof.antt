@@ -13,12 +13,6 @@ use Rattle.desks.specs.Numbers.{callIn, callsOf, fourOf}
 use Rattle.desks.proofs.Numbered.{toldBy, told-none, told-on, after-none, after-more}
 use Rattle.desks.proofs.calls.run.Statement.{statement}
 use Rattle.desks.proofs.calls.run.Tie as tie
-use Rattle.desks.proofs.calls.run.Reads as reads
-use Rattle.desks.proofs.calls.run.Lts as lts
-use Rattle.desks.proofs.calls.call.Reads as call-reads
-use Rattle.desks.proofs.calls.put.Reads as put-reads
-use Rattle.desks.proofs.calls.smaller.Reads as smaller-reads
-use Rattle.desks.proofs.none_waiting.Reads as none-waiting-reads
 
 abbrev Inv-loop : tie.InvT-loop
 Inv-loop calls answers₀ count s₀ i₀ answers s i = record {

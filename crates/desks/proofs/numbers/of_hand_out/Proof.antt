@@ -4,8 +4,6 @@ use Rattle.desks.specs.Four.{fourOfJob}
 use borrow.Author.Needs.{needs}
 use Rattle.desks.proofs.numbers.of_hand_out.Statement.{statement}
 use Rattle.desks.proofs.numbers.of_hand_out.Tie as tie
-use Rattle.desks.proofs.numbers.of_hand_out.Reads as reads
-use Rattle.desks.proofs.numbers.of_hand_out.Lts as lts
 
 -- src/numbers.rt:26:24
 enum-known-a : tie.Need-enum-known-a

@@ -4,8 +4,6 @@ use Rattle.desks.specs.Four.{fourOfNumber}
 use borrow.Author.Needs.{needs}
 use Rattle.desks.proofs.numbers.of_submission.Statement.{statement}
 use Rattle.desks.proofs.numbers.of_submission.Tie as tie
-use Rattle.desks.proofs.numbers.of_submission.Reads as reads
-use Rattle.desks.proofs.numbers.of_submission.Lts as lts
 
 -- src/numbers.rt:12:32
 enum-known-a : tie.Need-enum-known-a

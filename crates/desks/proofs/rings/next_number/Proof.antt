@@ -4,8 +4,6 @@ use Rattle.desks.specs.State.{nextNumber}
 use borrow.Author.Needs.{needs}
 use Rattle.desks.proofs.rings.next_number.Statement.{statement}
 use Rattle.desks.proofs.rings.next_number.Tie as tie
-use Rattle.desks.proofs.rings.next_number.Reads as reads
-use Rattle.desks.proofs.rings.next_number.Lts as lts
 
 -- src/rings.rt:22:33
 add-result : tie.Need-add-result

@@ -1,14 +1,9 @@
 -- `desks::rings::put` meets its contract. Assumes nothing.
-use mathlib.Core.Path.{_≡_, ap, _∙_}
 use Rattle.desks.proofs.Queues.{stored-joins}
 use borrow.Author.Needs.{needs}
 use native.Mathlib.Omega.{arith}
 use Rattle.desks.proofs.rings.put.Statement.{statement}
 use Rattle.desks.proofs.rings.put.Tie as tie
-use Rattle.desks.proofs.rings.put.Reads as reads
-use Rattle.desks.proofs.rings.put.Lts as lts
-use Rattle.desks.proofs.rings.place.Reads as place-reads
-use Rattle.desks.proofs.rings.wide.Reads as wide-reads
 
 -- src/rings.rt:72:19
 element-copy-out-waiting : tie.Need-element-copy-out-waiting

@@ -3,10 +3,6 @@ use Rattle.desks.proofs.Queues.{taken-told, taken-leaves}
 use borrow.Author.Needs.{needs}
 use Rattle.desks.proofs.rings.serve.Statement.{statement}
 use Rattle.desks.proofs.rings.serve.Tie as tie
-use Rattle.desks.proofs.rings.serve.Reads as reads
-use Rattle.desks.proofs.rings.serve.Lts as lts
-use Rattle.desks.proofs.rings.counted.Reads as counted-reads
-use Rattle.desks.proofs.rings.place.Reads as place-reads
 
 -- src/rings.rt:88:18
 element-copy-out-oldest : tie.Need-element-copy-out-oldest

@@ -9,9 +9,6 @@ use Rattle.desks.specs.State.{inRound}
 use Rattle.desks.proofs.Queues.{turns, nobody-yet, passed, found, nobody}
 use Rattle.desks.proofs.rings.whose_turn.Statement.{statement}
 use Rattle.desks.proofs.rings.whose_turn.Tie as tie
-use Rattle.desks.proofs.rings.whose_turn.Reads as reads
-use Rattle.desks.proofs.rings.whose_turn.Lts as lts
-use Rattle.desks.proofs.rings.wide.Reads as wide-reads
 
 abbrev Inv-loop : tie.InvT-loop
 Inv-loop s start k₀ k = record { none-yet : first k (turns s) ≡ none; most : k ≤ 8 }

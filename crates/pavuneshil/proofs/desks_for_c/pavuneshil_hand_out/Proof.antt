@@ -8,11 +8,6 @@ use Rattle.desks.specs.Four.{fourOfJob}
 use borrow.Author.Needs.{needs}
 use Rattle.pavuneshil.proofs.desks_for_c.pavuneshil_hand_out.Statement.{statement}
 use Rattle.pavuneshil.proofs.desks_for_c.pavuneshil_hand_out.Tie as tie
-use Rattle.pavuneshil.proofs.desks_for_c.pavuneshil_hand_out.Reads as reads
-use Rattle.pavuneshil.proofs.desks_for_c.pavuneshil_hand_out.Lts as lts
-use Rattle.desks.proofs.hand_out.Reads as hand-out-reads
-use Rattle.desks.proofs.numbers.of_hand_out.Reads as of-hand-out-reads
-use Rattle.pavuneshil.proofs.desks_for_c.leave.Reads as leave-reads
 
 -- src/desks_for_c.rt:118:9
 hand-out-requires : tie.Need-hand-out-requires

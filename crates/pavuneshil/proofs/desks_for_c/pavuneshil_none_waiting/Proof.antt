@@ -4,10 +4,6 @@ use Rattle.desks.specs.Seen.{seen}
 use borrow.Author.Needs.{needs}
 use Rattle.pavuneshil.proofs.desks_for_c.pavuneshil_none_waiting.Statement.{statement}
 use Rattle.pavuneshil.proofs.desks_for_c.pavuneshil_none_waiting.Tie as tie
-use Rattle.pavuneshil.proofs.desks_for_c.pavuneshil_none_waiting.Reads as reads
-use Rattle.pavuneshil.proofs.desks_for_c.pavuneshil_none_waiting.Lts as lts
-use Rattle.desks.proofs.none_waiting.Reads as none-waiting-reads
-use Rattle.pavuneshil.proofs.desks_for_c.leave.Reads as leave-reads
 
 -- src/desks_for_c.rt:46:9
 none-waiting-requires : tie.Need-none-waiting-requires

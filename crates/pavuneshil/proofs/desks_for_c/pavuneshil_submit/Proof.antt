@@ -8,11 +8,6 @@ use Rattle.desks.specs.Four.{fourOfNumber}
 use borrow.Author.Needs.{needs}
 use Rattle.pavuneshil.proofs.desks_for_c.pavuneshil_submit.Statement.{statement}
 use Rattle.pavuneshil.proofs.desks_for_c.pavuneshil_submit.Tie as tie
-use Rattle.pavuneshil.proofs.desks_for_c.pavuneshil_submit.Reads as reads
-use Rattle.pavuneshil.proofs.desks_for_c.pavuneshil_submit.Lts as lts
-use Rattle.desks.proofs.numbers.of_submission.Reads as of-submission-reads
-use Rattle.desks.proofs.submit.Reads as submit-reads
-use Rattle.pavuneshil.proofs.desks_for_c.leave.Reads as leave-reads
 
 -- src/desks_for_c.rt:85:9
 submit-requires : tie.Need-submit-requires
