@@ -1,18 +1,18 @@
 /*
- * Pavuneshil: even-step update plans for a tunnelled backbone, for C.
+ * Pavuneshil: even-step update plans for a tunnelled backbone, and a fair hand-out for eight desks, for C.
  * Link libpavuneshil.a, which `rt staticlib pavuneshil` makes. It needs memcpy and memset, and no heap.
  *
  * What holds of every function below is proved of the library's source. None has a precondition on the values: whatever
- * the texts and lists hold, and however short the lent output is, the answer says what came of it. What C does not check
- * is left to the caller:
- *   - each pointer points to as many items as the length after it says, or any more, and is not NULL, also where the
- *     length is 0;
- *   - what is written to (out, marks, answer) overlaps nothing else that is passed in the same call.
+ * the texts, lists and states hold, and however short the lent output is, the answer says what came of it. What C does
+ * not check is left to the caller:
+ *   - each pointer points to as many items as the length after it or the bound in its declaration says, or any more,
+ *     and is not NULL, also where the length is 0;
+ *   - what is written to (out, marks, answer, the parts of a state) overlaps nothing else passed in the same call.
  *
  * A text is bytes. A list has one 64-bit number for each line of the text, in line order. Lengths are in bytes for texts
  * and marks, in numbers for lists.
  *
- * The answer is four numbers:
+ * The answer is four numbers (the step bound and the desks have other values after PAVUNESHIL_DONE; see there):
  *   { PAVUNESHIL_DONE,    length, 0, 0 }              done; length items of the output were written
  *   { PAVUNESHIL_PLAN,    length, 0, 0 }              a plan; length numbers were written
  *   { PAVUNESHIL_REFUSED, number, place, second }     refused:
@@ -28,9 +28,12 @@
  *   8   overload of all classes                 step                         link
  *   9   no even plan of 1 to 50 steps fits      where the 50-step plan first overloads: step, link
  *   10  lent output too short                   length needed                0
+ *   12  no such desk                            desk                         0
+ *   13  four jobs of the desk wait already      desk                         0
+ *   14  hand-out with nothing waiting           0                            0
  *
- * Lines and steps count from 1, rows, links, flows and tunnels from 0. After a refusal everything lent is left as it
- * was, except the marks after 7 and 8. Output beyond the written length is never touched.
+ * Lines and steps count from 1, rows, links, flows, tunnels and desks from 0. After a refusal everything lent is left
+ * as it was, except the marks after 7 and 8. Output beyond the written length is never touched.
  */
 #ifndef PAVUNESHIL_H
 #define PAVUNESHIL_H
@@ -103,6 +106,72 @@ void pavuneshil_check_plan(const uint64_t *network, size_t network_len, const ui
  * Refused: 2 at place 2 where scratch is not 20 to 500; 2 at place 3 where overrun is neither 0 nor 20 to 500.
  */
 void pavuneshil_step_bound(uint64_t scratch, uint64_t overrun, uint64_t answer[4]);
+
+/*
+ * A fair hand-out: desks 0 to 7 submit jobs, each with a tag of the caller's choice, and a hand-out takes one of them,
+ * the desks in turn. Over any calls from the empty state:
+ *   - a desk's jobs are handed out in the order of submission, none twice, and none that was not accepted;
+ *   - between a job becoming its desk's oldest and its being handed out, at most seven jobs of other desks are;
+ *   - every job has been handed out once 32 hand-outs have been called after it was accepted.
+ *
+ * The state is six parts, and every value of them is a state. A desk has a ring of four places: the job of desk d
+ * before which i others of that desk wait is at place 4 * d + (oldest[d] + i) % 4 of numbers and of tags.
+ */
+typedef struct pavuneshil_desks {
+    uint32_t numbers[32]; /* the jobs' numbers */
+    uint32_t tags[32];    /* the jobs' tags */
+    uint8_t oldest[8];    /* where in its ring a desk's oldest job is; taken modulo 4 */
+    uint8_t waiting[8];   /* how many jobs of a desk wait; more than 4 is taken as 4 */
+    uint8_t last;         /* the desk served last, at first 7; taken modulo 8 */
+    uint32_t counter;     /* the job number given last, at first 0 */
+} pavuneshil_desks;
+
+/*
+ * The library's functions take the parts one by one. Those on a pavuneshil_desks, further below, only pass its parts on;
+ * they are C, and not proved.
+ */
+
+/*
+ * Makes the state empty: nothing waits, the round begins at desk 0, and job numbers at 1.
+ */
+void pavuneshil_none_waiting(uint32_t numbers[32], uint32_t tags[32], uint8_t oldest[8], uint8_t waiting[8],
+                             uint8_t *last, uint32_t *counter);
+
+/*
+ * A desk submits a job. { PAVUNESHIL_DONE, number, 0, 0 }: it waits behind the desk's other jobs, and has the next job
+ * number, which returns to 1 after 4,294,967,295.
+ * Refused: 12 where desk is not 0 to 7; then 13.
+ */
+void pavuneshil_submit(uint32_t numbers[32], uint32_t tags[32], uint8_t oldest[8], uint8_t waiting[8], uint8_t *last,
+                       uint32_t *counter, uint64_t desk, uint32_t tag, uint64_t answer[4]);
+
+/*
+ * Hands out a job. { PAVUNESHIL_DONE, desk, number, tag }: the oldest job of the first desk with work, going round from
+ * the desk after the one served last. It waits no longer, and its desk is now the one served last.
+ * Refused: 14.
+ */
+void pavuneshil_hand_out(uint32_t numbers[32], uint32_t tags[32], uint8_t oldest[8], uint8_t waiting[8], uint8_t *last,
+                         uint32_t *counter, uint64_t answer[4]);
+
+/* Makes the state empty: see pavuneshil_none_waiting. */
+static inline void pavuneshil_desks_empty(pavuneshil_desks *desks)
+{
+    pavuneshil_none_waiting(desks->numbers, desks->tags, desks->oldest, desks->waiting, &desks->last, &desks->counter);
+}
+
+/* A desk submits a job: see pavuneshil_submit. */
+static inline void pavuneshil_desks_submit(pavuneshil_desks *desks, uint64_t desk, uint32_t tag, uint64_t answer[4])
+{
+    pavuneshil_submit(desks->numbers, desks->tags, desks->oldest, desks->waiting, &desks->last, &desks->counter, desk,
+                      tag, answer);
+}
+
+/* Hands out a job: see pavuneshil_hand_out. */
+static inline void pavuneshil_desks_hand_out(pavuneshil_desks *desks, uint64_t answer[4])
+{
+    pavuneshil_hand_out(desks->numbers, desks->tags, desks->oldest, desks->waiting, &desks->last, &desks->counter,
+                        answer);
+}
 
 #ifdef __cplusplus
 }

@@ -1,4 +1,5 @@
-//! The inputs: networks of the largest size, each with its plan of 50 steps, and the swap.
+//! The inputs: networks of the largest size, each with its plan of 50 steps, and the swap; pairs for
+//! the step bound; submissions for the desks.
 
 use second::gen::Rng;
 
@@ -150,6 +151,20 @@ pub fn shares(count: usize, seed: u64) -> Vec<(u64, u64)> {
         .map(|_| {
             let overrun = rng.between(20, 500);
             (rng.between(20, 500), rng.pick(&[0, overrun]))
+        })
+        .collect()
+}
+
+/// So many orders in which the eight desks submit four jobs each: desk and tag.
+pub fn submissions(count: usize, seed: u64) -> Vec<Vec<(u64, u32)>> {
+    let mut rng = Rng::new(seed);
+    (0..count)
+        .map(|_| {
+            let mut jobs: Vec<_> = (0..32).map(|i| (i % 8, rng.any() as u32)).collect();
+            for last in (1..jobs.len()).rev() {
+                jobs.swap(last, rng.below(last as u64 + 1) as usize);
+            }
+            jobs
         })
         .collect()
 }

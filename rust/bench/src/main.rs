@@ -1,14 +1,14 @@
 //! Prints the time of every operation beside the second implementation's. No test: nothing fails for being slow.
 //!
 //! Our operations write into buffers that are lent again and again and are not cleared in between;
-//! the second implementation allocates what it returns.
+//! the second implementation allocates what it returns, and the desks' queues.
 
 #![forbid(unsafe_code)]
 
 use bench::clock::medians;
 use bench::inputs::{self, Input};
-use pavuneshil::{Answer, Refusal, StepBound, MARKS, PLAN_NUMBERS, TEXT_BYTES};
-use second::Checked;
+use pavuneshil::{Answer, Desks, Refusal, StepBound, MARKS, PLAN_NUMBERS, TEXT_BYTES};
+use second::{Checked, Rules};
 use std::hint::black_box;
 
 /// The networks of a size, and the seed of the inputs.
@@ -24,12 +24,16 @@ fn row(name: &str, calls: usize, ours: &mut dyn FnMut(), second: &mut dyn FnMut(
     );
 }
 
-fn refused(refusal: second::Refusal) -> Answer {
-    Answer::Refused(Refusal {
+fn told(refusal: second::Refusal) -> Refusal {
+    Refusal {
         number: refusal.number,
         place: refusal.place,
         second: refusal.second,
-    })
+    }
+}
+
+fn refused(refusal: second::Refusal) -> Answer {
+    Answer::Refused(told(refusal))
 }
 
 /// Both answers must agree, or the times compare nothing.
@@ -157,6 +161,86 @@ fn rows(inputs: &[Input], repeat: usize) {
     check!("check_plan, judging alone (no marks, 10)", network, 0);
 }
 
+/// The same state, ours and the second implementation's.
+type Both = (Desks, second::Desks);
+
+fn agree_submitted(both: &mut Both, desk: u64, tag: u32) {
+    let second = both.1.submit(desk, tag).map(|accepted| accepted.number);
+    assert_eq!(both.0.submit(desk, tag), second.map_err(told));
+}
+
+fn agree_handed(both: &mut Both) {
+    let ours = both.0.hand_out().map(|job| (job.desk, job.number, job.tag));
+    let second = both.1.hand_out().map(|job| (job.desk, job.number, job.tag));
+    assert_eq!(ours, second.map_err(told));
+}
+
+/// A row of the desks: from a copy of each state, a call for each job of a round. The copy counts.
+fn desk_row<A, B>(
+    name: &str,
+    states: &[Both],
+    rounds: &[Vec<(u64, u32)>],
+    ours: impl Fn(&mut Desks, u64, u32) -> A,
+    second: impl Fn(&mut second::Desks, u64, u32) -> B,
+) {
+    row(
+        name,
+        rounds.iter().map(Vec::len).sum(),
+        &mut || {
+            for (state, jobs) in states.iter().zip(rounds) {
+                let mut desks = state.0;
+                for &(desk, tag) in jobs {
+                    black_box(ours(&mut desks, black_box(desk), black_box(tag)));
+                }
+            }
+        },
+        &mut || {
+            for (state, jobs) in states.iter().zip(rounds) {
+                let mut desks = state.1.clone();
+                for &(desk, tag) in jobs {
+                    black_box(second(&mut desks, black_box(desk), black_box(tag)));
+                }
+            }
+        },
+    );
+}
+
+/// Rows of the desks, with nothing waiting and with four jobs of each desk.
+fn desk_rows(rounds: &[Vec<(u64, u32)>]) {
+    let empty = (Desks::new(), second::Desks::new(&Rules::as_of(4)));
+    let empty = vec![empty; rounds.len()];
+    let mut full = empty.clone();
+    for (state, jobs) in full.iter_mut().zip(rounds) {
+        for &(desk, tag) in jobs {
+            agree_submitted(state, desk, tag);
+        }
+        // one refused
+        agree_submitted(state, 0, 0);
+        let mut state = state.clone();
+        for _ in 0..=jobs.len() {
+            agree_handed(&mut state);
+        }
+    }
+    for (name, states) in [("submit", &empty), ("submit, refused 13", &full)] {
+        desk_row(
+            name,
+            states,
+            rounds,
+            |desks, desk, tag| desks.submit(desk, tag),
+            |desks, desk, tag| desks.submit(desk, tag),
+        );
+    }
+    for (name, states) in [("hand_out", &full), ("hand_out, refused 14", &empty)] {
+        desk_row(
+            name,
+            states,
+            rounds,
+            |desks, _, _| desks.hand_out(),
+            |desks, _, _| desks.hand_out(),
+        );
+    }
+}
+
 fn main() {
     println!("nanoseconds of one call, medians of one run; the inputs in turn; buffers lent again, not cleared");
     println!(
@@ -198,4 +282,11 @@ fn main() {
             }
         },
     );
+
+    let rounds = inputs::submissions(64, SEED);
+    println!(
+        "-- the desks: {} rounds of 32 jobs, four of each desk; a copy of the state before each round",
+        rounds.len()
+    );
+    desk_rows(&rounds);
 }

@@ -1,16 +1,17 @@
 //! Holds every operation of the static library against the second implementation, by the rules of
-//! the first paper.
+//! the first paper, and the eight desks by those of request (iv).
 //!
 //!     compare [CASES [SEED [FIRST]]]
 //!
-//! A case is one call, or one network and plan held against every choice. Case number i of a seed
-//! is always the same, whatever CASES is, so that `compare 1 SEED i` repeats it. The last line is
-//! 'N passed, M failed'.
+//! A case is one call, or one network and plan held against every choice, or a run of calls of the
+//! desks. Case number i of a seed is always the same, whatever CASES is, so that `compare 1 SEED i`
+//! repeats it. The last line is 'N passed, M failed'.
 
 #![forbid(unsafe_code)]
 
 mod call;
 mod choices;
+mod desks;
 
 use second::gen::Rng;
 use std::collections::BTreeMap;
@@ -33,7 +34,7 @@ pub type Outcome = Result<String, String>;
 /// One case. Every operation comes up, the cheap ones more often.
 fn case(seed: u64, number: u64) -> Outcome {
     let mut rng = Rng::new(Rng::new(seed).any() ^ number.wrapping_mul(0xd134_2543_de82_ef95));
-    match number % 16 {
+    match number % 18 {
         0..=2 => call::read_network(&mut rng),
         3..=4 => call::read_plan(&mut rng),
         5..=6 => call::write_network(&mut rng),
@@ -41,7 +42,9 @@ fn case(seed: u64, number: u64) -> Outcome {
         9..=10 => call::make_plan(&mut rng),
         11..=13 => call::check_plan(&mut rng),
         14 => call::step_bound(&mut rng),
-        _ => choices::hold(&mut rng),
+        15 => choices::hold(&mut rng),
+        16 => desks::from_empty(&mut rng),
+        _ => desks::from_any_parts(&mut rng),
     }
 }
 

@@ -1,4 +1,5 @@
-//! Even-step update plans for a tunnelled backbone: the seven proved operations, for Rust.
+//! Even-step update plans for a tunnelled backbone, and a fair hand-out for eight desks, [`Desks`]:
+//! the proved operations, for Rust.
 //!
 //! Texts and lists go in as slices, and results are written into a slice that the caller lends.
 //! No operation has a precondition: whatever is given, the answer says what came of it, and what
@@ -15,6 +16,10 @@
 //! ```
 
 #![deny(unsafe_op_in_unsafe_fn)]
+
+mod desks;
+
+pub use desks::{Desks, Handed};
 
 /// No valid network's list has more numbers.
 pub const NETWORK_NUMBERS: usize = 6 + 64 + 2 * 32 + 4 * 96;
@@ -34,12 +39,13 @@ pub struct Refusal {
     /// 1 line not in its form, 2 value outside its range, 3 a line missing or too many,
     /// 4 amounts that miss a flow's rate, 5 another number of tunnels, 6 a row that misses
     /// parts × rate, 7 protected overload, 8 overload of all classes, 9 no even plan of 1 to 50
-    /// steps, 10 lent output too short.
+    /// steps, 10 lent output too short, 12 no such desk, 13 four jobs of the desk wait already,
+    /// 14 hand-out with nothing waiting.
     pub number: u64,
-    /// The line, flow, row or step; the length needed for 10.
+    /// The line, flow, row or step; the length needed for 10; the desk for 12 and 13; 0 for 14.
     pub place: u64,
     /// 0 network and 1 plan for 1, 2, 3 and 5; 0 old and 1 new for 4; the flow for 6; the link
-    /// for 7, 8 and 9; 0 for 10.
+    /// for 7, 8 and 9; 0 for 10, 12, 13 and 14.
     pub second: u64,
 }
 
@@ -61,8 +67,8 @@ pub enum StepBound {
     Refused(Refusal),
 }
 
-/// The functions of libpavuneshil.a: a slice is a pointer and a length, the answer a pointer to
-/// four numbers.
+/// The functions of libpavuneshil.a: a slice is a pointer and a length, an array a pointer, the
+/// answer a pointer to four numbers.
 mod archive {
     extern "C" {
         pub fn pavuneshil_read_network(
@@ -110,6 +116,34 @@ mod archive {
             answer: *mut [u64; 4],
         );
         pub fn pavuneshil_step_bound(scratch: u64, overrun: u64, answer: *mut [u64; 4]);
+        pub fn pavuneshil_none_waiting(
+            numbers: *mut [u32; 32],
+            tags: *mut [u32; 32],
+            oldest: *mut [u8; 8],
+            waiting: *mut [u8; 8],
+            last: *mut u8,
+            counter: *mut u32,
+        );
+        pub fn pavuneshil_submit(
+            numbers: *mut [u32; 32],
+            tags: *mut [u32; 32],
+            oldest: *mut [u8; 8],
+            waiting: *mut [u8; 8],
+            last: *mut u8,
+            counter: *mut u32,
+            desk: u64,
+            tag: u32,
+            answer: *mut [u64; 4],
+        );
+        pub fn pavuneshil_hand_out(
+            numbers: *mut [u32; 32],
+            tags: *mut [u32; 32],
+            oldest: *mut [u8; 8],
+            waiting: *mut [u8; 8],
+            last: *mut u8,
+            counter: *mut u32,
+            answer: *mut [u64; 4],
+        );
     }
 }
 

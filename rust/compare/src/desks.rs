@@ -1,0 +1,352 @@
+//! Calls of the eight desks, one after the other. After each, the answer and all that waits are held
+//! against the second implementation, by the rules of request (iv); or, from six parts of any
+//! values, which the second implementation cannot be given, against a plain model of them.
+
+use crate::call::told;
+use crate::Outcome;
+use pavuneshil::{Desks, Handed, Refusal};
+use second::gen::{desk_calls, Call, Rng};
+use second::Rules;
+use std::collections::{BTreeSet, VecDeque};
+
+/// A job that waits: its number and its tag.
+type Job = (u32, u32);
+
+/// "returning to 1 after 4,294,967,295"
+const LAST_NUMBER: u32 = 4_294_967_295;
+
+/// What a call is answered where it is not refused.
+#[derive(Debug, Clone, Copy, PartialEq, Eq)]
+enum Good {
+    Number(u32),
+    Job(Handed),
+}
+
+type Answer = Result<Good, Refusal>;
+
+/// What the library's desks are held against.
+trait Beside {
+    fn call(&mut self, call: Call) -> Answer;
+
+    /// The jobs of a desk that wait, the oldest first.
+    fn jobs(&self, desk: usize) -> Vec<Job>;
+}
+
+impl Beside for second::Desks {
+    fn call(&mut self, call: Call) -> Answer {
+        match call {
+            Call::Submit(desk, tag) => self
+                .submit(desk, tag)
+                .map(|accepted| Good::Number(accepted.number)),
+            Call::HandOut => self.hand_out().map(|job| {
+                Good::Job(Handed {
+                    desk: job.desk,
+                    number: job.number,
+                    tag: job.tag,
+                })
+            }),
+        }
+        .map_err(told)
+    }
+
+    fn jobs(&self, desk: usize) -> Vec<Job> {
+        second::Desks::jobs(self, desk)
+    }
+}
+
+/// What six parts of any values mean.
+struct Model {
+    queues: [VecDeque<Job>; 8],
+    last: usize,
+    counter: u32,
+}
+
+impl Model {
+    fn of(desks: &Desks) -> Model {
+        Model {
+            queues: std::array::from_fn(|desk| jobs(desks, desk).into()),
+            last: desks.last as usize % 8,
+            counter: desks.counter,
+        }
+    }
+}
+
+impl Beside for Model {
+    fn call(&mut self, call: Call) -> Answer {
+        let refused = |number, place| Refusal {
+            number,
+            place,
+            second: 0,
+        };
+        match call {
+            Call::Submit(desk, tag) => {
+                let Some(queue) = self.queues.get_mut(desk.min(8) as usize) else {
+                    return Err(refused(12, desk));
+                };
+                if queue.len() == 4 {
+                    return Err(refused(13, desk));
+                }
+                self.counter = self.counter % LAST_NUMBER + 1;
+                queue.push_back((self.counter, tag));
+                Ok(Good::Number(self.counter))
+            }
+            Call::HandOut => {
+                for desk in (self.last + 1..).take(8).map(|desk| desk % 8) {
+                    if let Some((number, tag)) = self.queues[desk].pop_front() {
+                        self.last = desk;
+                        return Ok(Good::Job(Handed {
+                            desk: desk as u64,
+                            number,
+                            tag,
+                        }));
+                    }
+                }
+                Err(refused(14, 0))
+            }
+        }
+    }
+
+    fn jobs(&self, desk: usize) -> Vec<Job> {
+        self.queues[desk].iter().copied().collect()
+    }
+}
+
+/// The jobs of a desk that wait, by the library's parts.
+fn jobs(desks: &Desks, desk: usize) -> Vec<Job> {
+    let waiting = desks.waiting[desk].min(4) as usize;
+    (0..waiting)
+        .map(|i| 4 * desk + (desks.oldest[desk] as usize + i) % 4)
+        .map(|place| (desks.numbers[place], desks.tags[place]))
+        .collect()
+}
+
+/// One call of the library.
+fn ours(desks: &mut Desks, call: Call) -> Answer {
+    match call {
+        Call::Submit(desk, tag) => desks.submit(desk, tag).map(Good::Number),
+        Call::HandOut => desks.hand_out().map(Good::Job),
+    }
+}
+
+/// Compares what a call came to: the answer, the last number and the last desk, every queue, and
+/// after a refusal every part, bit for bit.
+fn same(
+    before: &Desks,
+    after: &Desks,
+    answer: Answer,
+    expected: Answer,
+    beside: &impl Beside,
+) -> Result<(), String> {
+    if answer != expected {
+        return Err(format!("{answer:?}, expected {expected:?}"));
+    }
+    let left = match answer {
+        Err(_) => after == before,
+        Ok(Good::Number(number)) => (after.last, after.counter) == (before.last, number),
+        Ok(Good::Job(job)) => (u64::from(after.last), after.counter) == (job.desk, before.counter),
+    };
+    if !left {
+        return Err(format!("{answer:?}, but then {after:?}"));
+    }
+    for desk in 0..8 {
+        let (ours, theirs) = (jobs(after, desk), beside.jobs(desk));
+        if ours != theirs {
+            return Err(format!(
+                "{answer:?}, but then of desk {desk} {ours:?} wait, expected {theirs:?}"
+            ));
+        }
+    }
+    Ok(())
+}
+
+/// The calls one after the other. What came up: which refusals, and whether numbers returned to 1.
+fn hold(name: &str, start: Desks, mut beside: impl Beside, calls: &[Call]) -> Outcome {
+    let mut desks = start;
+    let mut refusals = BTreeSet::new();
+    let mut returned = "";
+    for (i, &call) in calls.iter().enumerate() {
+        let before = desks;
+        let answer = ours(&mut desks, call);
+        let expected = beside.call(call);
+        same(&before, &desks, answer, expected, &beside)
+            .map_err(|why| format!("{name}, call {i}, {call:?}: {why}: {before:?}"))?;
+        match answer {
+            Err(refusal) => {
+                refusals.insert(refusal.number);
+            }
+            Ok(Good::Number(1)) if before.counter == LAST_NUMBER => {
+                returned = ", numbers return to 1";
+            }
+            Ok(_) => {}
+        }
+    }
+    let refusals = match refusals.len() {
+        0 => "no refusal",
+        3 => "refusals 12, 13 and 14",
+        _ => "some of the refusals",
+    };
+    Ok(format!("{name}: {refusals}{returned}"))
+}
+
+/// From the empty state, or from one whose last number is near the last there is, or that one.
+pub fn from_empty(rng: &mut Rng) -> Outcome {
+    let rules = Rules::as_of(4);
+    let count = rng.between(100, 400) as usize;
+    let calls = desk_calls(rng, count);
+    let empty = Desks::new();
+    if rng.percent(60) {
+        return hold(
+            "desks from the empty state",
+            empty,
+            second::Desks::new(&rules),
+            &calls,
+        );
+    }
+    let before_last = rng.below(100);
+    let counter = LAST_NUMBER - rng.pick(&[0, 1, 2, before_last]) as u32;
+    let next = if counter == LAST_NUMBER {
+        1
+    } else {
+        counter + 1
+    };
+    hold(
+        "desks from late numbers",
+        Desks { counter, ..empty },
+        second::Desks::with_next(&rules, [next; 8]),
+        &calls,
+    )
+}
+
+/// Six parts of any values: any counts, rings and round, mostly with room for some jobs.
+fn any_parts(rng: &mut Rng) -> Desks {
+    let most = rng.pick(&[0, 1, 3, 4, 5, 255]);
+    let counter = match rng.below(3) {
+        0 => LAST_NUMBER - rng.below(10) as u32,
+        1 => rng.below(10) as u32,
+        _ => rng.any() as u32,
+    };
+    Desks {
+        numbers: std::array::from_fn(|_| rng.any() as u32),
+        tags: std::array::from_fn(|_| rng.any() as u32),
+        oldest: std::array::from_fn(|_| rng.any() as u8),
+        waiting: std::array::from_fn(|_| rng.below(most + 1) as u8),
+        last: rng.any() as u8,
+        counter,
+    }
+}
+
+/// From six parts of any values.
+pub fn from_any_parts(rng: &mut Rng) -> Outcome {
+    let start = any_parts(rng);
+    let count = rng.between(1, 80) as usize;
+    let calls = desk_calls(rng, count);
+    let beyond = start.waiting.iter().any(|&waiting| waiting > 4);
+    hold(
+        if beyond {
+            "desks from any parts, counts above 4"
+        } else {
+            "desks from any parts"
+        },
+        start,
+        Model::of(&start),
+        &calls,
+    )
+}
+
+#[cfg(test)]
+mod tests {
+    use super::*;
+
+    /// A state with one job, of desk 3, and a model that the same job is submitted to.
+    fn submitted() -> (Desks, Desks, Answer, Model) {
+        let before = Desks::new();
+        let mut model = Model::of(&before);
+        let mut after = before;
+        let answer = ours(&mut after, Call::Submit(3, 30));
+        assert_eq!(answer, model.call(Call::Submit(3, 30)));
+        (before, after, answer, model)
+    }
+
+    /// The comparison sees another answer, and another value of every part.
+    #[test]
+    fn differences_are_seen() {
+        let (before, after, answer, model) = submitted();
+        let seen = |after: &Desks, answer| same(&before, after, answer, answer, &model).is_err();
+        assert!(!seen(&after, answer));
+        let other = Ok(Good::Number(2));
+        assert!(same(&before, &after, answer, other, &model).is_err());
+        let place = 12 + after.oldest[3] as usize % 4;
+        let changes: [fn(&mut Desks, usize); 8] = [
+            |desks, place| desks.numbers[place] += 1,
+            |desks, place| desks.tags[place] += 1,
+            |desks, _| desks.oldest[3] += 1,
+            |desks, _| desks.waiting[3] += 1,
+            |desks, _| desks.waiting[3] -= 1,
+            |desks, _| desks.waiting[4] += 1,
+            |desks, _| desks.last = 3,
+            |desks, _| desks.counter += 1,
+        ];
+        for change in changes {
+            let mut other = after;
+            change(&mut other, place);
+            assert!(seen(&other, answer), "{other:?}");
+        }
+    }
+
+    /// After a refusal it sees also what no queue shows.
+    #[test]
+    fn differences_after_a_refusal_are_seen() {
+        let before = Desks::new();
+        let mut model = Model::of(&before);
+        let answer = model.call(Call::HandOut);
+        assert!(same(&before, &before, answer, answer, &model).is_ok());
+        let changes: [fn(&mut Desks); 5] = [
+            |desks| desks.numbers[31] += 1,
+            |desks| desks.tags[0] += 1,
+            |desks| desks.oldest[5] += 4,
+            |desks| desks.last += 8,
+            |desks| desks.counter += 1,
+        ];
+        for change in changes {
+            let mut after = before;
+            change(&mut after);
+            assert!(same(&before, &after, answer, answer, &model).is_err());
+        }
+    }
+
+    /// A comparison with desks that go by other rules fails.
+    #[test]
+    fn other_rules_are_seen() {
+        let calls = [
+            Call::Submit(1, 10),
+            Call::Submit(2, 20),
+            Call::HandOut,
+            Call::HandOut,
+        ];
+        let start = Desks::new();
+        let with = |next: u32, last| {
+            let mut model = Model::of(&start);
+            (model.counter, model.last) = (next - 1, last);
+            hold("desks", start, model, &calls)
+        };
+        assert_eq!(with(1, 7), Ok("desks: no refusal".to_string()));
+        assert!(with(2, 7).is_err());
+        assert!(with(1, 1).is_err());
+    }
+
+    /// Both, held against each other, as far as the second implementation can be given the state.
+    #[test]
+    fn model_and_second() {
+        let mut rng = Rng::new(404);
+        for _ in 0..100 {
+            let mut model = Model::of(&Desks::new());
+            let mut second = second::Desks::new(&Rules::as_of(4));
+            for call in desk_calls(&mut rng, 300) {
+                assert_eq!(model.call(call), Beside::call(&mut second, call));
+                for desk in 0..8 {
+                    assert_eq!(model.jobs(desk), second.jobs(desk));
+                }
+            }
+        }
+    }
+}

@@ -1,0 +1,157 @@
+//! The hand-out for eight desks, through the wrapper.
+
+use pavuneshil::*;
+
+const LAST_NUMBER: u32 = 4_294_967_295;
+
+fn refused(number: u64, place: u64) -> Refusal {
+    Refusal {
+        number,
+        place,
+        second: 0,
+    }
+}
+
+fn handed(desk: u64, number: u32, tag: u32) -> Result<Handed, Refusal> {
+    Ok(Handed { desk, number, tag })
+}
+
+/// A state with a count, rings and a round beyond what calls from the empty state reach.
+fn any_state() -> Desks {
+    Desks {
+        numbers: std::array::from_fn(|i| 1000 + i as u32),
+        tags: std::array::from_fn(|i| 2000 + i as u32),
+        oldest: [0, 1, 2, 3, 4, 5, 6, 255],
+        waiting: [4, 0, 1, 2, 3, 4, 5, 255],
+        last: 250,
+        counter: 77,
+    }
+}
+
+#[test]
+fn the_empty_state() {
+    let desks = Desks::new();
+    assert_eq!(desks, Desks::default());
+    assert_eq!((desks.waiting, desks.last, desks.counter), ([0; 8], 7, 0));
+}
+
+#[test]
+fn the_round() {
+    let mut desks = Desks::new();
+    // desk d submits d + 1 jobs, at most four
+    for desk in 0..8 {
+        for job in 0..(desk + 1).min(4) {
+            assert!(desks.submit(desk, (10 * desk + job) as u32).is_ok());
+        }
+    }
+    // at first from desk 0, and then on from the desk after; in a desk the oldest first
+    for job in 0..4 {
+        for desk in job..8 {
+            let out = desks.hand_out().expect("a job waits");
+            assert_eq!((out.desk, out.tag), (desk, (10 * desk + job) as u32));
+        }
+    }
+    assert_eq!(desks.hand_out(), Err(refused(14, 0)));
+    // last served was 7; after 3 comes 5, though desk 0 submitted before it
+    assert_eq!(desks.submit(3, 1), Ok(27));
+    assert_eq!(desks.hand_out(), handed(3, 27, 1));
+    assert_eq!(desks.submit(0, 2), Ok(28));
+    assert_eq!(desks.submit(3, 3), Ok(29));
+    assert_eq!(desks.submit(5, 4), Ok(30));
+    assert_eq!(desks.hand_out(), handed(5, 30, 4));
+    assert_eq!(desks.hand_out(), handed(0, 28, 2));
+    assert_eq!(desks.hand_out(), handed(3, 29, 3));
+    // a desk alone is served again and again
+    assert_eq!(desks.submit(3, 5), Ok(31));
+    assert_eq!(desks.submit(3, 6), Ok(32));
+    assert_eq!(desks.hand_out(), handed(3, 31, 5));
+    assert_eq!(desks.hand_out(), handed(3, 32, 6));
+}
+
+#[test]
+fn four_wait() {
+    let mut desks = Desks::new();
+    for desk in 0..8 {
+        for _ in 0..4 {
+            assert!(desks.submit(desk, 9).is_ok());
+        }
+        assert_eq!(desks.submit(desk, 9), Err(refused(13, desk)));
+    }
+    assert_eq!(desks.waiting, [4; 8]);
+    // a refusal takes no number; a job handed out makes room for one of its desk
+    assert_eq!(desks.hand_out(), handed(0, 1, 9));
+    assert_eq!(desks.submit(1, 9), Err(refused(13, 1)));
+    assert_eq!(desks.submit(0, 9), Ok(33));
+    assert_eq!(desks.submit(0, 9), Err(refused(13, 0)));
+}
+
+#[test]
+fn no_such_desk() {
+    for mut desks in [Desks::new(), any_state()] {
+        for desk in [8, 9, 15, 16, 255, 256, 1 << 32, (1 << 32) + 1, u64::MAX] {
+            assert_eq!(desks.submit(desk, 1), Err(refused(12, desk)));
+        }
+    }
+}
+
+#[test]
+fn numbers_return_to_1() {
+    let mut desks = Desks::new();
+    desks.counter = LAST_NUMBER - 2;
+    for number in [LAST_NUMBER - 1, LAST_NUMBER, 1, 2] {
+        assert_eq!(desks.submit(6, number), Ok(number));
+    }
+    for number in [LAST_NUMBER - 1, LAST_NUMBER, 1, 2] {
+        assert_eq!(desks.hand_out(), handed(6, number, number));
+    }
+    desks.counter = LAST_NUMBER;
+    assert_eq!(desks.submit(6, 0), Ok(1));
+}
+
+#[test]
+fn refusals_leave_every_field() {
+    let mut desks = any_state();
+    for desk in [0, 5, 6, 7] {
+        assert_eq!(desks.submit(desk, 1), Err(refused(13, desk)));
+        assert_eq!(desks, any_state());
+    }
+    for desk in [8, u64::MAX] {
+        assert_eq!(desks.submit(desk, 1), Err(refused(12, desk)));
+        assert_eq!(desks, any_state());
+    }
+    let nothing_waits = Desks {
+        waiting: [0; 8],
+        ..any_state()
+    };
+    let mut desks = nothing_waits;
+    assert_eq!(desks.hand_out(), Err(refused(14, 0)));
+    assert_eq!(desks, nothing_waits);
+}
+
+#[test]
+fn every_value_is_a_state() {
+    let mut desks = any_state();
+    // desk 1, whose ring begins at its place 1, and desk 4 at its place 0, where three jobs wait
+    assert_eq!(desks.submit(1, 5), Ok(78));
+    assert_eq!((desks.numbers[5], desks.tags[5], desks.last), (78, 5, 250));
+    assert_eq!(desks.submit(4, 6), Ok(79));
+    assert_eq!((desks.numbers[19], desks.tags[19]), (79, 6));
+    // the desk after 250 is desk 3, as 250 is taken for 2; the count 255 for 4
+    let places = [
+        15, 16, 21, 26, 31, 0, 5, 10, // desks 3 to 7, then 0 to 2
+        12, 17, 22, 27, 28, 1, // desks 3 to 7 and 0
+        18, 23, 24, 29, 2, 19, 20, 25, 30, 3,
+    ];
+    for place in places {
+        let number = match place {
+            5 => 78,
+            19 => 79,
+            _ => 1000 + place,
+        };
+        let out = desks.hand_out().expect("a job waits");
+        assert_eq!((out.desk, out.number), (place as u64 / 4, number));
+        assert_eq!(desks.last as u64, out.desk);
+    }
+    assert_eq!(desks.hand_out(), Err(refused(14, 0)));
+    assert_eq!(desks.counter, 79);
+}
