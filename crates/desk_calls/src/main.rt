@@ -1,6 +1,9 @@
 // Runs a long fixed sequence of calls at the desks, from the empty state, and prints each call with its answer, a line
 // each. What is printed is held to a stored output, and that to the second implementation.
 ghost use Prim.Native.Nat.{_+_, _*_, _≤_, _<_};
+
+mod calls;
+
 use libc::STDOUT_FILENO;
 
 const CALLS: usize = 1000;
@@ -80,7 +83,7 @@ fn print_answer(kind: u64, answers: &[u64; 4000], at: usize)
 fn main() {
     let calls = sequence();
     let mut answers = [0u64; 4000];
-    desks::calls::run(&calls, &mut answers);
+    calls::run(&calls, &mut answers);
     let mut i = 0usize;
     while i < CALLS {
         let kind = calls[3 * i];

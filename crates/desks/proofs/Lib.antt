@@ -2,4 +2,3 @@ pub mod States
 pub mod Runs
 pub mod Main
 pub mod Queues
-pub mod Numbered

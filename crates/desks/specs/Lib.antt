@@ -3,5 +3,4 @@ pub mod Run
 pub mod Claim
 pub mod Seen
 pub mod Four
-pub mod Numbers
 pub mod Inner

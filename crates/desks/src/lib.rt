@@ -5,7 +5,6 @@ ghost use mathlib.Core.Path.{_≡_};
 ghost use Rattle.desks.specs.State.{empty, submitted, handedOut};
 ghost use Rattle.desks.specs.Seen.{seen, Left, toldNumber, toldJob};
 
-pub mod calls;
 pub mod numbers;
 mod rings;
 
@@ -83,7 +82,7 @@ pub fn none_waiting() -> Desks
     }
 }
 
-// A submission that leaves the state.
+// A refusal of a submission, which leaves the state.
 fn refuse(s: Desks, number: u64, desk: u64) -> Submitted
     ensures { λ r. ⌜ r .answer ≡ Submission.Refused number desk 0 ⌝ }
     ensures { λ r. ⌜ r .desks ≡ s ⌝ }

@@ -1,4 +1,4 @@
--- `desks::calls::run` meets its contract: after i calls the state is the model's, and so are the answers. Assumes nothing.
+-- `desk_calls::calls::run` meets its contract: after i calls the state is the model's, and so are the answers. Assumes nothing.
 use Prim.Native.Nat.{_+_, _-_, _*_, _≤_}
 use mathlib.Core.Path.{_≡_, refl, sym, ap, _∙_}
 use mathlib.Core.List.{_++_}
@@ -6,13 +6,13 @@ use native.Mathlib.Omega.{arith}
 use borrow.Author.Needs.{needs}
 use denote.Ref.{now}
 use lib.ListN.{length, drop}
 use Rattle.desks.specs.State.{empty}
 use Rattle.desks.specs.Run.{event, next, after}
 use Rattle.desks.specs.Seen.{seen}
-use Rattle.desks.specs.Numbers.{callIn, callsOf, fourOf}
-use Rattle.desks.proofs.Numbered.{toldBy, told-none, told-on, after-none, after-more}
-use Rattle.desks.proofs.calls.run.Statement.{statement}
-use Rattle.desks.proofs.calls.run.Tie as tie
+use Rattle.desk_calls.specs.Numbers.{callIn, callsOf, fourOf}
+use Rattle.desk_calls.proofs.Numbered.{toldBy, told-none, told-on, after-none, after-more}
+use Rattle.desk_calls.proofs.calls.run.Statement.{statement}
+use Rattle.desk_calls.proofs.calls.run.Tie as tie
 
 abbrev Inv-loop : tie.InvT-loop
 Inv-loop calls answers₀ count s₀ i₀ answers s i = record {

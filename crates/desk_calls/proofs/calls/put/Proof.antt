@@ -1,11 +1,11 @@
--- `desks::calls::put` meets its contract. Assumes nothing.
+-- `desk_calls::calls::put` meets its contract. Assumes nothing.
 use Prim.Native.Nat.{_+_}
 use native.Mathlib.Omega.{arith}
 use lib.ListN.{getD, set, length-set}
-use Rattle.desks.proofs.Numbered.{stores-eq}
+use Rattle.desk_calls.proofs.Numbered.{stores-eq}
 use borrow.Author.Needs.{needs}
-use Rattle.desks.proofs.calls.put.Statement.{statement}
-use Rattle.desks.proofs.calls.put.Tie as tie
+use Rattle.desk_calls.proofs.calls.put.Statement.{statement}
+use Rattle.desk_calls.proofs.calls.put.Tie as tie
 
 -- src/calls.rt:45:15
 array-read-out : tie.Need-array-read-out

@@ -3,12 +3,12 @@ ghost use mathlib.Core.Path.{_≡_};
 ghost use mathlib.Core.List.{_++_};
 ghost use Prim.Native.Nat.{_+_, _*_, _≤_, min};
 ghost use lib.ListN.{length, take, drop};
 ghost use Rattle.desks.specs.State.{empty};
 ghost use Rattle.desks.specs.Run.{event, next, log};
 ghost use Rattle.desks.specs.Seen.{seen};
-ghost use Rattle.desks.specs.Numbers.{callIn, callsOf, roomFor, fourOf, answersOf};
-use crate::Desks;
-use crate::numbers;
+ghost use Rattle.desk_calls.specs.Numbers.{callIn, callsOf, roomFor, fourOf, answersOf};
+use desks::Desks;
+use desks::numbers;
 
 // What a call comes to: its answer and the state afterwards.
 struct Called {
@@ -24,13 +24,13 @@ fn call(s: Desks, calls: &[u64], at: usize) -> Called
 {
     if calls[at] == 0 {
         let tag = calls[at + 2] % 4_294_967_296;
-        let submitted = crate::submit(s, calls[at + 1], tag as u32);
+        let submitted = desks::submit(s, calls[at + 1], tag as u32);
         let told = submitted.answer;
         let answer = numbers::of_submission(told);
         let desks = submitted.desks;
         Called { answer, desks }
     } else {
-        let handed = crate::hand_out(s);
+        let handed = desks::hand_out(s);
         let told = handed.answer;
         let answer = numbers::of_hand_out(told);
         let desks = handed.desks;
@@ -59,7 +59,7 @@ pub fn run(calls: &[u64], answers: &mut [u64])
     ensures { λ _. ⌜ now (answers .exit) ≡ answersOf (log empty (callsOf (roomFor (now (calls .entry)) (now (answers .entry))) (now (calls .entry)))) ++ drop (4 * roomFor (now (calls .entry)) (now (answers .entry))) (now (answers .entry)) ⌝ }
 {
     let count = smaller(calls.len() / 3, answers.len() / 4);
-    let mut s = crate::none_waiting();
+    let mut s = desks::none_waiting();
     let mut i = 0usize;
     while i < count {
         let called = call(s, calls, 3 * i);

@@ -1,14 +1,14 @@
--- `desks::calls::call` meets its contract. Assumes nothing.
+-- `desk_calls::calls::call` meets its contract. Assumes nothing.
 use mathlib.Core.Path.{sym, ap, _∙_}
 use denote.Ref.{now}
 use Rattle.desks.specs.Run.{event, next}
 use Rattle.desks.specs.Seen.{seen}
 use Rattle.desks.specs.Four.{fourOfNumber, fourOfJob}
-use Rattle.desks.specs.Numbers.{fourOf}
-use Rattle.desks.proofs.Numbered.{in-submit, in-hand-out}
+use Rattle.desk_calls.specs.Numbers.{fourOf}
+use Rattle.desk_calls.proofs.Numbered.{in-submit, in-hand-out}
 use borrow.Author.Needs.{needs}
-use Rattle.desks.proofs.calls.call.Statement.{statement}
-use Rattle.desks.proofs.calls.call.Tie as tie
+use Rattle.desk_calls.proofs.calls.call.Statement.{statement}
+use Rattle.desk_calls.proofs.calls.call.Tie as tie
 
 -- src/calls.rt:25:8
 mul-if1 : tie.Need-mul-if1
