@@ -10,123 +10,93 @@ Inv-loop calls answers i₀ t5 t6 t7 t8 i = i ≤ 1000
 abbrev μ-loop : tie.MeasureT-loop
 μ-loop calls answers i₀ t5 t6 t7 t8 i = 1000 - i
 
--- src/main.rt:83:17
 sequence-requires : tie.Need-sequence-requires Inv-loop μ-loop
 sequence-requires c κs = search needs
 
--- src/main.rt:85:23
 slice-aggregate-run : tie.Need-slice-aggregate-run Inv-loop μ-loop
 slice-aggregate-run c = search needs
 
--- src/main.rt:85:31
 slice-aggregate-run-2 : tie.Need-slice-aggregate-run-2 Inv-loop μ-loop
 slice-aggregate-run-2 c = search needs
 
--- src/main.rt:85:5
 run-requires : tie.Need-run-requires Inv-loop μ-loop
 run-requires c κs = search needs
 
--- src/main.rt:87:5
 loop-holds : tie.Need-loop-holds Inv-loop μ-loop
 loop-holds c = search needs
 
--- src/main.rt:88:26
 mul-kind : tie.Need-mul-kind Inv-loop μ-loop
 mul-kind c = search needs
 
--- src/main.rt:88:20
 mul-kind-2 : tie.Need-mul-kind-2 Inv-loop μ-loop
 mul-kind-2 c = search needs
 
--- src/main.rt:88:20
 array-read-kind : tie.Need-array-read-kind Inv-loop μ-loop
 array-read-kind c = search needs
 
--- src/main.rt:90:26
 slice-aggregate-print-number : tie.Need-slice-aggregate-print-number Inv-loop μ-loop
 slice-aggregate-print-number c = search needs
 
--- src/main.rt:90:49
 mul-print-number : tie.Need-mul-print-number Inv-loop μ-loop
 mul-print-number c = search needs
 
--- src/main.rt:90:49
 add-print-number : tie.Need-add-print-number Inv-loop μ-loop
 add-print-number c = search needs
 
--- src/main.rt:90:43
 mul-print-number-2 : tie.Need-mul-print-number-2 Inv-loop μ-loop
 mul-print-number-2 c = search needs
 
--- src/main.rt:90:43
 array-read-print-number : tie.Need-array-read-print-number Inv-loop μ-loop
 array-read-print-number c = search needs
 
--- src/main.rt:90:13
 print-number-requires : tie.Need-print-number-requires Inv-loop μ-loop
 print-number-requires c κs = search needs
 
--- src/main.rt:91:26
 slice-aggregate-print-number-2 : tie.Need-slice-aggregate-print-number-2 Inv-loop μ-loop
 slice-aggregate-print-number-2 c = search needs
 
--- src/main.rt:91:42
 mul-print-number-3 : tie.Need-mul-print-number-3 Inv-loop μ-loop
 mul-print-number-3 c = search needs
 
--- src/main.rt:91:42
 add-print-number-2 : tie.Need-add-print-number-2 Inv-loop μ-loop
 add-print-number-2 c = search needs
 
--- src/main.rt:91:36
 mul-print-number-4 : tie.Need-mul-print-number-4 Inv-loop μ-loop
 mul-print-number-4 c = search needs
 
--- src/main.rt:91:36
 array-read-print-number-2 : tie.Need-array-read-print-number-2 Inv-loop μ-loop
 array-read-print-number-2 c = search needs
 
--- src/main.rt:91:13
 print-number-requires-2 : tie.Need-print-number-requires-2 Inv-loop μ-loop
 print-number-requires-2 c κs = search needs
 
--- src/main.rt:92:42
 slice-aggregate-write-all : tie.Need-slice-aggregate-write-all Inv-loop μ-loop
 slice-aggregate-write-all c = search needs
 
--- src/main.rt:92:13
 write-all-requires : tie.Need-write-all-requires Inv-loop μ-loop
 write-all-requires c κs = search needs
 
--- src/main.rt:94:42
 slice-aggregate-write-all-2 : tie.Need-slice-aggregate-write-all-2 Inv-loop μ-loop
 slice-aggregate-write-all-2 c = search needs
 
--- src/main.rt:94:13
 write-all-requires-2 : tie.Need-write-all-requires-2 Inv-loop μ-loop
 write-all-requires-2 c κs = search needs
 
--- src/main.rt:96:38
 mul-print-answer : tie.Need-mul-print-answer Inv-loop μ-loop
 mul-print-answer c = search needs
 
--- src/main.rt:96:9
 print-answer-requires : tie.Need-print-answer-requires Inv-loop μ-loop
 print-answer-requires c κs = search needs
 
--- src/main.rt:97:9
 add-i : tie.Need-add-i Inv-loop μ-loop
 add-i c = search needs
 
--- src/main.rt:87:5
 loop-less : tie.Need-loop-less Inv-loop μ-loop
 loop-less c = search needs
 
--- src/main.rt:87:5
 loop-again : tie.Need-loop-again Inv-loop μ-loop
 loop-again c = search needs
 
--- src/main.rt:82:1
 returns : tie.Need-returns Inv-loop μ-loop
 returns c = search needs
 

@@ -10,87 +10,66 @@ Inv-loop calls₀ x₀ i₀ calls x i = x < 2147483648
 abbrev μ-loop : tie.MeasureT-loop
 μ-loop calls₀ x₀ i₀ calls x i = 1000 - i
 
--- src/main.rt:47:5
 loop-holds : tie.Need-loop-holds Inv-loop μ-loop
 loop-holds c = search needs
 
--- src/main.rt:48:9
 draw-requires : tie.Need-draw-requires Inv-loop μ-loop
 draw-requires c κs = search needs
 
--- src/main.rt:49:24
 kind-of-requires : tie.Need-kind-of-requires Inv-loop μ-loop
 kind-of-requires c κs = search needs
 
--- src/main.rt:49:15
 mul-calls : tie.Need-mul-calls Inv-loop μ-loop
 mul-calls c = search needs
 
--- src/main.rt:49:9
 mul-calls-2 : tie.Need-mul-calls-2 Inv-loop μ-loop
 mul-calls-2 c = search needs
 
--- src/main.rt:49:9
 array-write-calls : tie.Need-array-write-calls Inv-loop μ-loop
 array-write-calls c = search needs
 
--- src/main.rt:50:28
 desk-of-requires : tie.Need-desk-of-requires Inv-loop μ-loop
 desk-of-requires c κs = search needs
 
--- src/main.rt:50:15
 mul-calls-3 : tie.Need-mul-calls-3 Inv-loop μ-loop
 mul-calls-3 c = search needs
 
--- src/main.rt:50:15
 add-calls : tie.Need-add-calls Inv-loop μ-loop
 add-calls c = search needs
 
--- src/main.rt:50:9
 mul-calls-4 : tie.Need-mul-calls-4 Inv-loop μ-loop
 mul-calls-4 c = search needs
 
--- src/main.rt:50:9
 array-write-calls-2 : tie.Need-array-write-calls-2 Inv-loop μ-loop
 array-write-calls-2 c = search needs
 
--- src/main.rt:51:9
 draw-requires-2 : tie.Need-draw-requires-2 Inv-loop μ-loop
 draw-requires-2 c κs = search needs
 
--- src/main.rt:52:28
 mul-calls-5 : tie.Need-mul-calls-5 Inv-loop μ-loop
 mul-calls-5 c = search needs
 
--- src/main.rt:52:15
 mul-calls-6 : tie.Need-mul-calls-6 Inv-loop μ-loop
 mul-calls-6 c = search needs
 
--- src/main.rt:52:15
 add-calls-2 : tie.Need-add-calls-2 Inv-loop μ-loop
 add-calls-2 c = search needs
 
--- src/main.rt:52:9
 mul-calls-7 : tie.Need-mul-calls-7 Inv-loop μ-loop
 mul-calls-7 c = search needs
 
--- src/main.rt:52:9
 array-write-calls-3 : tie.Need-array-write-calls-3 Inv-loop μ-loop
 array-write-calls-3 c = search needs
 
--- src/main.rt:53:9
 add-i : tie.Need-add-i Inv-loop μ-loop
 add-i c = search needs
 
--- src/main.rt:47:5
 loop-less : tie.Need-loop-less Inv-loop μ-loop
 loop-less c = search needs
 
--- src/main.rt:47:5
 loop-again : tie.Need-loop-again Inv-loop μ-loop
 loop-again c = search needs
 
--- src/main.rt:43:1
 returns : tie.Need-returns Inv-loop μ-loop
 returns c = search needs
 

@@ -9,19 +9,15 @@ use borrow.Author.Needs.{needs}
 use Rattle.desks.proofs.hand_out.Statement.{statement}
 use Rattle.desks.proofs.hand_out.Tie as tie
 
--- src/lib.rt:125:9
 whose-turn-requires : tie.Need-whose-turn-requires
 whose-turn-requires c κs = search needs
 
--- src/lib.rt:126:20
 enum-known-turn : tie.Need-enum-known-turn
 enum-known-turn c = search needs
 
--- src/lib.rt:128:21
 enum-told : tie.Need-enum-told
 enum-told c = search needs
 
--- src/lib.rt:127:9
 returns : tie.Need-returns
 unfolding handOf
 returns c =
@@ -32,13 +28,11 @@ returns c =
       (ap (λ o. handOf (seen s) o .state) (sym e), subst (λ o. Left (handOf (seen s) o .answer) s s) (sym e) refl),
     )
 
--- src/lib.rt:136:5
 serve-requires : tie.Need-serve-requires
 serve-requires c κs =
     let w = c .before .before .before .whose-turn in
     subst (IsDesk (c .before .before .before .before .args .s)) (c .before .turn .given .1) (w .ensures .1)
 
--- src/lib.rt:120:1
 returns-2 : tie.Need-returns-2
 unfolding handOf
 returns-2 c =

@@ -4,7 +4,6 @@ use Rattle.desks.proofs.Queues.{seen-empty}
 use Rattle.desks.proofs.none_waiting.Statement.{statement}
 use Rattle.desks.proofs.none_waiting.Tie as tie
 
--- src/lib.rt:71:1
 returns : tie.Need-returns
 returns c = seen-empty _ refl refl refl
 

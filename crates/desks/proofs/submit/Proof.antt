@@ -21,7 +21,6 @@ refusal : (s t : Desks) (desk tag : ℕ) (c : Cause) (a : Submission) → submit
 refusal s t desk tag c a e h k =
     (h ∙ ap (λ r. toldNumber (r .answer)) (sym e), (ap seen k ∙ ap (λ r. r .state) (sym e), subst (λ r. Left (r .answer) s t) (sym e) k))
 
--- src/lib.rt:90:9
 refuse-requires : tie.Need-refuse-requires
 refuse-requires c κs = search needs
 
@@ -30,14 +29,12 @@ returns c =
     let s = c .before .before .args in
     refusal (s .t1) _ (s .desk) (s .tag) Cause.noSuchDesk _ (no-desk (s .desk) (s .tag) (seen (s .t1)) (c .before .if1 .taken)) (c .refuse .ensures .0) (c .refuse .ensures .1)
 
--- src/lib.rt:100:26
 element-copy-out-if2 : tie.Need-element-copy-out-if2
 element-copy-out-if2 c = search needs
 
 refuse-requires-2 : tie.Need-refuse-requires-2
 refuse-requires-2 c κs = search needs
 
--- src/lib.rt:101:9
 returns-2 : tie.Need-returns-2
 returns-2 c =
     let s = c .before .before .before .before .args in
@@ -45,15 +42,12 @@ returns-2 c =
     (full (s .desk) (s .tag) (seen (s .t1)) (c .before .before .before .if1 .left) (omega (arith, seen-length (s .t1) (s .desk), c .before .if2 .taken)))
     (c .refuse2 .ensures .0) (c .refuse2 .ensures .1)
 
--- src/lib.rt:110:9
 next-number-requires : tie.Need-next-number-requires
 next-number-requires c κs = search needs
 
--- src/lib.rt:111:9
 put-requires : tie.Need-put-requires
 put-requires c κs = search needs
 
--- src/lib.rt:85:1
 returns-3 : tie.Need-returns-3
 unfolding seen
 returns-3 c =

@@ -10,59 +10,45 @@ use borrow.Author.Needs.{needs}
 use Rattle.desk_calls.proofs.calls.call.Statement.{statement}
 use Rattle.desk_calls.proofs.calls.call.Tie as tie
 
--- src/calls.rt:25:8
 mul-if1 : tie.Need-mul-if1
 mul-if1 c = search needs
 
--- src/calls.rt:25:8
 shared-slice-read-if1 : tie.Need-shared-slice-read-if1
 shared-slice-read-if1 c = search needs
 
--- src/calls.rt:26:25
 add-tag : tie.Need-add-tag
 add-tag c = search needs
 
--- src/calls.rt:26:19
 mul-tag : tie.Need-mul-tag
 mul-tag c = search needs
 
--- src/calls.rt:26:19
 shared-slice-read-tag : tie.Need-shared-slice-read-tag
 shared-slice-read-tag c = search needs
 
--- src/calls.rt:27:48
 add-submit : tie.Need-add-submit
 add-submit c = search needs
 
--- src/calls.rt:27:42
 mul-submit : tie.Need-mul-submit
 mul-submit c = search needs
 
--- src/calls.rt:27:42
 shared-slice-read-submit : tie.Need-shared-slice-read-submit
 shared-slice-read-submit c = search needs
 
--- src/calls.rt:27:57
 cast-submit : tie.Need-cast-submit
 cast-submit c = search needs
 
--- src/calls.rt:27:13
 submit-requires : tie.Need-submit-requires
 submit-requires c κs = search needs
 
--- src/calls.rt:29:13
 of-submission-requires : tie.Need-of-submission-requires
 of-submission-requires c κs = search needs
 
--- src/calls.rt:33:13
 hand-out-requires : tie.Need-hand-out-requires
 hand-out-requires c κs = search needs
 
--- src/calls.rt:35:13
 of-hand-out-requires : tie.Need-of-hand-out-requires
 of-hand-out-requires c κs = search needs
 
--- src/calls.rt:20:1
 returns : tie.Need-returns
 returns c =
     let m = c .before .before .submit in
@@ -73,7 +59,6 @@ returns c =
       m .ensures .1 .0 ∙ ap (λ k. next k (seen (s .s))) (sym q),
     )
 
--- src/calls.rt:20:1
 returns-2 : tie.Need-returns-2
 returns-2 c =
     let m = c .before .before .hand-out in

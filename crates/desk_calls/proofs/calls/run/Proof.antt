@@ -25,45 +25,35 @@ Inv-loop calls answers₀ count s₀ i₀ answers s i = record {
 abbrev μ-loop : tie.MeasureT-loop
 μ-loop calls answers₀ count s₀ i₀ answers s i = count - i
 
--- src/calls.rt:61:9
 smaller-requires : tie.Need-smaller-requires Inv-loop μ-loop
 smaller-requires c κs = search needs
 
--- src/calls.rt:62:9
 none-waiting-requires : tie.Need-none-waiting-requires Inv-loop μ-loop
 none-waiting-requires c κs = search needs
 
--- src/calls.rt:64:5
 loop-holds : tie.Need-loop-holds Inv-loop μ-loop
 loop-holds c = record { state = c .none-waiting .ensures ∙ sym (after-none _); told = told-none _ _; most = omega arith; size = refl }
 
--- src/calls.rt:65:37
 mul-call : tie.Need-mul-call Inv-loop μ-loop
 mul-call c = search needs
 
--- src/calls.rt:65:13
 call-requires : tie.Need-call-requires Inv-loop μ-loop
 call-requires c κs = search needs
 
--- src/calls.rt:67:22
 mul-put : tie.Need-mul-put Inv-loop μ-loop
 mul-put c = search needs
 
--- src/calls.rt:67:9
 put-requires : tie.Need-put-requires Inv-loop μ-loop
 put-requires c κs =
     let b = c .before .before .before .before in
     omega (arith, c .before .before .before .loop-test .taken, b .before .before .smaller .ensures, b .loop .inv .size)
 
--- src/calls.rt:69:9
 add-i : tie.Need-add-i Inv-loop μ-loop
 add-i c = search needs
 
--- src/calls.rt:64:5
 loop-less : tie.Need-loop-less Inv-loop μ-loop
 loop-less c = search needs
 
--- src/calls.rt:64:5
 loop-again : tie.Need-loop-again Inv-loop μ-loop
 loop-again c =
     let b = c .before .before .before .before .before .before .before .before in
@@ -79,11 +69,9 @@ loop-again c =
       size = c .before .before .before .put .kept .0 ∙ b .loop .inv .size;
     }
 
--- src/calls.rt:58:1
 same-length : tie.Need-same-length Inv-loop μ-loop
 same-length c = c .before .loop .inv .size
 
--- src/calls.rt:58:1
 returns : tie.Need-returns Inv-loop μ-loop
 returns c =
     let b = c .before in

@@ -5,27 +5,21 @@ use borrow.Author.Needs.{needs}
 use Rattle.desks.proofs.numbers.of_hand_out.Statement.{statement}
 use Rattle.desks.proofs.numbers.of_hand_out.Tie as tie
 
--- src/numbers.rt:26:24
 enum-known-a : tie.Need-enum-known-a
 enum-known-a c = search needs
 
--- src/numbers.rt:26:57
 cast-t9 : tie.Need-cast-t9
 cast-t9 c = search needs
 
--- src/numbers.rt:26:72
 cast-t10 : tie.Need-cast-t10
 cast-t10 c = search needs
 
--- src/numbers.rt:28:13
 enum-known-a-2 : tie.Need-enum-known-a-2
 enum-known-a-2 c = search needs
 
--- src/numbers.rt:22:1
 returns : tie.Need-returns
 returns c = sym (ap fourOfJob (c .before .a .given .1))
 
--- src/numbers.rt:22:1
 returns-2 : tie.Need-returns-2
 returns-2 c = sym (ap fourOfJob (c .before .a2 .given .1))
 

@@ -5,23 +5,18 @@ use borrow.Author.Needs.{needs}
 use Rattle.desks.proofs.numbers.of_submission.Statement.{statement}
 use Rattle.desks.proofs.numbers.of_submission.Tie as tie
 
--- src/numbers.rt:12:32
 enum-known-a : tie.Need-enum-known-a
 enum-known-a c = search needs
 
--- src/numbers.rt:12:48
 cast-t7 : tie.Need-cast-t7
 cast-t7 c = search needs
 
--- src/numbers.rt:14:13
 enum-known-a-2 : tie.Need-enum-known-a-2
 enum-known-a-2 c = search needs
 
--- src/numbers.rt:8:1
 returns : tie.Need-returns
 returns c = sym (ap fourOfNumber (c .before .a .given .1))
 
--- src/numbers.rt:8:1
 returns-2 : tie.Need-returns-2
 returns-2 c = sym (ap fourOfNumber (c .before .a2 .given .1))
 

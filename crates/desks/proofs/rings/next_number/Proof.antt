@@ -5,16 +5,13 @@ use borrow.Author.Needs.{needs}
 use Rattle.desks.proofs.rings.next_number.Statement.{statement}
 use Rattle.desks.proofs.rings.next_number.Tie as tie
 
--- src/rings.rt:22:33
 add-result : tie.Need-add-result
 add-result c = search needs
 
--- src/rings.rt:19:1
 returns : tie.Need-returns
 unfolding nextNumber
 returns c = simp (lt-ltb _ _ (c .if1 .taken))
 
--- src/rings.rt:19:1
 returns-2 : tie.Need-returns-2
 unfolding nextNumber
 returns-2 c = simp (le-ltb _ _ (c .if1 .left))

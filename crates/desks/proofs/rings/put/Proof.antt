@@ -5,47 +5,36 @@ use native.Mathlib.Omega.{arith}
 use Rattle.desks.proofs.rings.put.Statement.{statement}
 use Rattle.desks.proofs.rings.put.Tie as tie
 
--- src/rings.rt:72:19
 element-copy-out-waiting : tie.Need-element-copy-out-waiting
 element-copy-out-waiting c = search needs
 
--- src/rings.rt:73:20
 element-copy-out-place : tie.Need-element-copy-out-place
 element-copy-out-place c = search needs
 
--- src/rings.rt:73:36
 wide-requires : tie.Need-wide-requires
 wide-requires c κs = search needs
 
--- src/rings.rt:73:9
 place-requires : tie.Need-place-requires
 place-requires c κs = search needs
 
--- src/rings.rt:75:5
 mul-t : tie.Need-mul-t
 mul-t c = search needs
 
--- src/rings.rt:75:5
 element-write-t : tie.Need-element-write-t
 element-write-t c = search needs
 
--- src/rings.rt:76:5
 mul-t-2 : tie.Need-mul-t-2
 mul-t-2 c = search needs
 
--- src/rings.rt:76:5
 element-write-t-2 : tie.Need-element-write-t-2
 element-write-t-2 c = search needs
 
--- src/rings.rt:77:20
 add-t : tie.Need-add-t
 add-t c = search needs
 
--- src/rings.rt:77:5
 element-write-t-3 : tie.Need-element-write-t-3
 element-write-t-3 c = search needs
 
--- src/rings.rt:68:1
 returns : tie.Need-returns
 returns c =
     let s = c .before .before .before .before in

@@ -4,59 +4,45 @@ use borrow.Author.Needs.{needs}
 use Rattle.desks.proofs.rings.serve.Statement.{statement}
 use Rattle.desks.proofs.rings.serve.Tie as tie
 
--- src/rings.rt:88:18
 element-copy-out-oldest : tie.Need-element-copy-out-oldest
 element-copy-out-oldest c = search needs
 
--- src/rings.rt:89:9
 place-requires : tie.Need-place-requires
 place-requires c κs = search needs
 
--- src/rings.rt:90:18
 mul-number : tie.Need-mul-number
 mul-number c = search needs
 
--- src/rings.rt:90:18
 element-copy-out-number : tie.Need-element-copy-out-number
 element-copy-out-number c = search needs
 
--- src/rings.rt:91:15
 mul-tag : tie.Need-mul-tag
 mul-tag c = search needs
 
--- src/rings.rt:91:15
 element-copy-out-tag : tie.Need-element-copy-out-tag
 element-copy-out-tag c = search needs
 
--- src/rings.rt:92:27
 element-copy-out-counted : tie.Need-element-copy-out-counted
 element-copy-out-counted c = search needs
 
--- src/rings.rt:92:9
 counted-requires : tie.Need-counted-requires
 counted-requires c κs = search needs
 
--- src/rings.rt:94:19
 add-t : tie.Need-add-t
 add-t c = search needs
 
--- src/rings.rt:94:5
 element-write-t : tie.Need-element-write-t
 element-write-t c = search needs
 
--- src/rings.rt:95:20
 sub-t : tie.Need-sub-t
 sub-t c = search needs
 
--- src/rings.rt:95:5
 element-write-t-2 : tie.Need-element-write-t-2
 element-write-t-2 c = search needs
 
--- src/rings.rt:96:14
 cast-t : tie.Need-cast-t
 cast-t c = search needs
 
--- src/rings.rt:83:1
 returns : tie.Need-returns
 returns c =
     let s = c .before .before .before .before .before .before in (

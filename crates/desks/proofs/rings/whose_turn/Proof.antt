@@ -16,27 +16,21 @@ Inv-loop s start k₀ k = record { none-yet : first k (turns s) ≡ none; most :
 abbrev μ-loop : tie.MeasureT-loop
 μ-loop s start k₀ k = 8 - k
 
--- src/rings.rt:55:17
 wide-requires : tie.Need-wide-requires Inv-loop μ-loop
 wide-requires c κs = search needs
 
--- src/rings.rt:55:17
 add-start : tie.Need-add-start Inv-loop μ-loop
 add-start c = search needs
 
--- src/rings.rt:57:5
 loop-holds : tie.Need-loop-holds Inv-loop μ-loop
 loop-holds c = record { none-yet = nobody-yet _; most = omega arith }
 
--- src/rings.rt:58:18
 add-d : tie.Need-add-d Inv-loop μ-loop
 add-d c = search needs
 
--- src/rings.rt:59:16
 element-copy-out-if1 : tie.Need-element-copy-out-if1 Inv-loop μ-loop
 element-copy-out-if1 c = search needs
 
--- src/rings.rt:60:13
 returns : tie.Need-returns Inv-loop μ-loop
 unfolding inRound
 returns c =
@@ -45,15 +39,12 @@ returns c =
     let e = ap (λ x. (x + 1 + b .loop .k) % 8) (b .before .wide .ensures) in
     (found s (b .loop .k) _ e (c .before .before .loop-test .taken) (b .loop .inv .none-yet) (c .if1 .taken), (omega arith, c .if1 .taken))
 
--- src/rings.rt:62:9
 add-k : tie.Need-add-k Inv-loop μ-loop
 add-k c = search needs
 
--- src/rings.rt:57:5
 loop-less : tie.Need-loop-less Inv-loop μ-loop
 loop-less c = search needs
 
--- src/rings.rt:57:5
 loop-again : tie.Need-loop-again Inv-loop μ-loop
 unfolding inRound
 loop-again c =
@@ -62,7 +53,6 @@ loop-again c =
     let e = ap (λ x. (x + 1 + b .loop .k) % 8) (b .before .wide .ensures) in
     record { none-yet = passed s (b .loop .k) _ e (b .loop .inv .none-yet) (omega (arith, c .if1 .left)); most = omega (arith, c .before .before .loop-test .taken) }
 
--- src/rings.rt:51:1
 returns-2 : tie.Need-returns-2 Inv-loop μ-loop
 returns-2 c =
     let k : c .before .loop .k ≡ 8 = omega (arith, c .loop-test .left, c .before .loop .inv .most) in

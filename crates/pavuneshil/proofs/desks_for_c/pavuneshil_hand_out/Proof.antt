@@ -9,19 +9,15 @@ use borrow.Author.Needs.{needs}
 use Rattle.pavuneshil.proofs.desks_for_c.pavuneshil_hand_out.Statement.{statement}
 use Rattle.pavuneshil.proofs.desks_for_c.pavuneshil_hand_out.Tie as tie
 
--- src/desks_for_c.rt:118:9
 hand-out-requires : tie.Need-hand-out-requires
 hand-out-requires c κs = search needs
 
--- src/desks_for_c.rt:119:5
 leave-requires : tie.Need-leave-requires
 leave-requires c κs = search needs
 
--- src/desks_for_c.rt:121:15
 of-hand-out-requires : tie.Need-of-hand-out-requires
 of-hand-out-requires c κs = search needs
 
--- src/desks_for_c.rt:92:1
 returns : tie.Need-returns
 returns c =
     let m = c .before .before .before .before .before .before .before .before .hand-out in

@@ -5,15 +5,12 @@ use borrow.Author.Needs.{needs}
 use Rattle.pavuneshil.proofs.desks_for_c.pavuneshil_none_waiting.Statement.{statement}
 use Rattle.pavuneshil.proofs.desks_for_c.pavuneshil_none_waiting.Tie as tie
 
--- src/desks_for_c.rt:46:9
 none-waiting-requires : tie.Need-none-waiting-requires
 none-waiting-requires c κs = search needs
 
--- src/desks_for_c.rt:45:5
 leave-requires : tie.Need-leave-requires
 leave-requires c κs = search needs
 
--- src/desks_for_c.rt:34:1
 returns : tie.Need-returns
 returns c = ap seen (c .leave .ensures) ∙ c .before .before .before .before .before .before .before .none-waiting .ensures
 

@@ -9,19 +9,15 @@ use borrow.Author.Needs.{needs}
 use Rattle.pavuneshil.proofs.desks_for_c.pavuneshil_submit.Statement.{statement}
 use Rattle.pavuneshil.proofs.desks_for_c.pavuneshil_submit.Tie as tie
 
--- src/desks_for_c.rt:85:9
 submit-requires : tie.Need-submit-requires
 submit-requires c κs = search needs
 
--- src/desks_for_c.rt:86:5
 leave-requires : tie.Need-leave-requires
 leave-requires c κs = search needs
 
--- src/desks_for_c.rt:88:15
 of-submission-requires : tie.Need-of-submission-requires
 of-submission-requires c κs = search needs
 
--- src/desks_for_c.rt:57:1
 returns : tie.Need-returns
 returns c =
     let m = c .before .before .before .before .before .before .before .before .submit in
