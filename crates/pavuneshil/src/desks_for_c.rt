@@ -6,6 +6,31 @@ ghost use Rattle.desks.specs.Four.{fourOfNumber, fourOfJob};
 use desks::Desks;
 use desks::numbers;
 
+// The state in the parts that are lent.
+fn lent(
+    numbers: &[u32; 32],
+    tags: &[u32; 32],
+    oldest: &[u8; 8],
+    waiting: &[u8; 8],
+    last: u8,
+    counter: u32,
+) -> Desks
+    ensures { λ r. ⌜ r ≡ record { numbers = now (numbers .entry); tags = now (tags .entry); oldest = now (oldest .entry); waiting = now (waiting .entry); last = last; counter = counter } ⌝ }
+{
+    let n = *numbers;
+    let t = *tags;
+    let o = *oldest;
+    let w = *waiting;
+    Desks {
+        numbers: n,
+        tags: t,
+        oldest: o,
+        waiting: w,
+        last,
+        counter,
+    }
+}
+
 // Leaves a state in the parts that are lent.
 fn leave(
     s: Desks,
@@ -70,18 +95,7 @@ pub extern "C" fn pavuneshil_submit(
     ensures { λ _. ⌜ seen (record { numbers = now (numbers .exit); tags = now (tags .exit); oldest = now (oldest .exit); waiting = now (waiting .exit); last = now (last .exit); counter = now (counter .exit) }) ≡ submitted desk tag (seen (record { numbers = now (numbers .entry); tags = now (tags .entry); oldest = now (oldest .entry); waiting = now (waiting .entry); last = now (last .entry); counter = now (counter .entry) })) .state ⌝ }
     ensures { λ _. ⌜ Left (submitted desk tag (seen (record { numbers = now (numbers .entry); tags = now (tags .entry); oldest = now (oldest .entry); waiting = now (waiting .entry); last = now (last .entry); counter = now (counter .entry) })) .answer) (record { numbers = now (numbers .entry); tags = now (tags .entry); oldest = now (oldest .entry); waiting = now (waiting .entry); last = now (last .entry); counter = now (counter .entry) }) (record { numbers = now (numbers .exit); tags = now (tags .exit); oldest = now (oldest .exit); waiting = now (waiting .exit); last = now (last .exit); counter = now (counter .exit) }) ⌝ }
 {
-    let n = *numbers;
-    let t = *tags;
-    let o = *oldest;
-    let w = *waiting;
-    let s = Desks {
-        numbers: n,
-        tags: t,
-        oldest: o,
-        waiting: w,
-        last: *last,
-        counter: *counter,
-    };
+    let s = lent(numbers, tags, oldest, waiting, *last, *counter);
     let r = desks::submit(s, desk, tag);
     leave(r.desks, numbers, tags, oldest, waiting, last, counter);
     let a = r.answer;
@@ -103,18 +117,7 @@ pub extern "C" fn pavuneshil_hand_out(
     ensures { λ _. ⌜ seen (record { numbers = now (numbers .exit); tags = now (tags .exit); oldest = now (oldest .exit); waiting = now (waiting .exit); last = now (last .exit); counter = now (counter .exit) }) ≡ handedOut (seen (record { numbers = now (numbers .entry); tags = now (tags .entry); oldest = now (oldest .entry); waiting = now (waiting .entry); last = now (last .entry); counter = now (counter .entry) })) .state ⌝ }
     ensures { λ _. ⌜ Left (handedOut (seen (record { numbers = now (numbers .entry); tags = now (tags .entry); oldest = now (oldest .entry); waiting = now (waiting .entry); last = now (last .entry); counter = now (counter .entry) })) .answer) (record { numbers = now (numbers .entry); tags = now (tags .entry); oldest = now (oldest .entry); waiting = now (waiting .entry); last = now (last .entry); counter = now (counter .entry) }) (record { numbers = now (numbers .exit); tags = now (tags .exit); oldest = now (oldest .exit); waiting = now (waiting .exit); last = now (last .exit); counter = now (counter .exit) }) ⌝ }
 {
-    let n = *numbers;
-    let t = *tags;
-    let o = *oldest;
-    let w = *waiting;
-    let s = Desks {
-        numbers: n,
-        tags: t,
-        oldest: o,
-        waiting: w,
-        last: *last,
-        counter: *counter,
-    };
+    let s = lent(numbers, tags, oldest, waiting, *last, *counter);
     let r = desks::hand_out(s);
     leave(r.desks, numbers, tags, oldest, waiting, last, counter);
     let a = r.answer;

@@ -1,13 +1,15 @@
--- `pavuneshil::pavuneshil_submit` meets its contract: what `desks` promises of a submission, in the parts that are lent. Assumes nothing.
-use mathlib.Core.Path.{sym, ap, _∙_, subst}
-use denote.Ref.{now}
-use Rattle.desks.specs.declared.Desks.{Desks}
+-- `pavuneshil::desks_for_c::pavuneshil_submit` meets its contract: what `desks` promises of a submission, in the parts that are lent. Assumes nothing.
+use mathlib.Core.Path.{ap, _∙_}
 use Rattle.desks.specs.State.{submitted}
-use Rattle.desks.specs.Seen.{seen, Left}
+use Rattle.desks.specs.Seen.{toldNumber}
 use Rattle.desks.specs.Four.{fourOfNumber}
+use Rattle.pavuneshil.proofs.Parts.{in-parts}
 use borrow.Author.Needs.{needs}
 use Rattle.pavuneshil.proofs.desks_for_c.pavuneshil_submit.Statement.{statement}
 use Rattle.pavuneshil.proofs.desks_for_c.pavuneshil_submit.Tie as tie
+
+lent-requires : tie.Need-lent-requires
+lent-requires c κs = search needs
 
 submit-requires : tie.Need-submit-requires
 submit-requires c κs = search needs
@@ -20,19 +22,13 @@ of-submission-requires c κs = search needs
 
 returns : tie.Need-returns
 returns c =
-    let m = c .before .before .before .before .before .before .before .before .submit in
-    let l = c .before .leave .ensures in
-    let a = c .before .before .before .before .before .before .before .before .before .before .before .before .before .before .before .args in
-    let s : Desks = record {
-      numbers = now (a .numbers);
-      tags = now (a .tags);
-      oldest = now (a .oldest);
-      waiting = now (a .waiting);
-      last = now (a .last);
-      counter = now (a .counter);
-    } in
-    (c .of-submission .ensures ∙ ap fourOfNumber (m .ensures .0), (ap seen l ∙ m .ensures .1 .0, subst (Left (submitted (a .desk) (a .tag) (seen s) .answer) s) (sym l) (m .ensures .1 .1)))
+    let b = c .before .before .before .before .before .before .before .before in
+    let m = b .submit in
+    let a = b .before .before .before .before .before .before .before .before .args in
+    in-parts (submitted (a .desk) (a .tag)) (λ o. fourOfNumber (toldNumber o)) _ _ _ _ _ (b .before .lent .ensures) (c .before .leave .ensures)
+    (c .of-submission .ensures ∙ ap fourOfNumber (m .ensures .0)) (m .ensures .1 .0) (m .ensures .1 .1)
 
 pub pavuneshil-submit-spec : {M : Type 1} → statement M
 pavuneshil-submit-spec =
-    tie.close (tie.spec submit-requires leave-requires of-submission-requires returns)
+    tie.close
+    (tie.spec lent-requires submit-requires leave-requires of-submission-requires returns)
