@@ -1,7 +1,7 @@
 -- Laws of a run in numbers.
 use Prim.Native.Nat.{ℕ, suc, _+_, _*_, _%_, _≤_}
 use mathlib.Core.Path.{_≡_, refl, sym, ap, ap₂, _∙_}
-use mathlib.Core.List.{List, [], _∷_, _++_, append-assoc, append-nil}
+use mathlib.Core.List.{List, [], _∷_, _++_, append-nil}
 use native.Mathlib.Numerals.{add-one}
 use native.Mathlib.Omega.{arith}
 use borrow.Author.Tests.{eq-eqb, ne-eqb}
@@ -11,9 +11,9 @@ use Rattle.model.specs.Outcome.{good, refused}
 use Rattle.model.specs.Listed.{listed}
 use Rattle.model.proofs.Listed.{listed-length}
 use Rattle.desks.specs.State.{State, empty}
-use Rattle.desks.specs.Run.{Call, submit, handOut, Event, submission, hand, event, next, log, after}
+use Rattle.desks.specs.Run.{Call, submit, handOut, Event, submission, hand, event, next, log, after, all}
 use Rattle.desk_calls.specs.Numbers.{callIn, callsOf, fourOf, answersOf}
-use Rattle.desks.proofs.Runs.{log-append, after-append}
+use Rattle.desks.proofs.Runs.{log-append, after-append, all-append}
 
 -- ---- the answers of a log
 four-numbers : (e : Event) → _≡_ {A = ℕ} (length (fourOf e)) 4
@@ -23,15 +23,10 @@ four-numbers (hand (good h)) = refl
 four-numbers (hand (refused c place second)) = refl
 
 answers-length : (s : State) (calls : List Call) → length (answersOf (log s calls)) ≡ 4 * length calls
-unfolding answersOf log
+unfolding all log
 answers-length s [] = refl
 answers-length s (c ∷ calls) =
     length-append (fourOf (event c s)) (answersOf (log (next c s) calls)) ∙ omega (arith, four-numbers (event c s), answers-length (next c s) calls)
-
-answers-append : (xs ys : List Event) → answersOf (xs ++ ys) ≡ answersOf xs ++ answersOf ys
-unfolding answersOf
-answers-append [] ys = refl
-answers-append (x ∷ xs) ys = ap (λ (l : List ℕ). fourOf x ++ l) (answers-append xs ys) ∙ sym (append-assoc (fourOf x) (answersOf xs) (answersOf ys))
 
 -- ---- a call by its kind
 pub in-submit : (l : List ℕ) (at : ℕ) → getD l at 0 ≡ 0 → callIn l at ≡ submit (getD l (at + 1) 0) (getD l (at + 2) 0 % 4294967296)
@@ -58,16 +53,16 @@ unfolding listed after
 after-more calls i = ap (λ n. after empty (callsOf n calls)) (add-one i) ∙ after-append empty (callsOf i calls) (callIn calls (3 * i) ∷ [])
 
 told-more : (calls : List ℕ) (i : ℕ) → toldBy calls (i + 1) ≡ toldBy calls i ++ fourOf (event (callIn calls (3 * i)) (after empty (callsOf i calls)))
-unfolding listed log answersOf
+unfolding listed log all
 told-more calls i =
     ap (toldBy calls) (add-one i)
     ∙ ap answersOf (log-append empty (callsOf i calls) (callIn calls (3 * i) ∷ []))
-    ∙ answers-append (log empty (callsOf i calls)) (event (callIn calls (3 * i)) (after empty (callsOf i calls)) ∷ [])
+    ∙ all-append fourOf (log empty (callsOf i calls)) (event (callIn calls (3 * i)) (after empty (callsOf i calls)) ∷ [])
     ∙ ap (λ (l : List ℕ). toldBy calls i ++ l) (append-nil _)
 
 -- at first, and with four numbers more in their place
 pub told-none : (calls answers : List ℕ) → answers ≡ toldBy calls 0 ++ drop (4 * 0) answers
-unfolding listed log answersOf
+unfolding listed log all
 told-none calls answers = refl
 
 pub told-on : (calls first answers four : List ℕ) (i : ℕ) → answers ≡ toldBy calls i ++ drop (4 * i) first

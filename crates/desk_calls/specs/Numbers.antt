@@ -1,11 +1,11 @@
 -- A run in numbers: each call three, each answer four.
 use Prim.Native.Nat.{ℕ, _+_, _*_, _/_, _%_, min}
 use mathlib.Core.Bool.{cond}
-use mathlib.Core.List.{List, [], _∷_, _++_}
+use mathlib.Core.List.{List}
 use lib.Dec.{eqb}
 use lib.ListN.{length, getD}
 use Rattle.model.specs.Listed.{listed}
-use Rattle.desks.specs.Run.{Call, submit, handOut, Event, submission, hand}
+use Rattle.desks.specs.Run.{Call, submit, handOut, Event, submission, hand, all}
 use Rattle.desks.specs.Seen.{toldNumber, toldJob}
 use Rattle.desks.specs.Four.{fourOfNumber, fourOfJob}
 
@@ -22,9 +22,8 @@ fourOf (submission desk tag answer) = fourOfNumber (toldNumber answer)
 fourOf (hand answer) = fourOfJob (toldJob answer)
 
 -- the answers of a log
-unfoldable pub answersOf : List Event → List ℕ
-answersOf [] = []
-answersOf (e ∷ events) = fourOf e ++ answersOf events
+abbrev pub answersOf : List Event → List ℕ
+answersOf = all fourOf
 
 -- the answers and the calls that there is room for
 abbrev pub roomFor : List ℕ → List ℕ → ℕ

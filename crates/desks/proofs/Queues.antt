@@ -4,7 +4,7 @@ use mathlib.Core.Path.{_≡_, refl, sym, ap, ap₂, _∙_, fun-ext}
 use mathlib.Core.Logic.{_≢_}
 use mathlib.Core.Bool.{cond}
 use mathlib.Core.List.{List, [], _∷_, _++_}
-use mathlib.Core.Option.{Option, none, some}
+use mathlib.Core.Option.{none, some}
 use native.Mathlib.Omega.{arith}
 use lib.ListN.{length, getD, set, replicate}
 use lib.Seq.{getD-set-same, getD-set-other}
@@ -12,8 +12,8 @@ use Rattle.model.specs.Search.{first}
 use Rattle.model.proofs.Searches.{first-zero, first-on, first-at}
 use Rattle.model.specs.Listed.{listed}
 use Rattle.model.proofs.Listed.{listed-length, listed-cong, listed-front}
-use Rattle.desks.specs.State.{Job, State, empty, replaced, joined, Work, work, inRound, firstWork, handOf}
-use Rattle.desks.specs.Seen.{jobAt, seen, toldJob}
+use Rattle.desks.specs.State.{Job, State, empty, replaced, joined, work, inRound, workAt, firstWork, handOf}
+use Rattle.desks.specs.Seen.{placeOf, jobAt, seen, toldJob}
 use Rattle.desks.specs.declared.Desks.{Desks}
 use Rattle.desks.specs.declared.HandOut.the-variants as told
 use Rattle.desks.proofs.States.{by-desk, work-on}
@@ -60,9 +60,6 @@ stored s d at number tag = record {
   last = s .last;
   counter = number;
 }
-
-abbrev placeOf : Desks → ℕ → ℕ → ℕ
-placeOf s d i = 4 * d + (getD (s .oldest) d 0 + i) % 4
 
 -- the jobs at other places stay
 stored-other : (s : Desks) (d at number tag e i : ℕ) → placeOf s e i ≢ at → jobAt (stored s d at number tag) e i ≡ jobAt s e i
@@ -132,23 +129,20 @@ pub seen-work : (s : Desks) (d : ℕ) → 0 < getD (s .waiting) d 0
 seen-work s d h = ap (work d) (seen-some s d h) ∙ work-on d _ _
 
 -- ---- the round, by the counts
-abbrev pub turns : Desks → ℕ → Option Work
-turns s k = work (inRound (s .last) k) (seen s .queue (inRound (s .last) k))
+pub nobody-yet : (s : Desks) → first 0 (workAt (seen s)) ≡ none
+nobody-yet s = first-zero (workAt (seen s))
 
-pub nobody-yet : (s : Desks) → first 0 (turns s) ≡ none
-nobody-yet s = first-zero (turns s)
-
-pub nobody : (s : Desks) → first 8 (turns s) ≡ none → firstWork (seen s) ≡ none
+pub nobody : (s : Desks) → first 8 (workAt (seen s)) ≡ none → firstWork (seen s) ≡ none
 unfolding firstWork seen
 nobody s e = e
 
-pub passed : (s : Desks) (k d : ℕ) → d ≡ inRound (s .last) k → first k (turns s) ≡ none → getD (s .waiting) d 0 ≡ 0 → first (k + 1) (turns s) ≡ none
-unfolding work
-passed s k d e n z = first-on (turns s) k n (ap (λ x. work x (seen s .queue x)) (sym e) ∙ ap (work d) (seen-none s d z))
+pub passed : (s : Desks) (k d : ℕ) → d ≡ inRound (s .last) k → first k (workAt (seen s)) ≡ none → getD (s .waiting) d 0 ≡ 0 → first (k + 1) (workAt (seen s)) ≡ none
+unfolding work seen
+passed s k d e n z = first-on (workAt (seen s)) k n (ap (λ x. work x (seen s .queue x)) (sym e) ∙ ap (work d) (seen-none s d z))
 
-pub found : (s : Desks) (k d : ℕ) → d ≡ inRound (s .last) k → k < 8 → first k (turns s) ≡ none → 0 < getD (s .waiting) d 0 → firstWork (seen s) ≡ work d (seen s .queue d)
+pub found : (s : Desks) (k d : ℕ) → d ≡ inRound (s .last) k → k < 8 → first k (workAt (seen s)) ≡ none → 0 < getD (s .waiting) d 0 → firstWork (seen s) ≡ work d (seen s .queue d)
 unfolding firstWork seen
-found s k d e h n w = first-at (turns s) k 8 _ n (ap (λ x. work x (seen s .queue x)) (sym e) ∙ seen-work s d w) h ∙ sym (seen-work s d w)
+found s k d e h n w = first-at (workAt (seen s)) k 8 _ n (ap (λ x. work x (seen s .queue x)) (sym e) ∙ seen-work s d w) h ∙ sym (seen-work s d w)
 
 pub taken-leaves : (s : Desks) (d count : ℕ) → count ≡ min (getD (s .waiting) d 0) 4 → d < 8 → 0 < getD (s .waiting) d 0 → length (s .oldest) ≡ 8 → length (s .waiting) ≡ 8
     → seen (taken s d count) ≡ handOf (seen s) (work d (seen s .queue d)) .state

@@ -24,10 +24,10 @@ unfolding log after
 log-append s [] ys = refl
 log-append s (x ∷ xs) ys = ap (λ (l : List Event). event x s ∷ l) (log-append (next x s) xs ys)
 
-pub all-append : (jobs : Event → List Job) (xs ys : List Event) → all jobs (xs ++ ys) ≡ all jobs xs ++ all jobs ys
+pub all-append : {A : Type 0} (f : Event → List A) (xs ys : List Event) → all f (xs ++ ys) ≡ all f xs ++ all f ys
 unfolding all
-all-append jobs [] ys = refl
-all-append jobs (x ∷ xs) ys = ap (λ (l : List Job). jobs x ++ l) (all-append jobs xs ys) ∙ sym (append-assoc (jobs x) (all jobs xs) (all jobs ys))
+all-append f [] ys = refl
+all-append {A} f (x ∷ xs) ys = ap (λ (l : List A). f x ++ l) (all-append f xs ys) ∙ sym (append-assoc (f x) (all f xs) (all f ys))
 
 -- ---- at most four wait
 four-in : (c : Call) (s : State) (d : ℕ) → length (s .queue d) ≤ 4 → length (next c s .queue d) ≤ 4

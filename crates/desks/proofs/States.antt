@@ -11,7 +11,7 @@ use lib.ListN.{length}
 use borrow.Author.Tests.{lt-ltb, le-ltb, ltb-true, eqb-true, eqb-false}
 use Rattle.model.specs.Outcome.{refused, Cause}
 use Rattle.model.proofs.Searches.{first-some, first-least}
-use Rattle.desks.specs.State.{Job, State, Result, Handed, Work, accept, submitted, work, inRound, firstWork, handOf, handedOut}
+use Rattle.desks.specs.State.{Job, State, Result, Handed, Work, accept, submitted, work, inRound, workAt, firstWork, handOf, handedOut}
 
 -- ---- a submission: whatever holds of a refusal, and of an acceptance that is due, holds of it
 pub by-submit : (desk tag : ℕ) (s : State) (P : Result ℕ → Type 0)
@@ -68,7 +68,7 @@ work-on d job jobs = refl
 pub first-work : (s : State) (w : Work) → firstWork s ≡ some w → s .queue (w .desk) ≡ w .oldest ∷ w .others
 unfolding firstWork
 first-work s w e =
-    let f = first-some (λ k. work (inRound (s .last) k) (s .queue (inRound (s .last) k))) 8 w e in
+    let f = first-some (workAt s) 8 w e in
     let h = work-some _ _ w (f .2) in
     ap (s .queue) (h .0) ∙ h .1
 
@@ -77,7 +77,7 @@ pub turn : (s : State) (k : ℕ) (job : Job) (younger : List Job) → k < 8 → 
     → (w : Work) × (firstWork s ≡ some w) × (j : ℕ) × (j ≤ k) × (w .desk ≡ inRound (s .last) j)
 unfolding firstWork
 turn s k job younger h e =
-    let f = first-least (λ k. work (inRound (s .last) k) (s .queue (inRound (s .last) k))) 8 k _ h (ap (work (inRound (s .last) k)) e ∙ work-on _ job younger) in
+    let f = first-least (workAt s) 8 k _ h (ap (work (inRound (s .last) k)) e ∙ work-on _ job younger) in
     (f .2, f .4, f .0, f .1, work-some _ _ (f .2) (f .3) .0)
 
 -- ---- the round

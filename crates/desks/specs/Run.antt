@@ -49,10 +49,10 @@ othersIn d (submission desk tag answer) = []
 othersIn d (hand (good h)) = cond (eqb d (h .desk)) [] (h .job ∷ [])
 othersIn d (hand (refused c place second)) = []
 
--- all jobs of a log, in its order
-unfoldable pub all : (Event → List Job) → List Event → List Job
-all jobs [] = []
-all jobs (e ∷ events) = jobs e ++ all jobs events
+-- what each event of a log gives, in its order
+unfoldable pub all : {A : Type 0} → (Event → List A) → List Event → List A
+all f [] = []
+all f (e ∷ events) = f e ++ all f events
 
 abbrev pub accepted : ℕ → List Event → List Job
 accepted d = all (acceptedIn d)

@@ -12,20 +12,20 @@ use Rattle.desks.specs.declared.Submission.the-variants as submission
 use Rattle.desks.specs.declared.HandOut.{HandOut}
 use Rattle.desks.specs.declared.HandOut.the-variants as handOut
 
--- the job of desk d before which i others wait
+-- the job of desk d before which i others wait, and its place: each desk has a ring of four
+abbrev pub placeOf : Desks → ℕ → ℕ → ℕ
+placeOf s d i = 4 * d + (getD (s .oldest) d 0 + i) % 4
+
 unfoldable pub jobAt : Desks → ℕ → ℕ → Job
-jobAt s d i = record {
-  number = getD (s .numbers) (4 * d + (getD (s .oldest) d 0 + i) % 4) 0;
-  tag = getD (s .tags) (4 * d + (getD (s .oldest) d 0 + i) % 4) 0;
-}
+jobAt s d i = record { number = getD (s .numbers) (placeOf s d i) 0; tag = getD (s .tags) (placeOf s d i) 0 }
 
 unfoldable pub seen : Desks → State
 seen s = record { queue = λ d. listed (min (getD (s .waiting) d 0) 4) (jobAt s d); last = s .last; counter = s .counter }
 
 -- "All leave the state": what a refusal hands back is the value that it was given
-abbrev pub Left : {A : Type 0} → Outcome A → Desks → Desks → Type 0
-Left (good a) s t = Unit {0}
-Left (refused c place second) s t = t ≡ s
+abbrev pub Untouched : {A : Type 0} → Outcome A → Desks → Desks → Type 0
+Untouched (good a) s t = Unit {0}
+Untouched (refused c place second) s t = t ≡ s
 
 -- the answers, a refusal with "this paper's number and values"
 abbrev pub toldNumber : Outcome ℕ → Submission

@@ -73,9 +73,13 @@ work desk (job ∷ jobs) = some (record { desk = desk; oldest = job; others = jo
 unfoldable pub inRound : ℕ → ℕ → ℕ
 inRound last k = (last + 1 + k) % 8
 
+-- its work
+abbrev pub workAt : State → ℕ → Option Work
+workAt s k = work (inRound (s .last) k) (s .queue (inRound (s .last) k))
+
 -- "the first desk with work"
 unfoldable pub firstWork : State → Option Work
-firstWork s = first 8 (λ k. work (inRound (s .last) k) (s .queue (inRound (s .last) k)))
+firstWork s = first 8 (workAt s)
 
 -- "A hand-out takes the oldest job"; "14: hand-out with nothing waiting. .. place .. 0 for 14"
 unfoldable pub handOf : State → Option Work → Result Handed

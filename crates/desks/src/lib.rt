@@ -3,7 +3,7 @@
 // comes back; every value of its type is a state (`seen`), so that no operation has a precondition.
 ghost use mathlib.Core.Path.{_≡_};
 ghost use Rattle.desks.specs.State.{empty, submitted, handedOut};
-ghost use Rattle.desks.specs.Seen.{seen, Left, toldNumber, toldJob};
+ghost use Rattle.desks.specs.Seen.{seen, Untouched, toldNumber, toldJob};
 
 pub mod numbers;
 mod rings;
@@ -99,7 +99,7 @@ fn refuse(s: Desks, number: u64, desk: u64) -> Submitted
 pub fn submit(s: Desks, desk: u64, tag: u32) -> Submitted
     ensures { λ r. ⌜ r .answer ≡ toldNumber (submitted desk tag (seen s) .answer) ⌝ }
     ensures { λ r. ⌜ seen (r .desks) ≡ submitted desk tag (seen s) .state ⌝ }
-    ensures { λ r. ⌜ Left (submitted desk tag (seen s) .answer) s (r .desks) ⌝ }
+    ensures { λ r. ⌜ Untouched (submitted desk tag (seen s) .answer) s (r .desks) ⌝ }
 {
     if Desks::DESKS <= desk {
         return refuse(s, 12, desk);
@@ -120,7 +120,7 @@ pub fn submit(s: Desks, desk: u64, tag: u32) -> Submitted
 pub fn hand_out(s: Desks) -> HandedOut
     ensures { λ r. ⌜ r .answer ≡ toldJob (handedOut (seen s) .answer) ⌝ }
     ensures { λ r. ⌜ seen (r .desks) ≡ handedOut (seen s) .state ⌝ }
-    ensures { λ r. ⌜ Left (handedOut (seen s) .answer) s (r .desks) ⌝ }
+    ensures { λ r. ⌜ Untouched (handedOut (seen s) .answer) s (r .desks) ⌝ }
 {
     let turn = rings::whose_turn(s);
     let Turn::Desk(d) = turn else {

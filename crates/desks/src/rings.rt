@@ -41,7 +41,7 @@ fn counted(waiting: u8) -> u8
 
 // The place of the job of desk d before which i others wait, where its oldest stands at `oldest`.
 fn place(oldest: u8, d: usize, i: usize) -> usize
-    requires { ⌜ (d < 8) × (i < 5) ⌝ }
+    requires { ⌜ (d < 8) × (i < 4) ⌝ }
     ensures { λ r. ⌜ r ≡ 4 * d + (oldest + i) % 4 ⌝ }
 {
     4 * d + (wide(oldest) + i) % 4

@@ -2,7 +2,7 @@
 use Prim.Native.Nat.{ℕ}
 use mathlib.Core.Option.{Option, none, some}
 
--- the causes of "Turned down, and why", in the order of their numbers
+-- the causes of "Turned down, and why", and from 12 on of the second paper, in the order of their numbers
 pub data Cause : Type 0 where
   malformed outOfRange missing missedRate otherTunnels missedRow overProtected overTotal noEvenPlan noRoom noSuchDesk fourWait nothingWaits : Cause
 

@@ -1,7 +1,7 @@
 // The hand-out for eight desks, for C and Rust. The state is lent in six parts, the fields of `desks::Desks`.
 ghost use mathlib.Core.Path.{_≡_};
 ghost use Rattle.desks.specs.State.{empty, submitted, handedOut};
-ghost use Rattle.desks.specs.Seen.{seen, Left, toldNumber, toldJob};
+ghost use Rattle.desks.specs.Seen.{seen, Untouched, toldNumber, toldJob};
 ghost use Rattle.desks.specs.Four.{fourOfNumber, fourOfJob};
 use desks::Desks;
 use desks::numbers;
@@ -93,7 +93,7 @@ pub extern "C" fn pavuneshil_submit(
 )
     ensures { λ _. ⌜ now (answer .exit) ≡ fourOfNumber (toldNumber (submitted desk tag (seen (record { numbers = now (numbers .entry); tags = now (tags .entry); oldest = now (oldest .entry); waiting = now (waiting .entry); last = now (last .entry); counter = now (counter .entry) })) .answer)) ⌝ }
     ensures { λ _. ⌜ seen (record { numbers = now (numbers .exit); tags = now (tags .exit); oldest = now (oldest .exit); waiting = now (waiting .exit); last = now (last .exit); counter = now (counter .exit) }) ≡ submitted desk tag (seen (record { numbers = now (numbers .entry); tags = now (tags .entry); oldest = now (oldest .entry); waiting = now (waiting .entry); last = now (last .entry); counter = now (counter .entry) })) .state ⌝ }
-    ensures { λ _. ⌜ Left (submitted desk tag (seen (record { numbers = now (numbers .entry); tags = now (tags .entry); oldest = now (oldest .entry); waiting = now (waiting .entry); last = now (last .entry); counter = now (counter .entry) })) .answer) (record { numbers = now (numbers .entry); tags = now (tags .entry); oldest = now (oldest .entry); waiting = now (waiting .entry); last = now (last .entry); counter = now (counter .entry) }) (record { numbers = now (numbers .exit); tags = now (tags .exit); oldest = now (oldest .exit); waiting = now (waiting .exit); last = now (last .exit); counter = now (counter .exit) }) ⌝ }
+    ensures { λ _. ⌜ Untouched (submitted desk tag (seen (record { numbers = now (numbers .entry); tags = now (tags .entry); oldest = now (oldest .entry); waiting = now (waiting .entry); last = now (last .entry); counter = now (counter .entry) })) .answer) (record { numbers = now (numbers .entry); tags = now (tags .entry); oldest = now (oldest .entry); waiting = now (waiting .entry); last = now (last .entry); counter = now (counter .entry) }) (record { numbers = now (numbers .exit); tags = now (tags .exit); oldest = now (oldest .exit); waiting = now (waiting .exit); last = now (last .exit); counter = now (counter .exit) }) ⌝ }
 {
     let s = lent(numbers, tags, oldest, waiting, *last, *counter);
     let r = desks::submit(s, desk, tag);
@@ -115,7 +115,7 @@ pub extern "C" fn pavuneshil_hand_out(
 )
     ensures { λ _. ⌜ now (answer .exit) ≡ fourOfJob (toldJob (handedOut (seen (record { numbers = now (numbers .entry); tags = now (tags .entry); oldest = now (oldest .entry); waiting = now (waiting .entry); last = now (last .entry); counter = now (counter .entry) })) .answer)) ⌝ }
     ensures { λ _. ⌜ seen (record { numbers = now (numbers .exit); tags = now (tags .exit); oldest = now (oldest .exit); waiting = now (waiting .exit); last = now (last .exit); counter = now (counter .exit) }) ≡ handedOut (seen (record { numbers = now (numbers .entry); tags = now (tags .entry); oldest = now (oldest .entry); waiting = now (waiting .entry); last = now (last .entry); counter = now (counter .entry) })) .state ⌝ }
-    ensures { λ _. ⌜ Left (handedOut (seen (record { numbers = now (numbers .entry); tags = now (tags .entry); oldest = now (oldest .entry); waiting = now (waiting .entry); last = now (last .entry); counter = now (counter .entry) })) .answer) (record { numbers = now (numbers .entry); tags = now (tags .entry); oldest = now (oldest .entry); waiting = now (waiting .entry); last = now (last .entry); counter = now (counter .entry) }) (record { numbers = now (numbers .exit); tags = now (tags .exit); oldest = now (oldest .exit); waiting = now (waiting .exit); last = now (last .exit); counter = now (counter .exit) }) ⌝ }
+    ensures { λ _. ⌜ Untouched (handedOut (seen (record { numbers = now (numbers .entry); tags = now (tags .entry); oldest = now (oldest .entry); waiting = now (waiting .entry); last = now (last .entry); counter = now (counter .entry) })) .answer) (record { numbers = now (numbers .entry); tags = now (tags .entry); oldest = now (oldest .entry); waiting = now (waiting .entry); last = now (last .entry); counter = now (counter .entry) }) (record { numbers = now (numbers .exit); tags = now (tags .exit); oldest = now (oldest .exit); waiting = now (waiting .exit); last = now (last .exit); counter = now (counter .exit) }) ⌝ }
 {
     let s = lent(numbers, tags, oldest, waiting, *last, *counter);
     let r = desks::hand_out(s);

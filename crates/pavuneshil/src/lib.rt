@@ -1,4 +1,5 @@
-// The seven operations for C and Rust: `rt staticlib pavuneshil` makes libpavuneshil.a of them. Each has no precondition.
+// The seven operations for C and Rust, and in a module of its own the desks: `rt staticlib pavuneshil` makes libpavuneshil.a
+// of them. Each has no precondition.
 // A slice passes as a pointer and a length, `answer` as a pointer to four numbers: the kind, then the values, as `four`
 // gives them. What is lent is left as the operations of `product` leave it.
 ghost use mathlib.Core.Path.{_≡_};

@@ -2,7 +2,7 @@
 use mathlib.Core.Path.{_≡_, refl, sym, ap, _∙_, subst}
 use mathlib.Core.Option.{none}
 use Rattle.desks.specs.State.{work, firstWork, handOf}
-use Rattle.desks.specs.Seen.{seen, Left, toldJob}
+use Rattle.desks.specs.Seen.{seen, Untouched, toldJob}
 use Rattle.desks.specs.Inner.{turnWork, IsDesk}
 use Rattle.desks.proofs.Queues.{seen-work}
 use borrow.Author.Needs.{needs}
@@ -25,7 +25,7 @@ returns c =
     let s = c .before .before .before .args .s in
     let e : firstWork (seen s) ≡ none = w .ensures .0 ∙ ap (λ r. turnWork r (seen s)) (c .enum-told .given .1) in (
       ap (λ o. toldJob (handOf (seen s) o .answer)) (sym e),
-      (ap (λ o. handOf (seen s) o .state) (sym e), subst (λ o. Left (handOf (seen s) o .answer) s s) (sym e) refl),
+      (ap (λ o. handOf (seen s) o .state) (sym e), subst (λ o. Untouched (handOf (seen s) o .answer) s s) (sym e) refl),
     )
 
 serve-requires : tie.Need-serve-requires
@@ -44,7 +44,7 @@ returns-2 c =
       c .serve .ensures .0 ∙ ap (λ o. toldJob (handOf (seen s) o .answer)) (sym e),
       (
         c .serve .ensures .1 ∙ ap (λ o. handOf (seen s) o .state) (sym e),
-        subst (λ o. Left (handOf (seen s) o .answer) s (c .serve .result .desks)) (sym (e ∙ seen-work s d (h .1))) tt,
+        subst (λ o. Untouched (handOf (seen s) o .answer) s (c .serve .result .desks)) (sym (e ∙ seen-work s d (h .1))) tt,
       ),
     )
 

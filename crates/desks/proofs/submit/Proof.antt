@@ -2,7 +2,7 @@
 use Prim.Native.Nat.{ℕ}
 use mathlib.Core.Path.{_≡_, sym, ap, _∙_, subst}
 use native.Mathlib.Omega.{arith}
-use Rattle.desks.specs.Seen.{seen, Left, toldNumber}
+use Rattle.desks.specs.Seen.{seen, Untouched, toldNumber}
 use Rattle.model.specs.Outcome.{Cause, refused, number}
 use Rattle.desks.specs.State.{submitted, joined}
 use Rattle.desks.specs.declared.Desks.{Desks}
@@ -17,9 +17,9 @@ use Rattle.desks.proofs.submit.Tie as tie
 -- a refusal that is due, and the value that it was given
 refusal : (s t : Desks) (desk tag : ℕ) (c : Cause) (a : Submission) → submitted desk tag (seen s) ≡ record { answer = refused c desk 0; state = seen s }
     → a ≡ Refused (number c) desk 0 → t ≡ s
-    → (a ≡ toldNumber (submitted desk tag (seen s) .answer)) × ((seen t ≡ submitted desk tag (seen s) .state) × Left (submitted desk tag (seen s) .answer) s t)
+    → (a ≡ toldNumber (submitted desk tag (seen s) .answer)) × ((seen t ≡ submitted desk tag (seen s) .state) × Untouched (submitted desk tag (seen s) .answer) s t)
 refusal s t desk tag c a e h k =
-    (h ∙ ap (λ r. toldNumber (r .answer)) (sym e), (ap seen k ∙ ap (λ r. r .state) (sym e), subst (λ r. Left (r .answer) s t) (sym e) k))
+    (h ∙ ap (λ r. toldNumber (r .answer)) (sym e), (ap seen k ∙ ap (λ r. r .state) (sym e), subst (λ r. Untouched (r .answer) s t) (sym e) k))
 
 refuse-requires : tie.Need-refuse-requires
 refuse-requires c κs = search needs
@@ -57,7 +57,7 @@ returns-3 c =
       ap Accepted n ∙ ap (λ r. toldNumber (r .answer)) (sym e),
       (
         c .put .ensures ∙ ap (λ m. joined (s .desk) (record { number = m; tag = s .tag }) (seen (s .t1))) n ∙ ap (λ r. r .state) (sym e),
-        subst (λ r. Left (r .answer) (s .t1) (c .put .result)) (sym e) tt,
+        subst (λ r. Untouched (r .answer) (s .t1) (c .put .result)) (sym e) tt,
       ),
     )
 

@@ -5,13 +5,14 @@ use mathlib.Core.Option.{none}
 use native.Mathlib.Omega.{arith}
 use borrow.Author.Needs.{needs}
 use Rattle.model.specs.Search.{first}
-use Rattle.desks.specs.State.{inRound}
-use Rattle.desks.proofs.Queues.{turns, nobody-yet, passed, found, nobody}
+use Rattle.desks.specs.State.{inRound, workAt}
+use Rattle.desks.specs.Seen.{seen}
+use Rattle.desks.proofs.Queues.{nobody-yet, passed, found, nobody}
 use Rattle.desks.proofs.rings.whose_turn.Statement.{statement}
 use Rattle.desks.proofs.rings.whose_turn.Tie as tie
 
 abbrev Inv-loop : tie.InvT-loop
-Inv-loop s start k₀ k = record { none-yet : first k (turns s) ≡ none; most : k ≤ 8 }
+Inv-loop s start k₀ k = record { none-yet : first k (workAt (seen s)) ≡ none; most : k ≤ 8 }
 
 abbrev μ-loop : tie.MeasureT-loop
 μ-loop s start k₀ k = 8 - k
@@ -56,7 +57,7 @@ loop-again c =
 returns-2 : tie.Need-returns-2 Inv-loop μ-loop
 returns-2 c =
     let k : c .before .loop .k ≡ 8 = omega (arith, c .loop-test .left, c .before .loop .inv .most) in
-    (nobody _ (ap (λ n. first n (turns (c .before .before .before .args .t1))) (sym k) ∙ c .before .loop .inv .none-yet), tt)
+    (nobody _ (ap (λ n. first n (workAt (seen (c .before .before .before .args .t1)))) (sym k) ∙ c .before .loop .inv .none-yet), tt)
 
 pub whose-turn-spec : {M : Type 1} → statement M
 whose-turn-spec =
