@@ -111,7 +111,8 @@ void pavuneshil_step_bound(uint64_t scratch, uint64_t overrun, uint64_t answer[4
  * A fair hand-out: desks 0 to 7 submit jobs, each with a tag of the caller's choice, and a hand-out takes one of them,
  * the desks in turn. Over any calls from the empty state:
  *   - a desk's jobs are handed out in the order of submission, none twice, and none that was not accepted;
- *   - between a job becoming its desk's oldest and its being handed out, at most seven jobs of other desks are;
+ *   - if nobody submits after it, exactly as many jobs are handed out before a job as its submission was answered;
+ *   - whoever submits, at most 8 p + 7 are, where p jobs of its desk are older: at most seven once it is the oldest;
  *   - every job has been handed out once 32 hand-outs have been called after it was accepted.
  *
  * The state is six parts, and every value of them is a state. A desk has a ring of four places: the job of desk d
@@ -138,8 +139,8 @@ void pavuneshil_none_waiting(uint32_t numbers[32], uint32_t tags[32], uint8_t ol
                              uint8_t *last, uint32_t *counter);
 
 /*
- * A desk submits a job. { PAVUNESHIL_DONE, number, 0, 0 }: it waits behind the desk's other jobs, and has the next job
- * number, which returns to 1 after 4,294,967,295.
+ * A desk submits a job. { PAVUNESHIL_DONE, number, before, 0 }: it waits behind the desk's other jobs, and has the next
+ * job number, which returns to 1 after 4,294,967,295; so many jobs are handed out before it if nobody submits again.
  * Refused: 12 where desk is not 0 to 7; then 13.
  */
 void pavuneshil_submit(uint32_t numbers[32], uint32_t tags[32], uint8_t oldest[8], uint8_t waiting[8], uint8_t *last,

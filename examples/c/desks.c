@@ -1,5 +1,6 @@
 /*
- * A fair hand-out: desk 2 submits three jobs before desk 5 submits its first, and still the two are served in turn.
+ * A fair hand-out: desk 2 submits three jobs before desk 5 submits its first, and still the two are served in turn. A job
+ * is told how many go before it if nobody submits again: so it is for the last, while two of desk 5 come before number 3.
  * Then one call of each kind that is refused. Prints a line for each call.
  *
  *     rt staticlib pavuneshil
@@ -27,7 +28,7 @@ static void submit(uint64_t desk, uint32_t tag)
     printf("desk %" PRIu64 " submits tag %" PRIu32 ": ", desk, tag);
     pavuneshil_desks_submit(&desks, desk, tag, answer);
     if (!refused(answer))
-        printf("number %" PRIu64 "\n", answer[1]);
+        printf("number %" PRIu64 ", %" PRIu64 " before it\n", answer[1], answer[2]);
 }
 
 static void hand_out(void)

@@ -6,8 +6,8 @@ use lib.Dec.{eqb}
 use lib.ListN.{length, getD}
 use Rattle.model.specs.Listed.{listed}
 use Rattle.desks.specs.Run.{Call, submit, handOut, Event, submission, hand, all}
-use Rattle.desks.specs.Seen.{toldNumber, toldJob}
-use Rattle.desks.specs.Four.{fourOfNumber, fourOfJob}
+use Rattle.desks.specs.Seen.{toldAcceptance, toldJob}
+use Rattle.desks.specs.Four.{fourOfAcceptance, fourOfJob}
 
 -- the call whose numbers begin at a place. Kind 0: a desk submits a tag, of which 32 bits are read; any other kind: a hand-out
 unfoldable pub callIn : List ℕ → ℕ → Call
@@ -18,7 +18,7 @@ abbrev pub callsOf : ℕ → List ℕ → List Call
 callsOf n l = listed n (λ i. callIn l (3 * i))
 
 abbrev pub fourOf : Event → List ℕ
-fourOf (submission desk tag answer) = fourOfNumber (toldNumber answer)
+fourOf (submission desk tag answer) = fourOfAcceptance (toldAcceptance answer)
 fourOf (hand answer) = fourOfJob (toldJob answer)
 
 -- the answers of a log

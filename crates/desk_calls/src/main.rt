@@ -72,6 +72,7 @@ fn print_answer(kind: u64, answers: &[u64; 4000], at: usize)
         print_number(b" second=", answers[at + 3]);
     } else if kind == 0 {
         print_number(b" number=", answers[at + 1]);
+        print_number(b" before=", answers[at + 2]);
     } else {
         print_number(b" desk=", answers[at + 1]);
         print_number(b" number=", answers[at + 2]);

@@ -1,4 +1,6 @@
+pub mod Rounds
 pub mod States
 pub mod Runs
+pub mod Exact
 pub mod Main
 pub mod Queues

@@ -1,15 +1,19 @@
 -- What is claimed of jobs, over every run.
-use Prim.Native.Nat.{ℕ, _≤_, _<_}
-use mathlib.Core.Path.{_≡_, refl, sym, ap, _∙_}
+use Prim.Native.Nat.{ℕ, _+_, _*_, _≤_, _<_}
+use mathlib.Core.Path.{_≡_, refl, sym, ap, _∙_, subst}
 use mathlib.Core.List.{List, [], _∷_, _++_, append-assoc}
 use native.Mathlib.Omega.{arith}
-use lib.ListN.{length, take, drop, take-append-drop}
-use lib.Seq.{take-append-seam, take-append-le}
-use Rattle.desks.specs.State.{Job, State, empty}
-use Rattle.desks.specs.Run.{Call, log, after, handedIn, accepted, handed, others, handOuts}
-use Rattle.desks.specs.Claim.{Claim}
-use Rattle.desks.proofs.States.{round-all}
-use Rattle.desks.proofs.Runs.{log-append, all-append, four-wait, conserved, others-most, waits}
+use lib.ListN.{length, length-append, take, drop, take-append-drop}
+use lib.Seq.{drop-append-seam, drop-append-le, take-append-seam, take-append-le}
+use Rattle.model.specs.Outcome.{good}
+use Rattle.model.proofs.Outcomes.{good-refused, good-same}
+use Rattle.desks.specs.State.{Job, State, Acceptance, empty, joined, nextJob, submitted}
+use Rattle.desks.specs.Run.{Call, log, after, handedIn, accepted, handed, handOuts}
+use Rattle.desks.specs.Claim.{Exactly, AtMost, Claim}
+use Rattle.desks.proofs.States.{by-submit}
+use Rattle.desks.proofs.Rounds.{place-below}
+use Rattle.desks.proofs.Runs.{log-append, all-append, four-wait, conserved, out-most, waits}
+use Rattle.desks.proofs.Exact.{exactly-joined}
 
 -- nothing waits at first
 nothing-yet : (d : ℕ) → empty .queue d ≡ []
@@ -22,14 +26,29 @@ four calls d = four-wait calls empty d (omega (arith, ap length (nothing-yet d))
 order : (calls : List Call) (d : ℕ) → accepted d (log empty calls) ≡ handed d (log empty calls) ++ after empty calls .queue d
 order calls d = ap (λ (l : List Job). l ++ accepted d (log empty calls)) (sym (nothing-yet d)) ∙ conserved calls empty d
 
-seven : (s : State) (calls : List Call) (d : ℕ) (job : Job) (younger : List Job) → d < 8 → s .queue d ≡ job ∷ younger → handed d (log s calls) ≡ []
-    → (after s calls .queue d ≡ job ∷ (younger ++ accepted d (log s calls))) × (length (others d (log s calls)) ≤ 7)
-seven s calls d job younger h e n =
-    let k = round-all (s .last) d h in
-    let w = waits calls s d 0 (k .0) (k .1) (k .2) (omega (arith, ap length e)) (omega (arith, ap length n)) in (
-      ap (λ (l : List Job). l ++ after s calls .queue d) (sym n) ∙ sym (conserved calls s d) ∙ ap (λ (l : List Job). l ++ accepted d (log s calls)) e,
-      omega (arith, w, k .1, others-most calls s d),
-    )
+exact : (s : State) (desk tag : ℕ) (a : Acceptance) → submitted desk tag s .answer ≡ good a
+    → Exactly (a .before) (submitted desk tag s .state) desk (s .queue desk) (record { number = a .number; tag = tag })
+exact s desk tag a e =
+    by-submit desk tag s
+    (λ r. r .answer ≡ good a → Exactly (a .before) (r .state) desk (s .queue desk) (record { number = a .number; tag = tag }))
+    (λ c place h. absurd (good-refused a c place 0 h))
+    (λ k l h. subst (λ (x : Acceptance). Exactly (x .before) (joined desk (nextJob tag s) s) desk (s .queue desk) (record { number = x .number; tag = tag })) (good-same _ a h)
+    (exactly-joined s desk (nextJob tag s) k))
+    e
+
+-- while a job with p older ones waits, at most 8p + 7 jobs are handed out
+at-most : (p most : ℕ) → 8 * p + 7 ≤ most → AtMost p most
+at-most p most m before calls d older job younger h n e l =
+    let s = after empty before in
+    let q = ap length e ∙ length-append older (job ∷ younger) in
+    record {
+      still =
+          sym (drop-append-seam (handed d (log s calls)) (after s calls .queue d))
+          ∙ ap (drop (length (handed d (log s calls))))
+          (sym (conserved calls s d) ∙ ap (λ (x : List Job). x ++ accepted d (log s calls)) e ∙ append-assoc older (job ∷ younger) _)
+          ∙ drop-append-le (length (handed d (log s calls))) older _ (omega (arith, l, n));
+      jobs = omega (arith, m, waits calls s d p h (omega (arith, q, n)) l, place-below (s .last) d, out-most calls s);
+    }
 
 -- of two cuts of a list, the later one
 later-cut : (a b c e : List Job) → a ++ b ≡ c ++ e → length a ≤ length c → c ≡ a ++ drop (length a) c
@@ -41,13 +60,12 @@ later-cut a b c e h l =
 all-served : (s : State) (calls : List Call) (d : ℕ) → d < 8 → length (s .queue d) ≤ 4 → 32 ≤ handOuts calls
     → (more : List Job) × (handed d (log s calls) ≡ s .queue d ++ more)
 all-served s calls d h f o =
-    let k = round-all (s .last) d h in
     let l : length (s .queue d) ≤ length (handed d (log s calls)) =
-    at-most (λ m. omega (arith, f, o, k .1, waits calls s d (length (handed d (log s calls))) (k .0) (k .1) (k .2) m (omega arith))) in
+    no-less (λ m. omega (arith, f, o, place-below (s .last) d, waits calls s d (length (handed d (log s calls))) h m (omega arith))) in
     (_, later-cut (s .queue d) _ _ _ (conserved calls s d) l)
   where
-    at-most : {m n : ℕ} → (n < m → ⊥) → m ≤ n
-    at-most e = omega arith
+    no-less : {m n : ℕ} → (n < m → ⊥) → m ≤ n
+    no-less e = omega arith
 
 served : (before calls : List Call) (d : ℕ) → d < 8 → 32 ≤ handOuts calls
     → (more : List Job) × (handed d (log empty (before ++ calls)) ≡ accepted d (log empty before) ++ more)
@@ -63,4 +81,11 @@ served before calls d h o =
     )
 
 pub claim : Claim
-claim = record { four = four; order = order; seven = λ before. seven (after empty before); served = served }
+claim = record {
+  four = four;
+  order = order;
+  exact = λ before. exact (after empty before);
+  most = λ p. at-most p _ (omega arith);
+  seven = at-most 0 _ (omega arith);
+  served = λ before calls d h o. served before calls d h (omega (arith, o));
+}

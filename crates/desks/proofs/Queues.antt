@@ -12,7 +12,8 @@ use Rattle.model.specs.Search.{first}
 use Rattle.model.proofs.Searches.{first-zero, first-on, first-at}
 use Rattle.model.specs.Listed.{listed}
 use Rattle.model.proofs.Listed.{listed-length, listed-cong, listed-front}
-use Rattle.desks.specs.State.{Job, State, empty, replaced, joined, work, inRound, workAt, firstWork, handOf}
+use Rattle.desks.specs.State.{Job, State, empty, replaced, joined, before, work, workAt, firstWork, handOf}
+use Rattle.desks.specs.Round.{inRound, jobsBefore}
 use Rattle.desks.specs.Seen.{placeOf, jobAt, seen, toldJob}
 use Rattle.desks.specs.declared.Desks.{Desks}
 use Rattle.desks.specs.declared.HandOut.the-variants as told
@@ -22,6 +23,12 @@ use Rattle.desks.proofs.States.{by-desk, work-on}
 pub seen-length : (s : Desks) (d : ℕ) → length (seen s .queue d) ≡ min (getD (s .waiting) d 0) 4
 unfolding seen
 seen-length s d = listed-length (min (getD (s .waiting) d 0) 4) (jobAt s d)
+
+-- the jobs before one that is submitted, by the counts
+pub seen-before : (s : Desks) (d : ℕ)
+    → jobsBefore (λ e. min (getD (s .waiting) e 0) 4) (s .last) d (min (getD (s .waiting) d 0) 4) ≡ before (seen s) d (length (seen s .queue d))
+unfolding seen
+seen-before s d = ap₂ (λ counts p. jobsBefore counts (s .last) d p) (fun-ext (λ e. sym (seen-length s e))) (sym (seen-length s d))
 
 pub seen-none : (s : Desks) (d : ℕ) → getD (s .waiting) d 0 ≡ 0 → seen s .queue d ≡ []
 unfolding seen listed

@@ -1,17 +1,16 @@
 -- Laws of runs, from any state on.
 use Prim.Native.Nat.{ℕ, suc, _+_, _-_, _*_, _≤_, _<_}
 use mathlib.Core.Path.{_≡_, refl, sym, ap, _∙_}
-use mathlib.Core.Logic.{_⊎_, inl, inr, ⊎-elim}
-use mathlib.Core.Bool.{Bool, true, false, cond}
+use mathlib.Core.Logic.{_≢_}
+use mathlib.Core.Bool.{cond}
 use mathlib.Core.List.{List, [], _∷_, _++_, append-assoc, append-nil}
 use native.Mathlib.Omega.{arith}
-use borrow.Author.Tests.{eq-eqb, ne-eqb}
-use native.Mathlib.Nat.{eq-or-lt-of-le}
-use lib.Dec.{eqb}
 use lib.ListN.{length, length-append}
-use Rattle.desks.specs.State.{Job, State, Work, replaced, joined, nextJob, inRound, handOf, submitted}
-use Rattle.desks.specs.Run.{Call, submit, handOut, Event, submission, hand, event, next, log, after, acceptedIn, handedIn, othersIn, all, accepted, handed, others, handOuts}
-use Rattle.desks.proofs.States.{by-submit, by-hand-out, first-work, turn, round-other, round-again, round-full, by-desk}
+use Rattle.desks.specs.State.{Job, State, Handed, Work, replaced, joined, nextJob, handOf, submitted}
+use Rattle.desks.specs.Round.{placeInRound}
+use Rattle.desks.specs.Run.{Call, submit, handOut, Event, submission, hand, event, next, log, after, acceptedIn, handedIn, outIn, all, accepted, handed, out, handOuts}
+use Rattle.desks.proofs.States.{by-submit, by-hand-out, IsFirst, first-work, no-work, by-desk}
+use Rattle.desks.proofs.Rounds.{place-served, place-after, place-other}
 
 -- ---- one run after another
 pub after-append : (s : State) (xs ys : List Call) → after s (xs ++ ys) ≡ after (after s xs) ys
@@ -40,7 +39,7 @@ four-in (submit desk tag) s d h =
 four-in handOut s d h =
     by-hand-out s (λ r. length (r .state .queue d) ≤ 4) (λ n. h)
     (λ w f. by-desk d (w .desk) (λ b. length (cond b (w .others) (s .queue d)) ≤ 4)
-    (λ e. omega (arith, h, ap length (ap (s .queue) e ∙ first-work s w f)))
+    (λ e. omega (arith, h, ap length (ap (s .queue) e ∙ first-work s w f .has)))
     (λ e. h))
 
 pub four-wait : (calls : List Call) (s : State) (d : ℕ) → length (s .queue d) ≤ 4 → length (after s calls .queue d) ≤ 4
@@ -61,7 +60,7 @@ conserved-in handOut s d =
     by-hand-out s (λ r. s .queue d ++ [] ≡ handedIn d (hand (r .answer)) ++ r .state .queue d)
     (λ n. append-nil (s .queue d))
     (λ w f. by-desk d (w .desk) (λ b. s .queue d ++ [] ≡ cond b (w .oldest ∷ []) [] ++ cond b (w .others) (s .queue d))
-    (λ e. append-nil (s .queue d) ∙ ap (s .queue) e ∙ first-work s w f)
+    (λ e. append-nil (s .queue d) ∙ ap (s .queue) e ∙ first-work s w f .has)
     (λ e. append-nil (s .queue d)))
 
 pub conserved : (calls : List Call) (s : State) (d : ℕ) → s .queue d ++ accepted d (log s calls) ≡ handed d (log s calls) ++ after s calls .queue d
@@ -74,19 +73,17 @@ conserved (c ∷ calls) s d =
     ∙ ap (λ (l : List Job). handedIn d (event c s) ++ l) (conserved calls (next c s) d)
     ∙ sym (append-assoc (handedIn d (event c s)) _ _)
 
--- ---- the jobs of others are no more than the hand-outs
-others-in : (s : State) (d : ℕ) → length (othersIn d (event handOut s)) ≤ 1
+-- ---- the jobs handed out are no more than the hand-outs
+out-in : (s : State) → length (outIn (event handOut s)) ≤ 1
 unfolding handOf
-others-in s d =
-    by-hand-out s (λ r. length (othersIn d (hand (r .answer))) ≤ 1) (λ n. omega arith)
-    (λ w f. by-desk d (w .desk) (λ b. length (cond b [] (w .oldest ∷ [])) ≤ 1) (λ e. omega arith) (λ e. omega arith))
+out-in s = by-hand-out s (λ r. length (outIn (hand (r .answer))) ≤ 1) (λ n. omega arith) (λ w f. omega arith)
 
-pub others-most : (calls : List Call) (s : State) (d : ℕ) → length (others d (log s calls)) ≤ handOuts calls
+pub out-most : (calls : List Call) (s : State) → length (out (log s calls)) ≤ handOuts calls
 unfolding log all handOuts
-others-most [] s d = omega arith
-others-most (submit desk tag ∷ calls) s d = others-most calls (next (submit desk tag) s) d
-others-most (handOut ∷ calls) s d =
-    omega (arith, others-in s d, others-most calls (next handOut s) d, length-append (othersIn d (event handOut s)) (others d (log (next handOut s) calls)))
+out-most [] s = omega arith
+out-most (submit desk tag ∷ calls) s = out-most calls (next (submit desk tag) s)
+out-most (handOut ∷ calls) s =
+    omega (arith, out-in s, out-most calls (next handOut s), length-append (outIn (event handOut s)) (out (log (next handOut s) calls)))
 
 -- ---- how long a job waits
 
@@ -104,79 +101,47 @@ submit-keeps desk tag s d =
           (λ e. omega arith),
     ))
 
-not-empty : (jobs : List Job) → 0 < length jobs → (job : Job) × (younger : List Job) × (jobs ≡ job ∷ younger)
-not-empty [] h = absurd (omega (arith, h))
-not-empty (job ∷ jobs) h = (job, jobs, refl)
+-- the state once a desk is served
+abbrev pub served : State → Work → State
+served s w = record { queue = replaced (w .desk) (w .others) (s .queue); last = w .desk; counter = s .counter }
 
--- a hand-out serves desk d, which then comes last in the round
-record Serves (s : State) (d : ℕ) : Type 0 where
-  job : Job
-  younger : List Job
-  was : s .queue d ≡ job ∷ younger
-  gives : handedIn d (event handOut s) ≡ job ∷ []
-  leaves : next handOut s .queue d ≡ younger
-  comes : inRound (next handOut s .last) 7 ≡ d
-
--- or it serves a desk before desk d, which then comes earlier in the round than k-th
-record Nears (s : State) (d k : ℕ) : Type 0 where
-  gives : handedIn d (event handOut s) ≡ []
-  leaves : next handOut s .queue d ≡ s .queue d
-  place : ℕ
-  nearer : place < k
-  comes : inRound (next handOut s .last) place ≡ d
-
-serves-or-nears : (s : State) (d k : ℕ) → k < 8 → inRound (s .last) k ≡ d → 0 < length (s .queue d) → Serves s d ⊎ Nears s d k
+-- A hand-out while desk d has work takes its oldest job or that of a desk that comes earlier: what it gives, what it gives of desk d, what then waits
+-- of desk d, and the state.
+pub by-turn : (s : State) (d : ℕ) → d < 8 → 0 < length (s .queue d) → (P : List Handed → List Job → List Job → State → Type 0)
+    → ((w : Work) → IsFirst s w → d ≡ w .desk → P (record { desk = w .desk; job = w .oldest } ∷ []) (w .oldest ∷ []) (w .others) (served s w))
+    → ((w : Work) → IsFirst s w → placeInRound (s .last) (w .desk) < placeInRound (s .last) d
+    → P (record { desk = w .desk; job = w .oldest } ∷ []) [] (s .queue d) (served s w))
+    → P (outIn (event handOut s)) (handedIn d (event handOut s)) (next handOut s .queue d) (next handOut s)
 unfolding handOf replaced
-serves-or-nears s d k h r q =
-    let n = not-empty (s .queue d) q in
-    let t = turn s k (n .0) (n .1) h (ap (s .queue) r ∙ n .2) in
-    let w : Work = t .0 in
-    let j : ℕ = t .2 in
-    let gives : (b : Bool) → eqb d (w .desk) ≡ b → handedIn d (event handOut s) ≡ cond b (w .oldest ∷ []) [] =
-    λ b e. ap (λ o. handedIn d (hand (handOf s o .answer))) (t .1) ∙ ap (λ c. cond c (w .oldest ∷ []) []) e in
-    let leaves : (b : Bool) → eqb d (w .desk) ≡ b → next handOut s .queue d ≡ cond b (w .others) (s .queue d) =
-    λ b e. ap (λ o. handOf s o .state .queue d) (t .1) ∙ ap (λ c. cond c (w .others) (s .queue d)) e in
-    let comes : (i : ℕ) → inRound (next handOut s .last) i ≡ inRound (inRound (s .last) j) i =
-    λ i. ap (λ o. inRound (handOf s o .state .last) i) (t .1) ∙ ap (λ x. inRound x i) (t .4) in
-    ⊎-elim
-    (λ (i : j ≡ k).
-    let o : d ≡ w .desk = sym r ∙ ap (inRound (s .last)) (sym i) ∙ sym (t .4) in
-    inl (record {
-      job = w .oldest;
-      younger = w .others;
-      was = ap (s .queue) o ∙ first-work s w (t .1);
-      gives = gives true (eq-eqb d (w .desk) o);
-      leaves = leaves true (eq-eqb d (w .desk) o);
-      comes = comes 7 ∙ round-full (s .last) j ∙ ap (inRound (s .last)) i ∙ r;
-    }))
-    (λ (i : j < k).
-    let o = ne-eqb d (w .desk) (λ x. round-other (s .last) j k i h (r ∙ x ∙ t .4)) in
-    inr (record {
-      gives = gives false o;
-      leaves = leaves false o;
-      place = k - suc j;
-      nearer = omega (arith, i);
-      comes = comes (k - suc j) ∙ round-again (s .last) j k i h ∙ r;
-    }))
-    (eq-or-lt-of-le (t .3))
+by-turn s d h q P own earlier =
+    by-hand-out s (λ r. P (outIn (hand (r .answer))) (handedIn d (hand (r .answer))) (r .state .queue d) (r .state))
+    (λ n. absurd (omega (arith, q, ap length (no-work s n d h))))
+    (λ w f.
+    let i = first-work s w f in
+    by-desk d (w .desk)
+    (λ b. P (record { desk = w .desk; job = w .oldest } ∷ []) (cond b (w .oldest ∷ []) []) (cond b (w .others) (s .queue d)) (served s w))
+    (own w i)
+    (λ o. earlier w i (less (λ l. omega (arith, q, ap length (i .passed d h l))) (place-other (s .last) d (w .desk) h (i .below) o))))
+  where
+    less : {m n : ℕ} → (m < n → ⊥) → m ≢ n → n < m
+    less a b = omega arith
 
--- A job with p older ones of its desk, which comes k-th in the round: while it waits, at most 8p + k hand-outs are called.
-pub waits : (calls : List Call) (s : State) (d p k : ℕ) → k < 8 → inRound (s .last) k ≡ d → p < length (s .queue d)
-    → length (handed d (log s calls)) ≤ p → handOuts calls ≤ 8 * p + k
+-- A job with p older ones of its desk: while it waits, the hand-outs called are at most 8p and its desk's place in the round.
+pub waits : (calls : List Call) (s : State) (d p : ℕ) → d < 8 → p < length (s .queue d) → length (handed d (log s calls)) ≤ p
+    → handOuts calls ≤ 8 * p + placeInRound (s .last) d
 unfolding log all handOuts
-waits [] s d p k h r q l = omega arith
-waits (submit desk tag ∷ calls) s d p k h r q l =
+waits [] s d p h q l = omega arith
+waits (submit desk tag ∷ calls) s d p h q l =
     let u = submit-keeps desk tag s d in
-    waits calls (submitted desk tag s .state) d p k h (ap (λ (i : ℕ). inRound i k) (u .0) ∙ r) (omega (arith, u .1, q)) l
-waits (handOut ∷ calls) s d p k h r q l =
-    let e = length-append (handedIn d (event handOut s)) (handed d (log (next handOut s) calls)) in
-    ⊎-elim
-    (λ (v : Serves s d).
-    let g = ap length (v .gives) in
-    let o = ap length (v .was) in
-    let i = waits calls (next handOut s) d (p - 1) 7 (omega arith) (v .comes) (omega (arith, q, o, l, e, g, ap length (v .leaves))) (omega (arith, l, e, g)) in
-    omega (arith, i, l, e, g))
-    (λ (v : Nears s d k).
-    let i = waits calls (next handOut s) d p (v .place) (omega (arith, v .nearer)) (v .comes) (omega (arith, q, ap length (v .leaves))) (omega (arith, l, e)) in
-    omega (arith, i, v .nearer))
-    (serves-or-nears s d k h r (omega (arith, q)))
+    omega (arith, waits calls (submitted desk tag s .state) d p h (omega (arith, u .1, q)) l, ap (λ (i : ℕ). placeInRound i d) (u .0))
+waits (handOut ∷ calls) s d p h q l =
+    by-turn s d h (omega (arith, q))
+    (λ given own queue t. t .queue d ≡ queue → length (own ++ handed d (log t calls)) ≤ p → suc (handOuts calls) ≤ 8 * p + placeInRound (s .last) d)
+    (λ w i o e k.
+    let n = ap length (ap (s .queue) o ∙ i .has) in
+    let r = waits calls (served s w) d (p - 1) h (omega (arith, q, n, k, ap length e)) (omega (arith, k)) in
+    omega (arith, r, k, ap (λ (x : ℕ). placeInRound x d) (sym o), place-served d h))
+    (λ w i b e k.
+    let r = waits calls (served s w) d p h (omega (arith, q, ap length e)) k in
+    omega (arith, r, place-after (s .last) (w .desk) d (i .below) h b))
+    refl l

@@ -1,5 +1,5 @@
 -- Laws of the state: what a submission and a hand-out come to, case by case.
-use Prim.Native.Nat.{ℕ, suc, _+_, _-_, _*_, _%_, _≤_, _<_}
+use Prim.Native.Nat.{ℕ, _≤_, _<_}
 use mathlib.Core.Path.{_≡_, refl, sym, ap, _∙_}
 use mathlib.Core.Logic.{_≢_}
 use mathlib.Core.Bool.{Bool, true, false, cond}
@@ -8,13 +8,15 @@ use mathlib.Core.Option.{Option, none, some, Option·some-ne-none, Option·some-
 use native.Mathlib.Omega.{arith}
 use lib.Dec.{ltb, eqb}
 use lib.ListN.{length}
-use borrow.Author.Tests.{lt-ltb, le-ltb, ltb-true, eqb-true, eqb-false}
+use borrow.Author.Tests.{lt-ltb, le-ltb, ltb-true, ltb-false, eqb-true, eqb-false}
 use Rattle.model.specs.Outcome.{refused, Cause}
-use Rattle.model.proofs.Searches.{first-some, first-least}
-use Rattle.desks.specs.State.{Job, State, Result, Handed, Work, accept, submitted, work, inRound, workAt, firstWork, handOf, handedOut}
+use Rattle.model.proofs.Searches.{first-some, first-none}
+use Rattle.desks.specs.State.{Job, State, Result, Acceptance, Handed, Work, accept, submitted, work, workAt, firstWork, handOf, handedOut}
+use Rattle.desks.specs.Round.{placeInRound}
+use Rattle.desks.proofs.Rounds.{place-below, round-place, place-round, round-below}
 
 -- ---- a submission: whatever holds of a refusal, and of an acceptance that is due, holds of it
-pub by-submit : (desk tag : ℕ) (s : State) (P : Result ℕ → Type 0)
+pub by-submit : (desk tag : ℕ) (s : State) (P : Result Acceptance → Type 0)
     → ((c : Cause) (place : ℕ) → P (record { answer = refused c place 0; state = s }))
     → (desk < 8 → length (s .queue desk) < 4 → P (accept desk tag s))
     → P (submitted desk tag s)
@@ -64,39 +66,36 @@ pub work-on : (d : ℕ) (job : Job) (jobs : List Job) → work d (job ∷ jobs) 
 unfolding work
 work-on d job jobs = refl
 
--- the first desk with work has work
-pub first-work : (s : State) (w : Work) → firstWork s ≡ some w → s .queue (w .desk) ≡ w .oldest ∷ w .others
+pub work-none : (d : ℕ) (jobs : List Job) → work d jobs ≡ none → jobs ≡ []
+unfolding work
+work-none d [] e = refl
+work-none d (job ∷ jobs) e = absurd (Option·some-ne-none _ e)
+
+-- ---- the first desk with work: it has work, and those that come earlier have none
+pub record IsFirst (s : State) (w : Work) : Type 0 where
+  pub below : w .desk < 8
+  pub has : s .queue (w .desk) ≡ w .oldest ∷ w .others
+  pub passed : (d : ℕ) → d < 8 → placeInRound (s .last) d < placeInRound (s .last) (w .desk) → s .queue d ≡ []
+
+-- no work at the place of desk d
+no-work-at : (s : State) (d : ℕ) → d < 8 → workAt s (placeInRound (s .last) d) ≡ none → s .queue d ≡ []
+no-work-at s d h e = work-none d (s .queue d) (ap (λ x. work x (s .queue x)) (sym (round-place (s .last) d h)) ∙ e)
+
+pub first-work : (s : State) (w : Work) → firstWork s ≡ some w → IsFirst s w
 unfolding firstWork
 first-work s w e =
     let f = first-some (workAt s) 8 w e in
     let h = work-some _ _ w (f .2) in
-    ap (s .queue) (h .0) ∙ h .1
+    let k : placeInRound (s .last) (w .desk) ≡ f .0 = ap (placeInRound (s .last)) (h .0) ∙ place-round (s .last) (f .0) (f .1) in
+    record {
+      below = omega (arith, h .0, round-below (s .last) (f .0));
+      has = ap (s .queue) (h .0) ∙ h .1;
+      passed = λ d l b. no-work-at s d l (first-none (workAt s) (f .0) (f .3) _ (omega (arith, b, k)));
+    }
 
--- a desk with work: the first one comes no later in the round
-pub turn : (s : State) (k : ℕ) (job : Job) (younger : List Job) → k < 8 → s .queue (inRound (s .last) k) ≡ job ∷ younger
-    → (w : Work) × (firstWork s ≡ some w) × (j : ℕ) × (j ≤ k) × (w .desk ≡ inRound (s .last) j)
+pub no-work : (s : State) → firstWork s ≡ none → (d : ℕ) → d < 8 → s .queue d ≡ []
 unfolding firstWork
-turn s k job younger h e =
-    let f = first-least (workAt s) 8 k _ h (ap (work (inRound (s .last) k)) e ∙ work-on _ job younger) in
-    (f .2, f .4, f .0, f .1, work-some _ _ (f .2) (f .3) .0)
-
--- ---- the round
-pub round-other : (last j k : ℕ) → j < k → k < 8 → inRound last k ≡ inRound last j → ⊥
-unfolding inRound
-round-other last j k h l e = omega arith
-
-pub round-again : (last j k : ℕ) → j < k → k < 8 → inRound (inRound last j) (k - suc j) ≡ inRound last k
-unfolding inRound
-round-again last j k h l = omega arith
-
-pub round-full : (last k : ℕ) → inRound (inRound last k) 7 ≡ inRound last k
-unfolding inRound
-round-full last k = omega arith
-
--- every desk has a place in it
-pub round-all : (last d : ℕ) → d < 8 → (k : ℕ) × (k < 8) × (inRound last k ≡ d)
-unfolding inRound
-round-all last d h = ((d + 7 * (last + 1)) % 8, omega arith, omega arith)
+no-work s e d h = no-work-at s d h (first-none (workAt s) 8 e _ (place-below (s .last) d))
 
 -- ---- is it this desk?
 pub by-desk : (d desk : ℕ) (P : Bool → Type 0) → (d ≡ desk → P true) → (d ≢ desk → P false) → P (eqb d desk)
@@ -105,3 +104,11 @@ by-desk d desk P same other = go (eqb d desk) refl
     go : (b : Bool) → eqb d desk ≡ b → P b
     go true e = same (eqb-true d desk e)
     go false e = other (eqb-false d desk e)
+
+-- ---- and is it less?
+pub by-less : (a b : ℕ) (P : Bool → Type 0) → (a < b → P true) → (b ≤ a → P false) → P (ltb a b)
+by-less a b P less not-less = go (ltb a b) refl
+  where
+    go : (c : Bool) → ltb a b ≡ c → P c
+    go true e = less (ltb-true a b e)
+    go false e = not-less (ltb-false a b e)

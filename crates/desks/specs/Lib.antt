@@ -1,3 +1,4 @@
+pub mod Round
 pub mod State
 pub mod Run
 pub mod Claim

@@ -4,7 +4,7 @@ use mathlib.Core.Bool.{cond}
 use mathlib.Core.List.{List, [], _∷_, _++_}
 use lib.Dec.{eqb}
 use Rattle.model.specs.Outcome.{Outcome, good, refused}
-use Rattle.desks.specs.State.{Job, State, Handed, submitted, handedOut}
+use Rattle.desks.specs.State.{Job, State, Acceptance, Handed, submitted, handedOut}
 
 pub data Call : Type 0 where
   submit : (desk tag : ℕ) → Call
@@ -12,7 +12,7 @@ pub data Call : Type 0 where
 
 -- a call with its answer
 pub data Event : Type 0 where
-  submission : (desk tag : ℕ) → Outcome ℕ → Event
+  submission : (desk tag : ℕ) → Outcome Acceptance → Event
   hand : Outcome Handed → Event
 
 abbrev pub event : Call → State → Event
@@ -34,7 +34,7 @@ after s (c ∷ calls) = after (next c s) calls
 
 -- the job of desk d that was accepted, or handed out, if there is one
 abbrev pub acceptedIn : ℕ → Event → List Job
-acceptedIn d (submission desk tag (good number)) = cond (eqb d desk) (record { number = number; tag = tag } ∷ []) []
+acceptedIn d (submission desk tag (good a)) = cond (eqb d desk) (record { number = a .number; tag = tag } ∷ []) []
 acceptedIn d (submission desk tag (refused c place second)) = []
 acceptedIn d (hand answer) = []
 
@@ -43,11 +43,11 @@ handedIn d (submission desk tag answer) = []
 handedIn d (hand (good h)) = cond (eqb d (h .desk)) (h .job ∷ []) []
 handedIn d (hand (refused c place second)) = []
 
--- and the jobs of all other desks that were handed out
-abbrev pub othersIn : ℕ → Event → List Job
-othersIn d (submission desk tag answer) = []
-othersIn d (hand (good h)) = cond (eqb d (h .desk)) [] (h .job ∷ [])
-othersIn d (hand (refused c place second)) = []
+-- the job of any desk that was handed out
+abbrev pub outIn : Event → List Handed
+outIn (submission desk tag answer) = []
+outIn (hand (good h)) = h ∷ []
+outIn (hand (refused c place second)) = []
 
 -- what each event of a log gives, in its order
 unfoldable pub all : {A : Type 0} → (Event → List A) → List Event → List A
@@ -60,8 +60,8 @@ accepted d = all (acceptedIn d)
 abbrev pub handed : ℕ → List Event → List Job
 handed d = all (handedIn d)
 
-abbrev pub others : ℕ → List Event → List Job
-others d = all (othersIn d)
+abbrev pub out : List Event → List Handed
+out = all outIn
 
 -- how many hand-outs are called
 unfoldable pub handOuts : List Call → ℕ

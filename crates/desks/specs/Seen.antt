@@ -5,7 +5,7 @@ use mathlib.Core.Path.{_≡_}
 use lib.ListN.{getD}
 use Rattle.model.specs.Outcome.{Outcome, good, refused, number}
 use Rattle.model.specs.Listed.{listed}
-use Rattle.desks.specs.State.{Job, State, Handed}
+use Rattle.desks.specs.State.{Job, State, Acceptance, Handed}
 use Rattle.desks.specs.declared.Desks.{Desks}
 use Rattle.desks.specs.declared.Submission.{Submission}
 use Rattle.desks.specs.declared.Submission.the-variants as submission
@@ -28,9 +28,9 @@ Untouched (good a) s t = Unit {0}
 Untouched (refused c place second) s t = t ≡ s
 
 -- the answers, a refusal with "this paper's number and values"
-abbrev pub toldNumber : Outcome ℕ → Submission
-toldNumber (good n) = submission.Accepted n
-toldNumber (refused c place second) = submission.Refused (number c) place second
+abbrev pub toldAcceptance : Outcome Acceptance → Submission
+toldAcceptance (good a) = submission.Accepted (a .number) (a .before)
+toldAcceptance (refused c place second) = submission.Refused (number c) place second
 
 abbrev pub toldJob : Outcome Handed → HandOut
 toldJob (good h) = handOut.Job (h .desk) (h .job .number) (h .job .tag)

@@ -1,5 +1,5 @@
--- A fair hand-out for eight desks: the state, and what a submission and a hand-out make of it. Paper 02, (iv).
-use Prim.Native.Nat.{ℕ, _+_, _%_}
+-- A fair hand-out for eight desks: the state, and what a submission and a hand-out make of it. Paper 02, (iv) and (ix).
+use Prim.Native.Nat.{ℕ, _+_}
 use mathlib.Core.Bool.{cond}
 use mathlib.Core.List.{List, [], _∷_, _++_}
 use mathlib.Core.Option.{Option, none, some}
@@ -7,6 +7,7 @@ use lib.Dec.{ltb, eqb}
 use lib.ListN.{length}
 use Rattle.model.specs.Outcome.{Outcome, good, refused, noSuchDesk, fourWait, nothingWaits}
 use Rattle.model.specs.Search.{first}
+use Rattle.desks.specs.Round.{inRound, jobsBefore}
 
 -- "Desks 0 to 7 submit jobs, each a 32-bit tag"; a job has a number too
 pub record Job : Type 0 where
@@ -44,11 +45,23 @@ joined desk job s = record { queue = replaced desk (s .queue desk ++ job ∷ [])
 abbrev pub nextJob : ℕ → State → Job
 nextJob tag s = record { number = nextNumber (s .counter); tag = tag }
 
-abbrev pub accept : ℕ → ℕ → State → Result ℕ
-accept desk tag s = record { answer = good (nextJob tag s .number); state = joined desk (nextJob tag s) s }
+-- "On acceptance the desk learns the exact number of jobs to be handed out before its own if nobody submits again"
+pub record Acceptance : Type 0 where
+  pub number : ℕ
+  pub before : ℕ
+
+-- of the job of a desk that has p older ones
+abbrev pub before : State → ℕ → ℕ → ℕ
+before s desk p = jobsBefore (λ d. length (s .queue d)) (s .last) desk p
+
+abbrev pub accept : ℕ → ℕ → State → Result Acceptance
+accept desk tag s = record {
+  answer = good (record { number = nextJob tag s .number; before = before s desk (length (s .queue desk)) });
+  state = joined desk (nextJob tag s) s;
+}
 
 -- "12: no such desk, tested first. 13: four already wait. .. All leave the state; place the desk"
-unfoldable pub submitted : ℕ → ℕ → State → Result ℕ
+unfoldable pub submitted : ℕ → ℕ → State → Result Acceptance
 submitted desk tag s =
     cond (ltb desk 8)
     (cond (ltb (length (s .queue desk)) 4) (accept desk tag s) (record { answer = refused fourWait desk 0; state = s }))
@@ -69,11 +82,7 @@ unfoldable pub work : ℕ → List Job → Option Work
 work desk [] = none
 work desk (job ∷ jobs) = some (record { desk = desk; oldest = job; others = jobs })
 
--- "going round from the desk after the last one served": the desk that comes k-th, counted from 0
-unfoldable pub inRound : ℕ → ℕ → ℕ
-inRound last k = (last + 1 + k) % 8
-
--- its work
+-- the work of the desk that comes k-th in the round
 abbrev pub workAt : State → ℕ → Option Work
 workAt s k = work (inRound (s .last) k) (s .queue (inRound (s .last) k))
 

@@ -3,10 +3,11 @@
 // comes back; every value of its type is a state (`seen`), so that no operation has a precondition.
 ghost use mathlib.Core.Path.{_≡_};
 ghost use Rattle.desks.specs.State.{empty, submitted, handedOut};
-ghost use Rattle.desks.specs.Seen.{seen, Untouched, toldNumber, toldJob};
+ghost use Rattle.desks.specs.Seen.{seen, Untouched, toldAcceptance, toldJob};
 
 pub mod numbers;
 mod rings;
+mod turns;
 
 use rings::Turn;
 
@@ -36,6 +37,8 @@ impl Desks {
 pub enum Submission {
     Accepted {
         number: u32,
+        // The jobs to be handed out before this one if nobody submits again.
+        before: u64,
     },
     Refused {
         number: u64,
@@ -95,9 +98,9 @@ fn refuse(s: Desks, number: u64, desk: u64) -> Submitted
     Submitted { answer, desks: s }
 }
 
-// A desk submits a job: its number, or why it is refused.
+// A desk submits a job: its number and how many go before it, or why it is refused.
 pub fn submit(s: Desks, desk: u64, tag: u32) -> Submitted
-    ensures { λ r. ⌜ r .answer ≡ toldNumber (submitted desk tag (seen s) .answer) ⌝ }
+    ensures { λ r. ⌜ r .answer ≡ toldAcceptance (submitted desk tag (seen s) .answer) ⌝ }
     ensures { λ r. ⌜ seen (r .desks) ≡ submitted desk tag (seen s) .state ⌝ }
     ensures { λ r. ⌜ Untouched (submitted desk tag (seen s) .answer) s (r .desks) ⌝ }
 {
@@ -109,9 +112,10 @@ pub fn submit(s: Desks, desk: u64, tag: u32) -> Submitted
         return refuse(s, 13, desk);
     }
     let number = rings::next_number(s.counter);
+    let before = turns::jobs_before(s.waiting, s.last, d);
     let desks = rings::put(s, d, number, tag);
     Submitted {
-        answer: Submission::Accepted { number },
+        answer: Submission::Accepted { number, before },
         desks,
     }
 }

@@ -1,15 +1,15 @@
 // The answers as four numbers: the kind, 0 or for a refusal 2, then the values, 0 where there is none.
 ghost use mathlib.Core.Path.{_≡_};
-ghost use Rattle.desks.specs.Four.{fourOfNumber, fourOfJob};
+ghost use Rattle.desks.specs.Four.{fourOfAcceptance, fourOfJob};
 use crate::HandOut;
 use crate::Submission;
 
 // The answer to a submission as four numbers.
 pub fn of_submission(a: Submission) -> [u64; 4]
-    ensures { λ r. ⌜ r ≡ fourOfNumber a ⌝ }
+    ensures { λ r. ⌜ r ≡ fourOfAcceptance a ⌝ }
 {
     match a {
-        Submission::Accepted { number } => [0, number as u64, 0, 0],
+        Submission::Accepted { number, before } => [0, number as u64, before, 0],
         Submission::Refused {
             number,
             place,

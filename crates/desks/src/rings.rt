@@ -22,14 +22,14 @@ pub fn next_number(n: u32) -> u32
     if n < Desks::LAST_NUMBER { n + 1 } else { 1 }
 }
 
-fn wide(x: u8) -> usize
+pub fn wide(x: u8) -> usize
     ensures { λ r. ⌜ r ≡ x ⌝ }
 {
     x as usize
 }
 
 // How many jobs wait, where a count above four is read as four.
-fn counted(waiting: u8) -> u8
+pub fn counted(waiting: u8) -> u8
     ensures { λ r. ⌜ r ≡ min waiting 4 ⌝ }
 {
     if waiting < Desks::WAITING {

@@ -1,8 +1,9 @@
 -- The laws of sums: a proof about sums cites these and does not open `sumOver`.
 use Prim.Native.Nat.{ℕ, zero, suc, _+_, _*_, _≤_, _<_}
-use mathlib.Core.Path.{_≡_, refl, ap, _∙_}
-use mathlib.Core.Bool.{Bool, true, false, cond}
-use native.Mathlib.Nat.{add-zero}
+use mathlib.Core.Path.{_≡_, refl, sym, ap, _∙_}
+use mathlib.Core.Logic.{_≢_, ⊎-elim}
+use mathlib.Core.Bool.{Bool, true, false, cond, true≢false}
+use native.Mathlib.Nat.{add-zero, eq-or-lt-of-le, le-of-suc-le-suc}
 use native.Mathlib.Numerals.{add-one}
 use native.Mathlib.Omega.{arith}
 use lib.Dec.{T}
@@ -13,6 +14,10 @@ use Rattle.model.specs.Sum.{sumOver}
 pub sum-zero : (p : ℕ → Bool) (x : ℕ → ℕ) → sumOver 0 p x ≡ 0
 unfolding sumOver
 sum-zero p x = refl
+
+pub sum-next : (n : ℕ) (p : ℕ → Bool) (x : ℕ → ℕ) → sumOver (n + 1) p x ≡ sumOver n p x + cond (p n) (x n) 0
+unfolding sumOver
+sum-next n p x = ap (λ m. sumOver m p x) (add-one n)
 
 pub sum-take : (n : ℕ) (p : ℕ → Bool) (x : ℕ → ℕ) → p n ≡ true → sumOver (n + 1) p x ≡ sumOver n p x + x n
 unfolding sumOver
@@ -60,6 +65,31 @@ pub sum-mul : (n : ℕ) (p : ℕ → Bool) (k : ℕ) (x : ℕ → ℕ) → sumOv
 unfolding sumOver
 sum-mul zero p k x = omega arith
 sum-mul (suc n) p k x = omega (arith, sum-mul n p k x, cond-mul (p n) k (x n))
+
+cond-more : (b : Bool) {u v : ℕ} → b ≡ true → u ≡ suc v → cond b u 0 ≡ suc (cond b v 0)
+cond-more true e h = h
+cond-more false e h = absurd (true≢false (sym e))
+
+-- one more, where one summand that the test picks is one more and the others are the same
+pub sum-more : (n i : ℕ) (p : ℕ → Bool) {x y : ℕ → ℕ} → i < n → p i ≡ true → x i ≡ suc (y i) → ((t : ℕ) → t < n → T (p t) → t ≢ i → x t ≡ y t)
+    → sumOver n p x ≡ suc (sumOver n p y)
+unfolding sumOver
+sum-more zero i p h e m o = absurd (omega (arith, h))
+sum-more (suc n) i p {x} {y} h e m o =
+    ⊎-elim
+    (λ (k : i ≡ n).
+    let lower : sumOver n p x ≡ sumOver n p y = sum-cong n p (λ t l q. o t (omega (arith, l)) q (λ z. omega (arith, z, k, l))) in
+    omega (arith, lower, cond-more (p n) (ap p (sym k) ∙ e) (ap x (sym k) ∙ m ∙ ap (λ t. suc (y t)) k)))
+    (λ (k : i < n).
+    let lower : sumOver n p x ≡ suc (sumOver n p y) = sum-more n i p {x = x} {y = y} k e m (λ t l q. o t (omega (arith, l)) q) in
+    let same : T (p n) → x n ≡ y n = λ q. o n (omega arith) q (λ z. omega (arith, z, k)) in
+    omega (
+      arith,
+      lower,
+      cond-mono (p n) {u = x n} {v = y n} (λ q. omega (arith, same q)),
+      cond-mono (p n) {u = y n} {v = x n} (λ q. omega (arith, same q)),
+    ))
+    (eq-or-lt-of-le (le-of-suc-le-suc h))
 
 -- at most the bound of a summand, as often as there are summands: what shows that a sum fits
 pub sum-bound : (n : ℕ) (p : ℕ → Bool) (x : ℕ → ℕ) (B : ℕ) → ((t : ℕ) → t < n → x t ≤ B) → sumOver n p x ≤ n * B

@@ -1,8 +1,8 @@
 // The hand-out for eight desks, for C and Rust. The state is lent in six parts, the fields of `desks::Desks`.
 ghost use mathlib.Core.Path.{_≡_};
 ghost use Rattle.desks.specs.State.{empty, submitted, handedOut};
-ghost use Rattle.desks.specs.Seen.{seen, Untouched, toldNumber, toldJob};
-ghost use Rattle.desks.specs.Four.{fourOfNumber, fourOfJob};
+ghost use Rattle.desks.specs.Seen.{seen, Untouched, toldAcceptance, toldJob};
+ghost use Rattle.desks.specs.Four.{fourOfAcceptance, fourOfJob};
 use desks::Desks;
 use desks::numbers;
 
@@ -91,7 +91,7 @@ pub extern "C" fn pavuneshil_submit(
     tag: u32,
     answer: &mut [u64; 4],
 )
-    ensures { λ _. ⌜ now (answer .exit) ≡ fourOfNumber (toldNumber (submitted desk tag (seen (record { numbers = now (numbers .entry); tags = now (tags .entry); oldest = now (oldest .entry); waiting = now (waiting .entry); last = now (last .entry); counter = now (counter .entry) })) .answer)) ⌝ }
+    ensures { λ _. ⌜ now (answer .exit) ≡ fourOfAcceptance (toldAcceptance (submitted desk tag (seen (record { numbers = now (numbers .entry); tags = now (tags .entry); oldest = now (oldest .entry); waiting = now (waiting .entry); last = now (last .entry); counter = now (counter .entry) })) .answer)) ⌝ }
     ensures { λ _. ⌜ seen (record { numbers = now (numbers .exit); tags = now (tags .exit); oldest = now (oldest .exit); waiting = now (waiting .exit); last = now (last .exit); counter = now (counter .exit) }) ≡ submitted desk tag (seen (record { numbers = now (numbers .entry); tags = now (tags .entry); oldest = now (oldest .entry); waiting = now (waiting .entry); last = now (last .entry); counter = now (counter .entry) })) .state ⌝ }
     ensures { λ _. ⌜ Untouched (submitted desk tag (seen (record { numbers = now (numbers .entry); tags = now (tags .entry); oldest = now (oldest .entry); waiting = now (waiting .entry); last = now (last .entry); counter = now (counter .entry) })) .answer) (record { numbers = now (numbers .entry); tags = now (tags .entry); oldest = now (oldest .entry); waiting = now (waiting .entry); last = now (last .entry); counter = now (counter .entry) }) (record { numbers = now (numbers .exit); tags = now (tags .exit); oldest = now (oldest .exit); waiting = now (waiting .exit); last = now (last .exit); counter = now (counter .exit) }) ⌝ }
 {

@@ -165,8 +165,12 @@ fn rows(inputs: &[Input], repeat: usize) {
 type Both = (Desks, second::Desks);
 
 fn agree_submitted(both: &mut Both, desk: u64, tag: u32) {
-    let second = both.1.submit(desk, tag).map(|accepted| accepted.number);
-    assert_eq!(both.0.submit(desk, tag), second.map_err(told));
+    let ours = both.0.submit(desk, tag).map(|job| (job.number, job.before));
+    let second = both
+        .1
+        .submit(desk, tag)
+        .map(|job| (job.number, job.before.unwrap()));
+    assert_eq!(ours, second.map_err(told));
 }
 
 fn agree_handed(both: &mut Both) {
@@ -207,7 +211,7 @@ fn desk_row<A, B>(
 
 /// Rows of the desks, with nothing waiting and with four jobs of each desk.
 fn desk_rows(rounds: &[Vec<(u64, u32)>]) {
-    let empty = (Desks::new(), second::Desks::new(&Rules::as_of(4)));
+    let empty = (Desks::new(), second::Desks::new(&Rules::as_of(9)));
     let empty = vec![empty; rounds.len()];
     let mut full = empty.clone();
     for (state, jobs) in full.iter_mut().zip(rounds) {

@@ -1,10 +1,10 @@
 //! Calls of the eight desks, one after the other. After each, the answer and all that waits are held
-//! against the second implementation, by the rules of request (iv); or, from six parts of any
+//! against the second implementation, by the rules as of request (ix); or, from six parts of any
 //! values, which the second implementation cannot be given, against a plain model of them.
 
 use crate::call::told;
 use crate::Outcome;
-use pavuneshil::{Desks, Handed, Refusal};
+use pavuneshil::{Accepted, Desks, Handed, Refusal};
 use second::gen::{desk_calls, Call, Rng};
 use second::Rules;
 use std::collections::{BTreeSet, VecDeque};
@@ -18,7 +18,7 @@ const LAST_NUMBER: u32 = 4_294_967_295;
 /// What a call is answered where it is not refused.
 #[derive(Debug, Clone, Copy, PartialEq, Eq)]
 enum Good {
-    Number(u32),
+    Accepted(Accepted),
     Job(Handed),
 }
 
@@ -35,9 +35,12 @@ trait Beside {
 impl Beside for second::Desks {
     fn call(&mut self, call: Call) -> Answer {
         match call {
-            Call::Submit(desk, tag) => self
-                .submit(desk, tag)
-                .map(|accepted| Good::Number(accepted.number)),
+            Call::Submit(desk, tag) => self.submit(desk, tag).map(|accepted| {
+                Good::Accepted(Accepted {
+                    number: accepted.number,
+                    before: accepted.before.expect("the rules have turns"),
+                })
+            }),
             Call::HandOut => self.hand_out().map(|job| {
                 Good::Job(Handed {
                     desk: job.desk,
@@ -55,6 +58,7 @@ impl Beside for second::Desks {
 }
 
 /// What six parts of any values mean.
+#[derive(Clone)]
 struct Model {
     queues: [VecDeque<Job>; 8],
     last: usize,
@@ -68,6 +72,19 @@ impl Model {
             last: desks.last as usize % 8,
             counter: desks.counter,
         }
+    }
+}
+
+impl Model {
+    /// How many jobs are handed out before a desk's youngest one if nothing else is called.
+    fn before(&self, desk: usize) -> u64 {
+        let mut later = self.clone();
+        let mut jobs = 0;
+        while !later.queues[desk].is_empty() {
+            later.call(Call::HandOut).expect("a job waits");
+            jobs += 1;
+        }
+        jobs - 1
     }
 }
 
@@ -88,7 +105,10 @@ impl Beside for Model {
                 }
                 self.counter = self.counter % LAST_NUMBER + 1;
                 queue.push_back((self.counter, tag));
-                Ok(Good::Number(self.counter))
+                Ok(Good::Accepted(Accepted {
+                    number: self.counter,
+                    before: self.before(desk as usize),
+                }))
             }
             Call::HandOut => {
                 for desk in (self.last + 1..).take(8).map(|desk| desk % 8) {
@@ -123,7 +143,7 @@ fn jobs(desks: &Desks, desk: usize) -> Vec<Job> {
 /// One call of the library.
 fn ours(desks: &mut Desks, call: Call) -> Answer {
     match call {
-        Call::Submit(desk, tag) => desks.submit(desk, tag).map(Good::Number),
+        Call::Submit(desk, tag) => desks.submit(desk, tag).map(Good::Accepted),
         Call::HandOut => desks.hand_out().map(Good::Job),
     }
 }
@@ -142,7 +162,7 @@ fn same(
     }
     let left = match answer {
         Err(_) => after == before,
-        Ok(Good::Number(number)) => (after.last, after.counter) == (before.last, number),
+        Ok(Good::Accepted(job)) => (after.last, after.counter) == (before.last, job.number),
         Ok(Good::Job(job)) => (u64::from(after.last), after.counter) == (job.desk, before.counter),
     };
     if !left {
@@ -174,7 +194,7 @@ fn hold(name: &str, start: Desks, mut beside: impl Beside, calls: &[Call]) -> Ou
             Err(refusal) => {
                 refusals.insert(refusal.number);
             }
-            Ok(Good::Number(1)) if before.counter == LAST_NUMBER => {
+            Ok(Good::Accepted(job)) if job.number == 1 && before.counter == LAST_NUMBER => {
                 returned = ", numbers return to 1";
             }
             Ok(_) => {}
@@ -190,7 +210,7 @@ fn hold(name: &str, start: Desks, mut beside: impl Beside, calls: &[Call]) -> Ou
 
 /// From the empty state, or from one whose last number is near the last there is, or that one.
 pub fn from_empty(rng: &mut Rng) -> Outcome {
-    let rules = Rules::as_of(4);
+    let rules = Rules::as_of(9);
     let count = rng.between(100, 400) as usize;
     let calls = desk_calls(rng, count);
     let empty = Desks::new();
@@ -273,8 +293,13 @@ mod tests {
         let (before, after, answer, model) = submitted();
         let seen = |after: &Desks, answer| same(&before, after, answer, answer, &model).is_err();
         assert!(!seen(&after, answer));
-        let other = Ok(Good::Number(2));
-        assert!(same(&before, &after, answer, other, &model).is_err());
+        for (number, jobs) in [(2, 0), (1, 1)] {
+            let other = Ok(Good::Accepted(Accepted {
+                number,
+                before: jobs,
+            }));
+            assert!(same(&before, &after, answer, other, &model).is_err());
+        }
         let place = 12 + after.oldest[3] as usize % 4;
         let changes: [fn(&mut Desks, usize); 8] = [
             |desks, place| desks.numbers[place] += 1,
@@ -340,7 +365,7 @@ mod tests {
         let mut rng = Rng::new(404);
         for _ in 0..100 {
             let mut model = Model::of(&Desks::new());
-            let mut second = second::Desks::new(&Rules::as_of(4));
+            let mut second = second::Desks::new(&Rules::as_of(9));
             for call in desk_calls(&mut rng, 300) {
                 assert_eq!(model.call(call), Beside::call(&mut second, call));
                 for desk in 0..8 {

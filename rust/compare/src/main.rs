@@ -1,5 +1,5 @@
 //! Holds every operation of the static library against the second implementation, by the rules of
-//! the first paper, and the eight desks by those of request (iv).
+//! the first paper, and the eight desks by those of requests (iv) and (ix).
 //!
 //!     compare [CASES [SEED [FIRST]]]
 //!

@@ -25,9 +25,10 @@ fn answer(desks: &mut Desks, call: &str) -> String {
         }),
         [desk, tag] => {
             let tag = u32::try_from(tag).expect("a tag has 32 bits");
-            desks
-                .submit(desk, tag)
-                .map_or_else(refused, |accepted| format!(" number={}", accepted.number))
+            desks.submit(desk, tag).map_or_else(refused, |accepted| {
+                let before = accepted.before.expect("the rules have turns");
+                format!(" number={} before={before}", accepted.number)
+            })
         }
         _ => panic!("no call: {call}"),
     }
@@ -37,7 +38,7 @@ fn answer(desks: &mut Desks, call: &str) -> String {
 fn stored_output() {
     let stored = Path::new(env!("CARGO_MANIFEST_DIR")).join("../../crates/desk_calls/stdout");
     let stored = std::fs::read_to_string(stored).expect("the stored output");
-    let mut desks = Desks::new(&Rules::as_of(4));
+    let mut desks = Desks::new(&Rules::as_of(9));
     let mut lines = 0;
     for line in stored.lines() {
         let (call, told) = line.split_once(':').expect("a call and its answer");

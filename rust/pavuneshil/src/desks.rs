@@ -5,25 +5,27 @@ use crate::{archive, refusal, Refusal, UNWRITTEN};
 /// Desks 0 to 7, their jobs that wait, and whose turn it is. At most four jobs of a desk wait.
 ///
 /// Over any calls from [`Desks::new`], a desk's jobs are handed out in the order of submission, none
-/// twice and none that was not accepted; between a job becoming its desk's oldest and its being
-/// handed out, at most seven jobs of other desks are; and every job has been handed out once 32
-/// hand-outs have been called after it was accepted.
+/// twice and none that was not accepted; if nobody submits after it, exactly as many jobs are handed
+/// out before a job as it was told when it was accepted, and whoever submits, at most 8 p + 7 where p
+/// jobs of its desk are older, so at most seven once it is its desk's oldest; and every job has been
+/// handed out once 32 hand-outs have been called after it was accepted.
 ///
 /// Every value of the fields is a state. Each desk has a ring of four places: the job of desk `d`
 /// before which `i` others of that desk wait is at place `4 * d + (oldest[d] + i) % 4` of `numbers`
 /// and of `tags`. Two values may differ and yet be the same state; `==` compares the fields.
 ///
 /// ```
-/// use pavuneshil::{Desks, Handed};
+/// use pavuneshil::{Accepted, Desks, Handed};
 /// let mut desks = Desks::new();
-/// assert_eq!(desks.submit(2, 201), Ok(1));
-/// assert_eq!(desks.submit(2, 202), Ok(2));
-/// assert_eq!(desks.submit(5, 501), Ok(3));
+/// let accepted = |number, before| Ok(Accepted { number, before });
+/// assert_eq!(desks.submit(2, 201), accepted(1, 0));
+/// assert_eq!(desks.submit(5, 501), accepted(2, 1));
 /// // desk 5 comes before the second job of desk 2
+/// assert_eq!(desks.submit(2, 202), accepted(3, 2));
 /// let handed = |desk, number, tag| Ok(Handed { desk, number, tag });
 /// assert_eq!(desks.hand_out(), handed(2, 1, 201));
-/// assert_eq!(desks.hand_out(), handed(5, 3, 501));
-/// assert_eq!(desks.hand_out(), handed(2, 2, 202));
+/// assert_eq!(desks.hand_out(), handed(5, 2, 501));
+/// assert_eq!(desks.hand_out(), handed(2, 3, 202));
 /// assert_eq!(desks.hand_out().unwrap_err().number, 14);
 /// ```
 #[derive(Debug, Clone, Copy, PartialEq, Eq)]
@@ -40,6 +42,15 @@ pub struct Desks {
     pub last: u8,
     /// The job number given last, at first 0.
     pub counter: u32,
+}
+
+/// What a desk learns of a job that is accepted.
+#[derive(Debug, Clone, Copy, PartialEq, Eq, Hash)]
+pub struct Accepted {
+    /// The job's number.
+    pub number: u32,
+    /// The exact number of jobs to be handed out before this one if nobody submits again.
+    pub before: u64,
 }
 
 /// A job that is handed out.
@@ -85,12 +96,16 @@ impl Desks {
     }
 
     /// A desk submits a job, which waits behind the desk's others: the next job number, which returns
-    /// to 1 after 4,294,967,295. Refusals 12, then 13; both leave every field as it was.
-    pub fn submit(&mut self, desk: u64, tag: u32) -> Result<u32, Refusal> {
+    /// to 1 after 4,294,967,295, and how many jobs go before it if nobody submits again. Refusals 12,
+    /// then 13; both leave every field as it was.
+    pub fn submit(&mut self, desk: u64, tag: u32) -> Result<Accepted, Refusal> {
         let mut four = UNWRITTEN;
         on_parts!(pavuneshil_submit, self, desk, tag, &mut four);
         match four {
-            [0, number, 0, 0] => Ok(number as u32),
+            [0, number, before, 0] => Ok(Accepted {
+                number: number as u32,
+                before,
+            }),
             [2, number, place, second] => Err(refusal(number, place, second)),
             _ => unreachable!("no answer: {four:?}"),
         }

@@ -19,7 +19,7 @@
 
 mod desks;
 
-pub use desks::{Desks, Handed};
+pub use desks::{Accepted, Desks, Handed};
 
 /// No valid network's list has more numbers.
 pub const NETWORK_NUMBERS: usize = 6 + 64 + 2 * 32 + 4 * 96;

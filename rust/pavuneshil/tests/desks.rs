@@ -12,6 +12,10 @@ fn refused(number: u64, place: u64) -> Refusal {
     }
 }
 
+fn accepted(number: u32, before: u64) -> Result<Accepted, Refusal> {
+    Ok(Accepted { number, before })
+}
+
 fn handed(desk: u64, number: u32, tag: u32) -> Result<Handed, Refusal> {
     Ok(Handed { desk, number, tag })
 }
@@ -53,17 +57,17 @@ fn the_round() {
     }
     assert_eq!(desks.hand_out(), Err(refused(14, 0)));
     // last served was 7; after 3 comes 5, though desk 0 submitted before it
-    assert_eq!(desks.submit(3, 1), Ok(27));
+    assert_eq!(desks.submit(3, 1), accepted(27, 0));
     assert_eq!(desks.hand_out(), handed(3, 27, 1));
-    assert_eq!(desks.submit(0, 2), Ok(28));
-    assert_eq!(desks.submit(3, 3), Ok(29));
-    assert_eq!(desks.submit(5, 4), Ok(30));
+    assert_eq!(desks.submit(0, 2), accepted(28, 0));
+    assert_eq!(desks.submit(3, 3), accepted(29, 1));
+    assert_eq!(desks.submit(5, 4), accepted(30, 0));
     assert_eq!(desks.hand_out(), handed(5, 30, 4));
     assert_eq!(desks.hand_out(), handed(0, 28, 2));
     assert_eq!(desks.hand_out(), handed(3, 29, 3));
     // a desk alone is served again and again
-    assert_eq!(desks.submit(3, 5), Ok(31));
-    assert_eq!(desks.submit(3, 6), Ok(32));
+    assert_eq!(desks.submit(3, 5), accepted(31, 0));
+    assert_eq!(desks.submit(3, 6), accepted(32, 1));
     assert_eq!(desks.hand_out(), handed(3, 31, 5));
     assert_eq!(desks.hand_out(), handed(3, 32, 6));
 }
@@ -81,8 +85,58 @@ fn four_wait() {
     // a refusal takes no number; a job handed out makes room for one of its desk
     assert_eq!(desks.hand_out(), handed(0, 1, 9));
     assert_eq!(desks.submit(1, 9), Err(refused(13, 1)));
-    assert_eq!(desks.submit(0, 9), Ok(33));
+    assert_eq!(desks.submit(0, 9), accepted(33, 31));
     assert_eq!(desks.submit(0, 9), Err(refused(13, 0)));
+}
+
+/// The jobs handed out before a job of this desk with this number.
+fn handed_out_before(mut desks: Desks, desk: u64, number: u32) -> u64 {
+    let out = std::iter::from_fn(|| desks.hand_out().ok());
+    out.take_while(|job| (job.desk, job.number) != (desk, number))
+        .count() as u64
+}
+
+#[test]
+fn the_turn() {
+    // each desk comes earlier than desk 4 or later, with fewer jobs than its own or more
+    for last in 0..8 {
+        for p in 0..4 {
+            let mut desks = Desks::new();
+            desks.last = last;
+            for (desk, jobs) in [4, 3, 2, 1, p, 1, 2, 3].into_iter().enumerate() {
+                for _ in 0..jobs {
+                    assert!(desks.submit(desk as u64, 0).is_ok());
+                }
+            }
+            let job = desks.submit(4, 0).expect("room for one more");
+            assert_eq!(job.before, handed_out_before(desks, 4, job.number));
+        }
+    }
+}
+
+#[test]
+fn others_submit_in_between() {
+    // desk 4 was just served, and every other desk submits whenever it can: 8 p + 7 jobs go before
+    for p in 0..4 {
+        let mut desks = Desks::new();
+        desks.last = 4;
+        let mut number = 0;
+        for _ in 0..p + 1 {
+            number = desks.submit(4, 0).expect("room for one more").number;
+        }
+        let mut before = 0;
+        loop {
+            for desk in [0, 1, 2, 3, 5, 6, 7] {
+                while desks.submit(desk, 0).is_ok() {}
+            }
+            let job = desks.hand_out().expect("a job waits");
+            if (job.desk, job.number) == (4, number) {
+                break;
+            }
+            before += 1;
+        }
+        assert_eq!(before, 8 * p + 7);
+    }
 }
 
 #[test]
@@ -98,14 +152,14 @@ fn no_such_desk() {
 fn numbers_return_to_1() {
     let mut desks = Desks::new();
     desks.counter = LAST_NUMBER - 2;
-    for number in [LAST_NUMBER - 1, LAST_NUMBER, 1, 2] {
-        assert_eq!(desks.submit(6, number), Ok(number));
+    for (number, before) in [(LAST_NUMBER - 1, 0), (LAST_NUMBER, 1), (1, 2), (2, 3)] {
+        assert_eq!(desks.submit(6, number), accepted(number, before));
     }
     for number in [LAST_NUMBER - 1, LAST_NUMBER, 1, 2] {
         assert_eq!(desks.hand_out(), handed(6, number, number));
     }
     desks.counter = LAST_NUMBER;
-    assert_eq!(desks.submit(6, 0), Ok(1));
+    assert_eq!(desks.submit(6, 0), accepted(1, 0));
 }
 
 #[test]
@@ -132,9 +186,9 @@ fn refusals_leave_every_field() {
 fn every_value_is_a_state() {
     let mut desks = any_state();
     // desk 1, whose ring begins at its place 1, and desk 4 at its place 0, where three jobs wait
-    assert_eq!(desks.submit(1, 5), Ok(78));
+    assert_eq!(desks.submit(1, 5), accepted(78, 6));
     assert_eq!((desks.numbers[5], desks.tags[5], desks.last), (78, 5, 250));
-    assert_eq!(desks.submit(4, 6), Ok(79));
+    assert_eq!(desks.submit(4, 6), accepted(79, 19));
     assert_eq!((desks.numbers[19], desks.tags[19]), (79, 6));
     // the desk after 250 is desk 3, as 250 is taken for 2; the count 255 for 4
     let places = [

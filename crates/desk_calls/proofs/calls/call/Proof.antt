@@ -3,7 +3,7 @@ use mathlib.Core.Path.{sym, ap, _∙_}
 use denote.Ref.{now}
 use Rattle.desks.specs.Run.{event, next}
 use Rattle.desks.specs.Seen.{seen}
-use Rattle.desks.specs.Four.{fourOfNumber, fourOfJob}
+use Rattle.desks.specs.Four.{fourOfAcceptance, fourOfJob}
 use Rattle.desk_calls.specs.Numbers.{fourOf}
 use Rattle.desk_calls.proofs.Numbered.{in-submit, in-hand-out}
 use borrow.Author.Needs.{needs}
@@ -55,7 +55,7 @@ returns c =
     let b = c .before .before .before .before .before in
     let s = b .before .before .before .args in
     let q = in-submit (now (s .calls)) (s .at) (b .if1 .taken) in (
-      c .before .of-submission .ensures ∙ ap fourOfNumber (m .ensures .0) ∙ ap (λ k. fourOf (event k (seen (s .s)))) (sym q),
+      c .before .of-submission .ensures ∙ ap fourOfAcceptance (m .ensures .0) ∙ ap (λ k. fourOf (event k (seen (s .s)))) (sym q),
       m .ensures .1 .0 ∙ ap (λ k. next k (seen (s .s))) (sym q),
     )
 

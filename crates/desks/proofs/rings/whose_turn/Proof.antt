@@ -5,7 +5,8 @@ use mathlib.Core.Option.{none}
 use native.Mathlib.Omega.{arith}
 use borrow.Author.Needs.{needs}
 use Rattle.model.specs.Search.{first}
-use Rattle.desks.specs.State.{inRound, workAt}
+use Rattle.desks.specs.Round.{inRound}
+use Rattle.desks.specs.State.{workAt}
 use Rattle.desks.specs.Seen.{seen}
 use Rattle.desks.proofs.Queues.{nobody-yet, passed, found, nobody}
 use Rattle.desks.proofs.rings.whose_turn.Statement.{statement}
