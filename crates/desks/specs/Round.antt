@@ -8,7 +8,7 @@ use Rattle.model.specs.Sum.{sumOver}
 unfoldable pub inRound : ℕ → ℕ → ℕ
 inRound last k = (last + 1 + k) % 8
 
--- and where a desk comes
+-- and where a desk comes: of these two each undoes the other (`round-place`, `place-round`)
 unfoldable pub placeInRound : ℕ → ℕ → ℕ
 placeInRound last desk = (desk + 8 - (last + 1) % 8) % 8
 

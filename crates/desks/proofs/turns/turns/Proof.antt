@@ -1,5 +1,4 @@
 -- `desks::turns::turns` meets its contract. Assumes nothing.
-use mathlib.Core.Path.{sym}
 use native.Mathlib.Omega.{arith}
 use Rattle.desks.proofs.Rounds.{turns-earlier, turns-later}
 use borrow.Author.Needs.{needs}
@@ -18,12 +17,12 @@ add-result c = search needs
 returns : tie.Need-returns
 returns c =
     let a = c .before .before .before .args in
-    sym (turns-earlier (a .last) (a .desk) (a .p) (a .other) (omega (arith, c .if1 .taken, c .before .place-in-round2 .ensures, c .before .before .place-in-round .ensures)))
+    omega (arith, turns-earlier (a .last) (a .desk) (a .p) (a .other) (omega (arith, c .if1 .taken, c .before .place-in-round2 .ensures, c .before .before .place-in-round .ensures)))
 
 returns-2 : tie.Need-returns-2
 returns-2 c =
     let a = c .before .before .before .args in
-    sym (turns-later (a .last) (a .desk) (a .p) (a .other) (omega (arith, c .if1 .left, c .before .place-in-round2 .ensures, c .before .before .place-in-round .ensures)))
+    omega (arith, turns-later (a .last) (a .desk) (a .p) (a .other) (omega (arith, c .if1 .left, c .before .place-in-round2 .ensures, c .before .before .place-in-round .ensures)))
 
 pub turns-spec : {M : Type 1} → statement M
 turns-spec =
