@@ -1,6 +1,6 @@
 -- `desks::turns::from_other` meets its contract. Assumes nothing.
 use Prim.Native.Nat.{min}
-use mathlib.Core.Path.{sym, ap, ap₂, _∙_}
+use mathlib.Core.Path.{sym, ap₂, _∙_}
 use native.Mathlib.Omega.{arith}
 use Rattle.desks.proofs.Rounds.{other-own, other-one}
 use borrow.Author.Needs.{needs}
