@@ -1,30 +1,26 @@
 -- The exact number of jobs that go before one: each hand-out before it brings the figure down by one.
 use Prim.Native.Nat.{ℕ, zero, suc, _+_, _≤_, _<_, min}
-use mathlib.Core.Path.{_≡_, refl, sym, ap, ap₂, _∙_}
+use mathlib.Core.Path.{_≡_, refl, sym, ap, ap₂, _∙_, subst}
 use mathlib.Core.Logic.{_≢_}
-use mathlib.Core.Bool.{Bool, true, false, cond, not, true≢false}
+use mathlib.Core.Bool.{cond, not}
 use mathlib.Core.List.{List, [], _∷_, _++_}
 use native.Mathlib.Omega.{arith}
 use borrow.Author.Tests.{eq-eqb, ne-eqb}
 use lib.Dec.{T}
-use lib.ListN.{length, length-append, getD, drop, replicate}
+use lib.ListN.{length, length-append, replicate}
 use Rattle.model.specs.Sum.{sumOver}
 use Rattle.model.proofs.Sums.{sum-cong, sum-more, sum-bound}
 use Rattle.desks.specs.Round.{placeInRound, turns, otherThan, jobsBefore}
-use Rattle.desks.specs.State.{Job, State, Handed, Work, replaced, joined, before}
+use Rattle.desks.specs.State.{Job, State, Handed, Work, replaced, joined, served, before}
 use Rattle.desks.specs.Run.{handOut, event, next, log, handedIn, outIn, all, handed, out}
 use Rattle.desks.specs.Claim.{Exactly}
 use Rattle.desks.proofs.Rounds.{place-below, place-served, place-after, place-other, turns-earlier, turns-later}
 use Rattle.desks.proofs.States.{IsFirst, by-less}
-use Rattle.desks.proofs.Runs.{served, by-turn}
+use Rattle.desks.proofs.Runs.{by-turn}
 
 -- ---- the other desks
 is-other : (d e : ℕ) → T (otherThan d e) → e ≢ d
-is-other d e t h = none (otherThan d e) (ap not (eq-eqb e d h)) t
-  where
-    none : (b : Bool) → b ≡ false → T b → ⊥
-    none true f u = true≢false f
-    none false f u = u
+is-other d e t h = subst T (ap not (eq-eqb e d h)) t
 
 kept : (s : State) (w : Work) (e : ℕ) → e ≢ w .desk → served s w .queue e ≡ s .queue e
 unfolding replaced
@@ -101,12 +97,6 @@ unfolding jobsBefore
 own-counted s d p = omega arith
 
 -- ---- the run of hand-outs
-first-of : (a b : Job) (xs ys : List Job) → a ∷ xs ≡ b ∷ ys → a ≡ b
-first-of a b xs ys e = ap (λ (l : List Job). getD l 0 a) e
-
-rest-of : (a b : Job) (xs ys : List Job) → a ∷ xs ≡ b ∷ ys → xs ≡ ys
-rest-of a b xs ys e = ap (drop 1) e
-
 -- the figure is 0: the job is its desk's oldest, and it is its desk's turn
 exactly-zero : (s : State) (d : ℕ) (older : List Job) (job : Job) (younger : List Job) → d < 8 → s .queue d ≡ older ++ job ∷ younger
     → before s d (length older) ≡ 0 → Exactly 0 s d older job
@@ -116,7 +106,10 @@ exactly-zero s d [] job younger h e f = record {
   own = refl;
   its =
       by-turn s d h (omega (arith, ap length e)) (λ given own queue t. own ++ [] ≡ job ∷ [])
-      (λ w i o. ap (λ j. j ∷ []) (first-of _ _ _ _ (sym (i .has) ∙ ap (s .queue) (sym o) ∙ e)))
+      (λ w i o.
+      let l : w .oldest ∷ w .others ≡ job ∷ younger = sym (i .has) ∙ ap (s .queue) (sym o) ∙ e in
+      let j : w .oldest ≡ job = cc in
+      ap (λ x. x ∷ []) j)
       (λ w i b. absurd (omega (arith, f, earlier-served s d 0 w h i b)));
 }
 exactly-zero s d (x ∷ older) job younger h e f = absurd (omega (arith, f, own-counted s d (length (x ∷ older))))
@@ -146,9 +139,10 @@ exactly-suc n s d older job younger h e f on =
         → Then n d jobs job (record { desk = w .desk; job = w .oldest } ∷ []) (w .oldest ∷ []) (served s w)
     own-turn [] c g w i o q = absurd (omega (arith, g, own-none s d w i o))
     own-turn (x ∷ jobs) c g w i o q =
-        let l = sym (i .has) ∙ ap (s .queue) (sym o) ∙ c in
-        let r = on (served s w) jobs (q ∙ rest-of _ _ _ _ l) (omega (arith, g, own-one s d (length jobs) w i o)) in
-        let j = first-of _ _ _ _ l in
+        let l : w .oldest ∷ w .others ≡ x ∷ (jobs ++ job ∷ younger) = sym (i .has) ∙ ap (s .queue) (sym o) ∙ c in
+        let j : w .oldest ≡ x = cc in
+        let k : w .others ≡ jobs ++ job ∷ younger = cc in
+        let r = on (served s w) jobs (q ∙ k) (omega (arith, g, own-one s d (length jobs) w i o)) in
         (omega (arith, r .jobs), ap₂ (λ y (ys : List Job). y ∷ ys) j (r .own), ap₂ (λ y (ys : List Job). y ∷ ys) j (r .its))
 
 pub exactly : (n : ℕ) (s : State) (d : ℕ) (older : List Job) (job : Job) (younger : List Job) → d < 8 → s .queue d ≡ older ++ job ∷ younger

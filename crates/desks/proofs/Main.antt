@@ -7,6 +7,7 @@ use lib.ListN.{length, length-append, take, drop, take-append-drop}
 use lib.Seq.{drop-append-seam, drop-append-le, take-append-seam, take-append-le}
 use Rattle.model.specs.Outcome.{good}
 use Rattle.model.proofs.Outcomes.{good-refused, good-same}
+use Rattle.model.proofs.Searches.{le-of-not-lt}
 use Rattle.desks.specs.State.{Job, State, Acceptance, empty, joined, nextJob, submitted}
 use Rattle.desks.specs.Run.{Call, log, after, handedIn, accepted, handed, handOuts}
 use Rattle.desks.specs.Claim.{Exactly, AtMost, Claim}
@@ -61,11 +62,8 @@ all-served : (s : State) (calls : List Call) (d : ℕ) → d < 8 → length (s .
     → (more : List Job) × (handed d (log s calls) ≡ s .queue d ++ more)
 all-served s calls d h f o =
     let l : length (s .queue d) ≤ length (handed d (log s calls)) =
-    no-less (λ m. omega (arith, f, o, place-below (s .last) d, waits calls s d (length (handed d (log s calls))) h m (omega arith))) in
+    le-of-not-lt (λ m. omega (arith, f, o, place-below (s .last) d, waits calls s d (length (handed d (log s calls))) h m (omega arith))) in
     (_, later-cut (s .queue d) _ _ _ (conserved calls s d) l)
-  where
-    no-less : {m n : ℕ} → (n < m → ⊥) → m ≤ n
-    no-less e = omega arith
 
 served : (before calls : List Call) (d : ℕ) → d < 8 → 32 ≤ handOuts calls
     → (more : List Job) × (handed d (log empty (before ++ calls)) ≡ accepted d (log empty before) ++ more)

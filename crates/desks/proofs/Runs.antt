@@ -1,12 +1,12 @@
 -- Laws of runs, from any state on.
 use Prim.Native.Nat.{ℕ, suc, _+_, _-_, _*_, _≤_, _<_}
 use mathlib.Core.Path.{_≡_, refl, sym, ap, _∙_}
-use mathlib.Core.Logic.{_≢_}
 use mathlib.Core.Bool.{cond}
 use mathlib.Core.List.{List, [], _∷_, _++_, append-assoc, append-nil}
 use native.Mathlib.Omega.{arith}
 use lib.ListN.{length, length-append}
-use Rattle.desks.specs.State.{Job, State, Handed, Work, replaced, joined, nextJob, handOf, submitted}
+use Rattle.desks.specs.State.{Job, State, Handed, Work, replaced, joined, nextJob, served, handOf, submitted}
+use Rattle.model.proofs.Searches.{le-of-not-lt}
 use Rattle.desks.specs.Round.{placeInRound}
 use Rattle.desks.specs.Run.{Call, submit, handOut, Event, submission, hand, event, next, log, after, acceptedIn, handedIn, outIn, all, accepted, handed, out, handOuts}
 use Rattle.desks.proofs.States.{by-submit, by-hand-out, IsFirst, first-work, no-work, by-desk}
@@ -101,10 +101,6 @@ submit-keeps desk tag s d =
           (λ e. omega arith),
     ))
 
--- the state once a desk is served
-abbrev pub served : State → Work → State
-served s w = record { queue = replaced (w .desk) (w .others) (s .queue); last = w .desk; counter = s .counter }
-
 -- A hand-out while desk d has work takes its oldest job or that of a desk that comes earlier: what it gives, what it gives of desk d, what then waits
 -- of desk d, and the state.
 pub by-turn : (s : State) (d : ℕ) → d < 8 → 0 < length (s .queue d) → (P : List Handed → List Job → List Job → State → Type 0)
@@ -121,10 +117,9 @@ by-turn s d h q P own earlier =
     by-desk d (w .desk)
     (λ b. P (record { desk = w .desk; job = w .oldest } ∷ []) (cond b (w .oldest ∷ []) []) (cond b (w .others) (s .queue d)) (served s w))
     (own w i)
-    (λ o. earlier w i (less (λ l. omega (arith, q, ap length (i .passed d h l))) (place-other (s .last) d (w .desk) h (i .below) o))))
-  where
-    less : {m n : ℕ} → (m < n → ⊥) → m ≢ n → n < m
-    less a b = omega arith
+    (λ o.
+    let no-later : placeInRound (s .last) (w .desk) ≤ placeInRound (s .last) d = le-of-not-lt (λ l. omega (arith, q, ap length (i .passed d h l))) in
+    earlier w i (omega (arith, no-later, place-other (s .last) d (w .desk) h (i .below) o))))
 
 -- A job with p older ones of its desk: while it waits, the hand-outs called are at most 8p and its desk's place in the round.
 pub waits : (calls : List Call) (s : State) (d p : ℕ) → d < 8 → p < length (s .queue d) → length (handed d (log s calls)) ≤ p

@@ -90,13 +90,14 @@ workAt s k = work (inRound (s .last) k) (s .queue (inRound (s .last) k))
 unfoldable pub firstWork : State → Option Work
 firstWork s = first 8 (workAt s)
 
+-- a desk is served: its oldest job leaves its queue, and it is the last one served
+abbrev pub served : State → Work → State
+served s w = record { queue = replaced (w .desk) (w .others) (s .queue); last = w .desk; counter = s .counter }
+
 -- "A hand-out takes the oldest job"; "14: hand-out with nothing waiting. .. place .. 0 for 14"
 unfoldable pub handOf : State → Option Work → Result Handed
 handOf s none = record { answer = refused nothingWaits 0 0; state = s }
-handOf s (some w) = record {
-  answer = good (record { desk = w .desk; job = w .oldest });
-  state = record { queue = replaced (w .desk) (w .others) (s .queue); last = w .desk; counter = s .counter };
-}
+handOf s (some w) = record { answer = good (record { desk = w .desk; job = w .oldest }); state = served s w }
 
 abbrev pub handedOut : State → Result Handed
 handedOut s = handOf s (firstWork s)

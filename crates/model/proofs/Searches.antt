@@ -75,7 +75,7 @@ unfolding orElse
 or-some none p a e = inr (refl, e)
 or-some (some b) p a e = inl e
 
-le-of-not-lt : {k j : ℕ} → ¬ (j < k) → k ≤ j
+pub le-of-not-lt : {k j : ℕ} → ¬ (j < k) → k ≤ j
 le-of-not-lt h = omega arith
 
 module _ {A : Type 0} (f : ℕ → Option A) where

@@ -20,12 +20,10 @@ unfolding sumOver
 sum-next n p x = ap (λ m. sumOver m p x) (add-one n)
 
 pub sum-take : (n : ℕ) (p : ℕ → Bool) (x : ℕ → ℕ) → p n ≡ true → sumOver (n + 1) p x ≡ sumOver n p x + x n
-unfolding sumOver
-sum-take n p x e = rw add-one (ap (λ (b : Bool). sumOver n p x + cond b (x n) 0) e)
+sum-take n p x e = sum-next n p x ∙ ap (λ (b : Bool). sumOver n p x + cond b (x n) 0) e
 
 pub sum-skip : (n : ℕ) (p : ℕ → Bool) (x : ℕ → ℕ) → p n ≡ false → sumOver (n + 1) p x ≡ sumOver n p x
-unfolding sumOver
-sum-skip n p x e = rw add-one (ap (λ (b : Bool). sumOver n p x + cond b (x n) 0) e ∙ add-zero (sumOver n p x))
+sum-skip n p x e = sum-next n p x ∙ ap (λ (b : Bool). sumOver n p x + cond b (x n) 0) e ∙ add-zero (sumOver n p x)
 
 -- ---- order, sums and multiples
 
