@@ -113,7 +113,9 @@ void pavuneshil_step_bound(uint64_t scratch, uint64_t overrun, uint64_t answer[4
  *   - a desk's jobs are handed out in the order of submission, none twice, and none that was not accepted;
  *   - if nobody submits after it, exactly as many jobs are handed out before a job as its submission was answered;
  *   - whoever submits, at most 8 p + 7 are, where p jobs of its desk are older: at most seven once it is the oldest;
- *   - every job has been handed out once 32 hand-outs have been called after it was accepted.
+ *   - every job has been handed out once 32 hand-outs have been called after it was accepted;
+ *   - a desk's job numbers say nothing of the other desks: its n-th accepted submission, counted from 0, has number
+ *     n % 4,294,967,295 + 1, so that of the jobs waiting no two share both desk and number.
  *
  * The state is six parts, and every value of them is a state. A desk has a ring of four places: the job of desk d
  * before which i others of that desk wait is at place 4 * d + (oldest[d] + i) % 4 of numbers and of tags.
@@ -124,7 +126,7 @@ typedef struct pavuneshil_desks {
     uint8_t oldest[8];    /* where in its ring a desk's oldest job is; taken modulo 4 */
     uint8_t waiting[8];   /* how many jobs of a desk wait; more than 4 is taken as 4 */
     uint8_t last;         /* the desk served last, at first 7; taken modulo 8 */
-    uint32_t counter;     /* the job number given last, at first 0 */
+    uint32_t counters[8]; /* the job number that a desk was given last, at first 0 */
 } pavuneshil_desks;
 
 /*
@@ -133,18 +135,19 @@ typedef struct pavuneshil_desks {
  */
 
 /*
- * Makes the state empty: nothing waits, the round begins at desk 0, and job numbers at 1.
+ * Makes the state empty: nothing waits, the round begins at desk 0, and each desk's job numbers at 1.
  */
 void pavuneshil_none_waiting(uint32_t numbers[32], uint32_t tags[32], uint8_t oldest[8], uint8_t waiting[8],
-                             uint8_t *last, uint32_t *counter);
+                             uint8_t *last, uint32_t counters[8]);
 
 /*
- * A desk submits a job. { PAVUNESHIL_DONE, number, before, 0 }: it waits behind the desk's other jobs, and has the next
- * job number, which returns to 1 after 4,294,967,295; so many jobs are handed out before it if nobody submits again.
+ * A desk submits a job. { PAVUNESHIL_DONE, number, before, 0 }: it waits behind the desk's other jobs, and has the
+ * desk's next job number, which returns to 1 after 4,294,967,295; so many jobs are handed out before it if nobody
+ * submits again.
  * Refused: 12 where desk is not 0 to 7; then 13.
  */
 void pavuneshil_submit(uint32_t numbers[32], uint32_t tags[32], uint8_t oldest[8], uint8_t waiting[8], uint8_t *last,
-                       uint32_t *counter, uint64_t desk, uint32_t tag, uint64_t answer[4]);
+                       uint32_t counters[8], uint64_t desk, uint32_t tag, uint64_t answer[4]);
 
 /*
  * Hands out a job. { PAVUNESHIL_DONE, desk, number, tag }: the oldest job of the first desk with work, going round from
@@ -152,25 +155,25 @@ void pavuneshil_submit(uint32_t numbers[32], uint32_t tags[32], uint8_t oldest[8
  * Refused: 14.
  */
 void pavuneshil_hand_out(uint32_t numbers[32], uint32_t tags[32], uint8_t oldest[8], uint8_t waiting[8], uint8_t *last,
-                         uint32_t *counter, uint64_t answer[4]);
+                         uint32_t counters[8], uint64_t answer[4]);
 
 /* Makes the state empty: see pavuneshil_none_waiting. */
 static inline void pavuneshil_desks_empty(pavuneshil_desks *desks)
 {
-    pavuneshil_none_waiting(desks->numbers, desks->tags, desks->oldest, desks->waiting, &desks->last, &desks->counter);
+    pavuneshil_none_waiting(desks->numbers, desks->tags, desks->oldest, desks->waiting, &desks->last, desks->counters);
 }
 
 /* A desk submits a job: see pavuneshil_submit. */
 static inline void pavuneshil_desks_submit(pavuneshil_desks *desks, uint64_t desk, uint32_t tag, uint64_t answer[4])
 {
-    pavuneshil_submit(desks->numbers, desks->tags, desks->oldest, desks->waiting, &desks->last, &desks->counter, desk,
+    pavuneshil_submit(desks->numbers, desks->tags, desks->oldest, desks->waiting, &desks->last, desks->counters, desk,
                       tag, answer);
 }
 
 /* Hands out a job: see pavuneshil_hand_out. */
 static inline void pavuneshil_desks_hand_out(pavuneshil_desks *desks, uint64_t answer[4])
 {
-    pavuneshil_hand_out(desks->numbers, desks->tags, desks->oldest, desks->waiting, &desks->last, &desks->counter,
+    pavuneshil_hand_out(desks->numbers, desks->tags, desks->oldest, desks->waiting, &desks->last, desks->counters,
                         answer);
 }
 

@@ -1,7 +1,7 @@
 /*
  * A fair hand-out: desk 2 submits three jobs before desk 5 submits its first, and still the two are served in turn. A job
- * is told how many go before it if nobody submits again: so it is for the last, while two of desk 5 come before number 3.
- * Then one call of each kind that is refused. Prints a line for each call.
+ * is told how many go before it if nobody submits again: so it is for the last, while two of desk 5 come before number 3
+ * of desk 2. Each desk has job numbers of its own. Then one call of each kind that is refused. Prints a line for each call.
  *
  *     rt staticlib pavuneshil
  *     cc -Iinclude examples/c/desks.c target/staticlib/libpavuneshil.a -o desks

@@ -1,6 +1,7 @@
 -- What is claimed of jobs, over every run.
-use Prim.Native.Nat.{ℕ, _+_, _*_, _≤_, _<_}
+use Prim.Native.Nat.{ℕ, _+_, _*_, _%_, _≤_, _<_}
 use mathlib.Core.Path.{_≡_, refl, sym, ap, _∙_, subst}
+use mathlib.Core.Logic.{_≢_}
 use mathlib.Core.List.{List, [], _∷_, _++_, append-assoc}
 use native.Mathlib.Omega.{arith}
 use lib.ListN.{length, length-append, take, drop, take-append-drop}
@@ -8,13 +9,14 @@ use lib.Seq.{drop-append-seam, drop-append-le, take-append-seam, take-append-le}
 use Rattle.model.specs.Outcome.{good}
 use Rattle.model.proofs.Outcomes.{good-refused, good-same}
 use Rattle.model.proofs.Searches.{le-of-not-lt}
-use Rattle.desks.specs.State.{Job, State, Acceptance, empty, joined, nextJob, submitted}
-use Rattle.desks.specs.Run.{Call, log, after, handedIn, accepted, handed, handOuts}
+use Rattle.desks.specs.State.{Job, State, Acceptance, empty, nextNumber, joined, nextJob, submitted}
+use Rattle.desks.specs.Run.{Call, log, after, handedIn, accepted, handed, attempts, handOuts}
 use Rattle.desks.specs.Claim.{Exactly, AtMost, Claim}
 use Rattle.desks.proofs.States.{by-submit}
 use Rattle.desks.proofs.Rounds.{place-below}
 use Rattle.desks.proofs.Runs.{log-append, all-append, four-wait, conserved, out-most, waits}
 use Rattle.desks.proofs.Exact.{exactly-joined}
+use Rattle.desks.proofs.Counters.{given, accepted-given, given-number}
 
 -- nothing waits at first
 nothing-yet : (d : ℕ) → empty .queue d ≡ []
@@ -33,8 +35,8 @@ exact s desk tag a e =
     by-submit desk tag s
     (λ r. r .answer ≡ good a → Exactly (a .before) (r .state) desk (s .queue desk) (record { number = a .number; tag = tag }))
     (λ c place h. absurd (good-refused a c place 0 h))
-    (λ k l h. subst (λ (x : Acceptance). Exactly (x .before) (joined desk (nextJob tag s) s) desk (s .queue desk) (record { number = x .number; tag = tag })) (good-same _ a h)
-    (exactly-joined s desk (nextJob tag s) k))
+    (λ k l h. subst (λ (x : Acceptance). Exactly (x .before) (joined desk (nextJob desk tag s) s) desk (s .queue desk) (record { number = x .number; tag = tag })) (good-same _ a h)
+    (exactly-joined s desk (nextJob desk tag s) k))
     e
 
 -- while a job with p older ones waits, at most 8p + 7 jobs are handed out
@@ -78,6 +80,26 @@ served before calls d h o =
           ∙ ap (λ (l : List Job). l ++ a .0) (sym (order before d)),
     )
 
+numbers : (calls : List Call) (d : ℕ) (older : List Job) (job : Job) (younger : List Job)
+    → accepted d (log empty calls) ≡ older ++ job ∷ younger → job .number ≡ length older % 4294967295 + 1
+unfolding empty nextNumber
+numbers calls d older job younger e =
+    omega (arith, given-number (attempts d (log empty calls)) (empty .counter d) 0 older job younger refl (sym (accepted-given calls empty d) ∙ e))
+
+-- of the numbers of four jobs in a row no two are the same
+distinct : (calls : List Call) (d : ℕ) (older : List Job) (one : Job) (between : List Job) (other : Job) (younger : List Job)
+    → after empty calls .queue d ≡ older ++ one ∷ (between ++ other ∷ younger) → one .number ≢ other .number
+distinct calls d older one between other younger e same =
+    let l : List Job = handed d (log empty calls) ++ older in
+    let a = order calls d ∙ ap (λ (q : List Job). handed d (log empty calls) ++ q) e ∙ sym (append-assoc (handed d (log empty calls)) older _) in
+    let few = ap length e ∙ length-append older (one ∷ (between ++ other ∷ younger)) in
+    let m = numbers calls d l one (between ++ other ∷ younger) a in
+    let n = numbers calls d (l ++ one ∷ between) other younger (a ∙ sym (append-assoc l (one ∷ between) (other ∷ younger))) in
+    omega (arith, same, m, n, length-append l (one ∷ between), four calls d, few, length-append between (other ∷ younger))
+
+independent : (one other : List Call) (d : ℕ) → attempts d (log empty one) ≡ attempts d (log empty other) → accepted d (log empty one) ≡ accepted d (log empty other)
+independent one other d e = accepted-given one empty d ∙ ap (given (empty .counter d)) e ∙ sym (accepted-given other empty d)
+
 pub claim : Claim
 claim = record {
   four = four;
@@ -86,4 +108,7 @@ claim = record {
   most = λ p. at-most p _ (omega arith);
   seven = at-most 0 _ (omega arith);
   served = λ before calls d h o. served before calls d h (omega (arith, o));
+  numbers = numbers;
+  distinct = distinct;
+  independent = independent;
 }

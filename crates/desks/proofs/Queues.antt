@@ -42,20 +42,23 @@ seen-some s d h =
     ap (λ n. listed n (jobAt s d)) e ∙ listed-front (min (getD (s .waiting) d 0) 4 - 1) (jobAt s d)
 
 -- two states with the same parts
-state-is : (s t : State) → ((d : ℕ) → s .queue d ≡ t .queue d) → s .last ≡ t .last → s .counter ≡ t .counter → s ≡ t
+state-is : (s t : State) → ((d : ℕ) → s .queue d ≡ t .queue d) → s .last ≡ t .last → ((d : ℕ) → s .counter d ≡ t .counter d) → s ≡ t
 state-is s t q l c =
     ap (λ f. record { queue = f; last = s .last; counter = s .counter }) (fun-ext q)
-    ∙ ap₂ (λ a b. record { queue = t .queue; last = a; counter = b }) l c
+    ∙ ap₂ (λ a b. record { queue = t .queue; last = a; counter = b }) l (fun-ext c)
 
--- ---- nothing waits
+-- ---- nothing waits, and no number was given
 no-count : (n d : ℕ) → _≡_ {A = ℕ} (getD (replicate n 0) d 0) 0
 no-count zero d = refl
 no-count (suc n) zero = refl
 no-count (suc n) (suc d) = no-count n d
 
-pub seen-empty : (s : Desks) → s .waiting ≡ replicate 8 0 → s .last ≡ 7 → s .counter ≡ 0 → seen s ≡ empty
+pub seen-empty : (s : Desks) → s .waiting ≡ replicate 8 0 → s .last ≡ 7 → s .counters ≡ replicate 8 0 → seen s ≡ empty
 unfolding empty seen
-seen-empty s w l c = state-is (seen s) empty (λ d. seen-none s d (ap (λ x. getD x d 0) w ∙ no-count 8 d)) l c
+seen-empty s w l c = state-is (seen s) empty (λ d. seen-none s d (zero-at w d)) l (zero-at c)
+  where
+    zero-at : {l : List ℕ} → l ≡ replicate 8 0 → (d : ℕ) → getD l d 0 ≡ 0
+    zero-at e d = ap (λ x. getD x d 0) e ∙ no-count 8 d
 
 -- ---- a job is put into its place
 abbrev stored : Desks → ℕ → ℕ → ℕ → ℕ → Desks
@@ -65,8 +68,16 @@ stored s d at number tag = record {
   oldest = s .oldest;
   waiting = set (s .waiting) d (getD (s .waiting) d 0 + 1);
   last = s .last;
-  counter = number;
+  counters = set (s .counters) d number;
 }
+
+-- the desk's counter is replaced
+set-replaced : (l : List ℕ) (d v e : ℕ) → d < length l → getD (set l d v) e 0 ≡ replaced d v (λ i. getD l i 0) e
+unfolding replaced
+set-replaced l d v e h =
+    by-desk e d (λ b. getD (set l d v) e 0 ≡ cond b v (getD l e 0))
+    (λ o. ap (λ i. getD (set l d v) i 0) o ∙ getD-set-same l d v 0 h)
+    (λ o. getD-set-other l d e v 0 o)
 
 -- the jobs at other places stay
 stored-other : (s : Desks) (d at number tag e i : ℕ) → placeOf s e i ≢ at → jobAt (stored s d at number tag) e i ≡ jobAt s e i
@@ -82,10 +93,10 @@ stored-here s d at number tag i e h k =
     ∙ ap₂ (λ a b. record { number = a; tag = b }) (getD-set-same (s .numbers) at number 0 h) (getD-set-same (s .tags) at tag 0 k)
 
 pub stored-joins : (s : Desks) (d at number tag : ℕ) → at ≡ placeOf s d (getD (s .waiting) d 0) → d < 8 → getD (s .waiting) d 0 < 4
-    → length (s .numbers) ≡ 32 → length (s .tags) ≡ 32 → length (s .waiting) ≡ 8
+    → length (s .numbers) ≡ 32 → length (s .tags) ≡ 32 → length (s .waiting) ≡ 8 → length (s .counters) ≡ 8
     → seen (stored s d at number tag) ≡ joined d (record { number = number; tag = tag }) (seen s)
 unfolding joined replaced seen listed
-stored-joins s d at number tag a h l n g w =
+stored-joins s d at number tag a h l n g w c =
     let t : Desks = stored s d at number tag in
     let job : Job = record { number = number; tag = tag } in
     let k : ℕ = getD (s .waiting) d 0 in
@@ -104,7 +115,7 @@ stored-joins s d at number tag a h l n g w =
     (λ o.
     ap (λ x. listed (min x 4) (jobAt t e)) (getD-set-other (s .waiting) d e (k + 1) 0 o)
     ∙ listed-cong (jobAt t e) (jobAt s e) (min (getD (s .waiting) e 0) 4) (λ i x. stored-other s d at number tag e i (λ y. o (omega (arith, y, a))))))
-    refl refl
+    refl (λ e. set-replaced (s .counters) d number e (omega (arith, c, h)))
 
 -- ---- the oldest job is taken
 abbrev taken : Desks → ℕ → ℕ → Desks
@@ -114,7 +125,7 @@ taken s d count = record {
   oldest = set (s .oldest) d (getD (s .oldest) d 0 % 4 + 1);
   waiting = set (s .waiting) d (count - 1);
   last = d;
-  counter = s .counter;
+  counters = s .counters;
 }
 
 taken-same : (s : Desks) (d count i : ℕ) → d < length (s .oldest) → jobAt (taken s d count) d i ≡ jobAt s d (suc i)
@@ -165,7 +176,7 @@ taken-leaves s d count c h l o w =
     (λ y.
     ap (λ x. listed (min x 4) (jobAt t e)) (getD-set-other (s .waiting) d e (count - 1) 0 y)
     ∙ listed-cong (jobAt t e) (jobAt s e) (min (getD (s .waiting) e 0) 4) (λ i x. taken-other s d count e i y)))
-    refl refl
+    refl (λ e. refl)
     ∙ ap (λ v. handOf (seen s) v .state) (sym (seen-work s d l))
 
 -- and answered

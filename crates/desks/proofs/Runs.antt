@@ -33,8 +33,8 @@ four-in : (c : Call) (s : State) (d : ℕ) → length (s .queue d) ≤ 4 → len
 unfolding joined replaced handOf
 four-in (submit desk tag) s d h =
     by-submit desk tag s (λ r. length (r .state .queue d) ≤ 4) (λ c place. h)
-    (λ k l. by-desk d desk (λ b. length (cond b (s .queue desk ++ nextJob tag s ∷ []) (s .queue d)) ≤ 4)
-    (λ e. omega (arith, l, length-append (s .queue desk) (nextJob tag s ∷ [])))
+    (λ k l. by-desk d desk (λ b. length (cond b (s .queue desk ++ nextJob desk tag s ∷ []) (s .queue d)) ≤ 4)
+    (λ e. omega (arith, l, length-append (s .queue desk) (nextJob desk tag s ∷ [])))
     (λ e. h))
 four-in handOut s d h =
     by-hand-out s (λ r. length (r .state .queue d) ≤ 4) (λ n. h)
@@ -53,8 +53,8 @@ unfolding joined replaced handOf
 conserved-in (submit desk tag) s d =
     by-submit desk tag s (λ r. s .queue d ++ acceptedIn d (submission desk tag (r .answer)) ≡ r .state .queue d)
     (λ c place. append-nil (s .queue d))
-    (λ k l. by-desk d desk (λ b. s .queue d ++ cond b (nextJob tag s ∷ []) [] ≡ cond b (s .queue desk ++ nextJob tag s ∷ []) (s .queue d))
-    (λ e. ap (λ (i : ℕ). s .queue i ++ nextJob tag s ∷ []) e)
+    (λ k l. by-desk d desk (λ b. s .queue d ++ cond b (nextJob desk tag s ∷ []) [] ≡ cond b (s .queue desk ++ nextJob desk tag s ∷ []) (s .queue d))
+    (λ e. ap (λ (i : ℕ). s .queue i ++ nextJob desk tag s ∷ []) e)
     (λ e. append-nil (s .queue d)))
 conserved-in handOut s d =
     by-hand-out s (λ r. s .queue d ++ [] ≡ handedIn d (hand (r .answer)) ++ r .state .queue d)
@@ -96,8 +96,8 @@ submit-keeps desk tag s d =
     (λ c place. (refl, omega arith))
     (λ k l. (
       refl,
-      by-desk d desk (λ b. length (s .queue d) ≤ length (cond b (s .queue desk ++ nextJob tag s ∷ []) (s .queue d)))
-          (λ e. omega (arith, length-append (s .queue desk) (nextJob tag s ∷ []), ap (λ (i : ℕ). length (s .queue i)) e))
+      by-desk d desk (λ b. length (s .queue d) ≤ length (cond b (s .queue desk ++ nextJob desk tag s ∷ []) (s .queue d)))
+          (λ e. omega (arith, length-append (s .queue desk) (nextJob desk tag s ∷ []), ap (λ (i : ℕ). length (s .queue i)) e))
           (λ e. omega arith),
     ))
 

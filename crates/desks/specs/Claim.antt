@@ -1,11 +1,12 @@
 -- "What is claimed of jobs .. holds over any calls from the empty state."
-use Prim.Native.Nat.{ℕ, suc, _+_, _*_, _≤_, _<_}
+use Prim.Native.Nat.{ℕ, suc, _+_, _*_, _%_, _≤_, _<_}
 use mathlib.Core.Path.{_≡_}
+use mathlib.Core.Logic.{_≢_}
 use mathlib.Core.List.{List, [], _∷_, _++_}
 use lib.ListN.{length, drop, replicate}
 use Rattle.model.specs.Outcome.{good}
 use Rattle.desks.specs.State.{Job, State, Acceptance, empty, submitted}
-use Rattle.desks.specs.Run.{Call, handOut, log, after, accepted, handed, out, handOuts}
+use Rattle.desks.specs.Run.{Call, handOut, log, after, accepted, handed, attempts, out, handOuts}
 
 -- With nothing but hand-outs from state s on, n jobs go before a job of desk d: n hand-outs give n jobs, of its own desk those older than it, and
 -- one more gives it.
@@ -43,3 +44,13 @@ pub record Claim : Type 0 where
   -- No loss: with 32 hand-outs after it, whatever else is called between them, every job accepted is handed out.
   pub served : (before calls : List Call) (d : ℕ) → d < 8 → 32 ≤ handOuts calls
       → (more : List Job) × (handed d (log empty (before ++ calls)) ≡ accepted d (log empty before) ++ more)
+  -- "Each desk now has a job counter of its own, from 1 with the same return, moved by its accepted submissions alone": a job's number is told by
+  -- how many of its desk were accepted before it.
+  pub numbers : (calls : List Call) (d : ℕ) (older : List Job) (job : Job) (younger : List Job)
+      → accepted d (log empty calls) ≡ older ++ job ∷ younger → job .number ≡ length older % 4294967295 + 1
+  -- "Of the jobs waiting, no two share both desk and number."
+  pub distinct : (calls : List Call) (d : ℕ) (older : List Job) (one : Job) (between : List Job) (other : Job) (younger : List Job)
+      → after empty calls .queue d ≡ older ++ one ∷ (between ++ other ∷ younger) → one .number ≢ other .number
+  -- A desk's numbers say nothing of the other desks: two runs that agree on its calls, and on whether they were accepted, give it the same.
+  pub independent : (one other : List Call) (d : ℕ) → attempts d (log empty one) ≡ attempts d (log empty other)
+      → accepted d (log empty one) ≡ accepted d (log empty other)

@@ -43,6 +43,15 @@ handedIn d (submission desk tag answer) = []
 handedIn d (hand (good h)) = cond (eqb d (h .desk)) (h .job ∷ []) []
 handedIn d (hand (refused c place second)) = []
 
+-- a call of a desk: the tag that it submitted, and whether this was accepted
+pub data Attempt : Type 0 where
+  taken declined : (tag : ℕ) → Attempt
+
+abbrev pub attemptIn : ℕ → Event → List Attempt
+attemptIn d (submission desk tag (good a)) = cond (eqb d desk) (taken tag ∷ []) []
+attemptIn d (submission desk tag (refused c place second)) = cond (eqb d desk) (declined tag ∷ []) []
+attemptIn d (hand answer) = []
+
 -- the job of any desk that was handed out
 abbrev pub outIn : Event → List Handed
 outIn (submission desk tag answer) = []
@@ -59,6 +68,9 @@ accepted d = all (acceptedIn d)
 
 abbrev pub handed : ℕ → List Event → List Job
 handed d = all (handedIn d)
+
+abbrev pub attempts : ℕ → List Event → List Attempt
+attempts d = all (attemptIn d)
 
 abbrev pub out : List Event → List Handed
 out = all outIn

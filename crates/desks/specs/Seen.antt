@@ -20,7 +20,7 @@ unfoldable pub jobAt : Desks → ℕ → ℕ → Job
 jobAt s d i = record { number = getD (s .numbers) (placeOf s d i) 0; tag = getD (s .tags) (placeOf s d i) 0 }
 
 unfoldable pub seen : Desks → State
-seen s = record { queue = λ d. listed (min (getD (s .waiting) d 0) 4) (jobAt s d); last = s .last; counter = s .counter }
+seen s = record { queue = λ d. listed (min (getD (s .waiting) d 0) 4) (jobAt s d); last = s .last; counter = λ d. getD (s .counters) d 0 }
 
 -- "All leave the state": what a refusal hands back is the value that it was given
 abbrev pub Untouched : {A : Type 0} → Outcome A → Desks → Desks → Type 0

@@ -1,4 +1,4 @@
--- A fair hand-out for eight desks: the state, and what a submission and a hand-out make of it. Paper 02, (iv) and (ix).
+-- A fair hand-out for eight desks: the state, and what a submission and a hand-out make of it. Paper 02, (iv), (ix) and (x).
 use Prim.Native.Nat.{ℕ, _+_}
 use mathlib.Core.Bool.{cond}
 use mathlib.Core.List.{List, [], _∷_, _++_}
@@ -14,36 +14,40 @@ pub record Job : Type 0 where
   pub number : ℕ
   pub tag : ℕ
 
--- for each desk the jobs that wait, the oldest first; the last desk served; the last number given
+-- for each desk the jobs that wait, the oldest first; the last desk served; for each desk the last number given
 pub record State : Type 0 where
   pub queue : ℕ → List Job
   pub last : ℕ
-  pub counter : ℕ
+  pub counter : ℕ → ℕ
 
 -- nothing waits; "at first from desk 0", the desk after 7; numbers "from 1"
 unfoldable pub empty : State
-empty = record { queue = λ d. []; last = 7; counter = 0 }
+empty = record { queue = λ d. []; last = 7; counter = λ d. 0 }
 
 -- "the next job number, from 1, returning to 1 after 4,294,967,295"
 unfoldable pub nextNumber : ℕ → ℕ
 nextNumber n = cond (ltb n 4294967295) (n + 1) 1
 
--- the queues, with that of one desk replaced
-unfoldable pub replaced : ℕ → List Job → (ℕ → List Job) → ℕ → List Job
-replaced desk jobs queue d = cond (eqb d desk) jobs (queue d)
+-- what each desk has, with that of one desk replaced
+unfoldable pub replaced : {A : Type 0} → ℕ → A → (ℕ → A) → ℕ → A
+replaced desk x each d = cond (eqb d desk) x (each d)
 
 -- what a call comes to: what it is answered, and the state afterwards
 pub record Result (A : Type 0) : Type 0 where
   pub answer : Outcome A
   pub state : State
 
--- a job joins its desk's queue as the youngest, and its number is the last given
+-- a job joins its desk's queue as the youngest, and its number is the last that this desk was given
 unfoldable pub joined : ℕ → Job → State → State
-joined desk job s = record { queue = replaced desk (s .queue desk ++ job ∷ []) (s .queue); last = s .last; counter = job .number }
+joined desk job s = record {
+  queue = replaced desk (s .queue desk ++ job ∷ []) (s .queue);
+  last = s .last;
+  counter = replaced desk (job .number) (s .counter);
+}
 
--- "An accepted submission answers with the next job number"
-abbrev pub nextJob : ℕ → State → Job
-nextJob tag s = record { number = nextNumber (s .counter); tag = tag }
+-- "An accepted submission answers with the next job number"; "Each desk now has a job counter of its own"
+abbrev pub nextJob : ℕ → ℕ → State → Job
+nextJob desk tag s = record { number = nextNumber (s .counter desk); tag = tag }
 
 -- "On acceptance the desk learns the exact number of jobs to be handed out before its own if nobody submits again"
 pub record Acceptance : Type 0 where
@@ -56,8 +60,8 @@ before s desk p = jobsBefore (λ d. length (s .queue d)) (s .last) desk p
 
 abbrev pub accept : ℕ → ℕ → State → Result Acceptance
 accept desk tag s = record {
-  answer = good (record { number = nextJob tag s .number; before = before s desk (length (s .queue desk)) });
-  state = joined desk (nextJob tag s) s;
+  answer = good (record { number = nextJob desk tag s .number; before = before s desk (length (s .queue desk)) });
+  state = joined desk (nextJob desk tag s) s;
 }
 
 -- "12: no such desk, tested first. 13: four already wait. .. All leave the state; place the desk"

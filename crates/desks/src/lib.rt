@@ -21,8 +21,8 @@ pub struct Desks {
     pub waiting: [u8; 8],
     // The last desk served.
     pub last: u8,
-    // The last number given.
-    pub counter: u32,
+    // The last number that a desk was given.
+    pub counters: [u32; 8],
 }
 
 impl Desks {
@@ -81,7 +81,7 @@ pub fn none_waiting() -> Desks
         oldest: [0; 8],
         waiting: [0; 8],
         last: 7,
-        counter: 0,
+        counters: [0; 8],
     }
 }
 
@@ -111,7 +111,7 @@ pub fn submit(s: Desks, desk: u64, tag: u32) -> Submitted
     if Desks::WAITING <= s.waiting[d] {
         return refuse(s, 13, desk);
     }
-    let number = rings::next_number(s.counter);
+    let number = rings::next_number(s.counters[d]);
     let before = turns::jobs_before(s.waiting, s.last, d);
     let desks = rings::put(s, d, number, tag);
     Submitted {

@@ -75,7 +75,7 @@ pub fn put(s: Desks, d: usize, number: u32, tag: u32) -> Desks
     t.numbers[at] = number;
     t.tags[at] = tag;
     t.waiting[d] = waiting + 1;
-    t.counter = number;
+    t.counters[d] = number;
     t
 }
 

@@ -13,21 +13,22 @@ fn lent(
     oldest: &[u8; 8],
     waiting: &[u8; 8],
     last: u8,
-    counter: u32,
+    counters: &[u32; 8],
 ) -> Desks
-    ensures { λ r. ⌜ r ≡ record { numbers = now (numbers .entry); tags = now (tags .entry); oldest = now (oldest .entry); waiting = now (waiting .entry); last = last; counter = counter } ⌝ }
+    ensures { λ r. ⌜ r ≡ record { numbers = now (numbers .entry); tags = now (tags .entry); oldest = now (oldest .entry); waiting = now (waiting .entry); last = last; counters = now (counters .entry) } ⌝ }
 {
     let n = *numbers;
     let t = *tags;
     let o = *oldest;
     let w = *waiting;
+    let c = *counters;
     Desks {
         numbers: n,
         tags: t,
         oldest: o,
         waiting: w,
         last,
-        counter,
+        counters: c,
     }
 }
 
@@ -39,20 +40,21 @@ fn leave(
     oldest: &mut [u8; 8],
     waiting: &mut [u8; 8],
     last: &mut u8,
-    counter: &mut u32,
+    counters: &mut [u32; 8],
 )
-    ensures { λ _. ⌜ record { numbers = now (numbers .exit); tags = now (tags .exit); oldest = now (oldest .exit); waiting = now (waiting .exit); last = now (last .exit); counter = now (counter .exit) } ≡ s ⌝ }
+    ensures { λ _. ⌜ record { numbers = now (numbers .exit); tags = now (tags .exit); oldest = now (oldest .exit); waiting = now (waiting .exit); last = now (last .exit); counters = now (counters .exit) } ≡ s ⌝ }
 {
     let n = s.numbers;
     let t = s.tags;
     let o = s.oldest;
     let w = s.waiting;
+    let c = s.counters;
     *numbers = n;
     *tags = t;
     *oldest = o;
     *waiting = w;
     *last = s.last;
-    *counter = s.counter;
+    *counters = c;
 }
 
 // The empty state.
@@ -63,9 +65,9 @@ pub extern "C" fn pavuneshil_none_waiting(
     oldest: &mut [u8; 8],
     waiting: &mut [u8; 8],
     last: &mut u8,
-    counter: &mut u32,
+    counters: &mut [u32; 8],
 )
-    ensures { λ _. ⌜ seen (record { numbers = now (numbers .exit); tags = now (tags .exit); oldest = now (oldest .exit); waiting = now (waiting .exit); last = now (last .exit); counter = now (counter .exit) }) ≡ empty ⌝ }
+    ensures { λ _. ⌜ seen (record { numbers = now (numbers .exit); tags = now (tags .exit); oldest = now (oldest .exit); waiting = now (waiting .exit); last = now (last .exit); counters = now (counters .exit) }) ≡ empty ⌝ }
 {
     leave(
         desks::none_waiting(),
@@ -74,7 +76,7 @@ pub extern "C" fn pavuneshil_none_waiting(
         oldest,
         waiting,
         last,
-        counter,
+        counters,
     );
 }
 
@@ -86,18 +88,18 @@ pub extern "C" fn pavuneshil_submit(
     oldest: &mut [u8; 8],
     waiting: &mut [u8; 8],
     last: &mut u8,
-    counter: &mut u32,
+    counters: &mut [u32; 8],
     desk: u64,
     tag: u32,
     answer: &mut [u64; 4],
 )
-    ensures { λ _. ⌜ now (answer .exit) ≡ fourOfAcceptance (toldAcceptance (submitted desk tag (seen (record { numbers = now (numbers .entry); tags = now (tags .entry); oldest = now (oldest .entry); waiting = now (waiting .entry); last = now (last .entry); counter = now (counter .entry) })) .answer)) ⌝ }
-    ensures { λ _. ⌜ seen (record { numbers = now (numbers .exit); tags = now (tags .exit); oldest = now (oldest .exit); waiting = now (waiting .exit); last = now (last .exit); counter = now (counter .exit) }) ≡ submitted desk tag (seen (record { numbers = now (numbers .entry); tags = now (tags .entry); oldest = now (oldest .entry); waiting = now (waiting .entry); last = now (last .entry); counter = now (counter .entry) })) .state ⌝ }
-    ensures { λ _. ⌜ Untouched (submitted desk tag (seen (record { numbers = now (numbers .entry); tags = now (tags .entry); oldest = now (oldest .entry); waiting = now (waiting .entry); last = now (last .entry); counter = now (counter .entry) })) .answer) (record { numbers = now (numbers .entry); tags = now (tags .entry); oldest = now (oldest .entry); waiting = now (waiting .entry); last = now (last .entry); counter = now (counter .entry) }) (record { numbers = now (numbers .exit); tags = now (tags .exit); oldest = now (oldest .exit); waiting = now (waiting .exit); last = now (last .exit); counter = now (counter .exit) }) ⌝ }
+    ensures { λ _. ⌜ now (answer .exit) ≡ fourOfAcceptance (toldAcceptance (submitted desk tag (seen (record { numbers = now (numbers .entry); tags = now (tags .entry); oldest = now (oldest .entry); waiting = now (waiting .entry); last = now (last .entry); counters = now (counters .entry) })) .answer)) ⌝ }
+    ensures { λ _. ⌜ seen (record { numbers = now (numbers .exit); tags = now (tags .exit); oldest = now (oldest .exit); waiting = now (waiting .exit); last = now (last .exit); counters = now (counters .exit) }) ≡ submitted desk tag (seen (record { numbers = now (numbers .entry); tags = now (tags .entry); oldest = now (oldest .entry); waiting = now (waiting .entry); last = now (last .entry); counters = now (counters .entry) })) .state ⌝ }
+    ensures { λ _. ⌜ Untouched (submitted desk tag (seen (record { numbers = now (numbers .entry); tags = now (tags .entry); oldest = now (oldest .entry); waiting = now (waiting .entry); last = now (last .entry); counters = now (counters .entry) })) .answer) (record { numbers = now (numbers .entry); tags = now (tags .entry); oldest = now (oldest .entry); waiting = now (waiting .entry); last = now (last .entry); counters = now (counters .entry) }) (record { numbers = now (numbers .exit); tags = now (tags .exit); oldest = now (oldest .exit); waiting = now (waiting .exit); last = now (last .exit); counters = now (counters .exit) }) ⌝ }
 {
-    let s = lent(numbers, tags, oldest, waiting, *last, *counter);
+    let s = lent(numbers, tags, oldest, waiting, *last, counters);
     let r = desks::submit(s, desk, tag);
-    leave(r.desks, numbers, tags, oldest, waiting, last, counter);
+    leave(r.desks, numbers, tags, oldest, waiting, last, counters);
     let a = r.answer;
     *answer = numbers::of_submission(a);
 }
@@ -110,16 +112,16 @@ pub extern "C" fn pavuneshil_hand_out(
     oldest: &mut [u8; 8],
     waiting: &mut [u8; 8],
     last: &mut u8,
-    counter: &mut u32,
+    counters: &mut [u32; 8],
     answer: &mut [u64; 4],
 )
-    ensures { λ _. ⌜ now (answer .exit) ≡ fourOfJob (toldJob (handedOut (seen (record { numbers = now (numbers .entry); tags = now (tags .entry); oldest = now (oldest .entry); waiting = now (waiting .entry); last = now (last .entry); counter = now (counter .entry) })) .answer)) ⌝ }
-    ensures { λ _. ⌜ seen (record { numbers = now (numbers .exit); tags = now (tags .exit); oldest = now (oldest .exit); waiting = now (waiting .exit); last = now (last .exit); counter = now (counter .exit) }) ≡ handedOut (seen (record { numbers = now (numbers .entry); tags = now (tags .entry); oldest = now (oldest .entry); waiting = now (waiting .entry); last = now (last .entry); counter = now (counter .entry) })) .state ⌝ }
-    ensures { λ _. ⌜ Untouched (handedOut (seen (record { numbers = now (numbers .entry); tags = now (tags .entry); oldest = now (oldest .entry); waiting = now (waiting .entry); last = now (last .entry); counter = now (counter .entry) })) .answer) (record { numbers = now (numbers .entry); tags = now (tags .entry); oldest = now (oldest .entry); waiting = now (waiting .entry); last = now (last .entry); counter = now (counter .entry) }) (record { numbers = now (numbers .exit); tags = now (tags .exit); oldest = now (oldest .exit); waiting = now (waiting .exit); last = now (last .exit); counter = now (counter .exit) }) ⌝ }
+    ensures { λ _. ⌜ now (answer .exit) ≡ fourOfJob (toldJob (handedOut (seen (record { numbers = now (numbers .entry); tags = now (tags .entry); oldest = now (oldest .entry); waiting = now (waiting .entry); last = now (last .entry); counters = now (counters .entry) })) .answer)) ⌝ }
+    ensures { λ _. ⌜ seen (record { numbers = now (numbers .exit); tags = now (tags .exit); oldest = now (oldest .exit); waiting = now (waiting .exit); last = now (last .exit); counters = now (counters .exit) }) ≡ handedOut (seen (record { numbers = now (numbers .entry); tags = now (tags .entry); oldest = now (oldest .entry); waiting = now (waiting .entry); last = now (last .entry); counters = now (counters .entry) })) .state ⌝ }
+    ensures { λ _. ⌜ Untouched (handedOut (seen (record { numbers = now (numbers .entry); tags = now (tags .entry); oldest = now (oldest .entry); waiting = now (waiting .entry); last = now (last .entry); counters = now (counters .entry) })) .answer) (record { numbers = now (numbers .entry); tags = now (tags .entry); oldest = now (oldest .entry); waiting = now (waiting .entry); last = now (last .entry); counters = now (counters .entry) }) (record { numbers = now (numbers .exit); tags = now (tags .exit); oldest = now (oldest .exit); waiting = now (waiting .exit); last = now (last .exit); counters = now (counters .exit) }) ⌝ }
 {
-    let s = lent(numbers, tags, oldest, waiting, *last, *counter);
+    let s = lent(numbers, tags, oldest, waiting, *last, counters);
     let r = desks::hand_out(s);
-    leave(r.desks, numbers, tags, oldest, waiting, last, counter);
+    leave(r.desks, numbers, tags, oldest, waiting, last, counters);
     let a = r.answer;
     *answer = numbers::of_hand_out(a);
 }

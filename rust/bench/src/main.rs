@@ -211,7 +211,7 @@ fn desk_row<A, B>(
 
 /// Rows of the desks, with nothing waiting and with four jobs of each desk.
 fn desk_rows(rounds: &[Vec<(u64, u32)>]) {
-    let empty = (Desks::new(), second::Desks::new(&Rules::as_of(9)));
+    let empty = (Desks::new(), second::Desks::new(&Rules::as_of(10)));
     let empty = vec![empty; rounds.len()];
     let mut full = empty.clone();
     for (state, jobs) in full.iter_mut().zip(rounds) {

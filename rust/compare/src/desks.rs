@@ -1,5 +1,5 @@
 //! Calls of the eight desks, one after the other. After each, the answer and all that waits are held
-//! against the second implementation, by the rules as of request (ix); or, from six parts of any
+//! against the second implementation, by the rules as of request (x); or, from six parts of any
 //! values, which the second implementation cannot be given, against a plain model of them.
 
 use crate::call::told;
@@ -14,6 +14,14 @@ type Job = (u32, u32);
 
 /// "returning to 1 after 4,294,967,295"
 const LAST_NUMBER: u32 = 4_294_967_295;
+
+fn next_number(counter: u32) -> u32 {
+    counter % LAST_NUMBER + 1
+}
+
+fn rules() -> Rules {
+    Rules::as_of(10)
+}
 
 /// What a call is answered where it is not refused.
 #[derive(Debug, Clone, Copy, PartialEq, Eq)]
@@ -62,7 +70,7 @@ impl Beside for second::Desks {
 struct Model {
     queues: [VecDeque<Job>; 8],
     last: usize,
-    counter: u32,
+    counters: [u32; 8],
 }
 
 impl Model {
@@ -70,12 +78,10 @@ impl Model {
         Model {
             queues: std::array::from_fn(|desk| jobs(desks, desk).into()),
             last: desks.last as usize % 8,
-            counter: desks.counter,
+            counters: desks.counters,
         }
     }
-}
 
-impl Model {
     /// How many jobs are handed out before a desk's youngest one if nothing else is called.
     fn before(&self, desk: usize) -> u64 {
         let mut later = self.clone();
@@ -103,10 +109,12 @@ impl Beside for Model {
                 if queue.len() == 4 {
                     return Err(refused(13, desk));
                 }
-                self.counter = self.counter % LAST_NUMBER + 1;
-                queue.push_back((self.counter, tag));
+                let counter = &mut self.counters[desk as usize];
+                *counter = next_number(*counter);
+                let number = *counter;
+                queue.push_back((number, tag));
                 Ok(Good::Accepted(Accepted {
-                    number: self.counter,
+                    number,
                     before: self.before(desk as usize),
                 }))
             }
@@ -148,11 +156,20 @@ fn ours(desks: &mut Desks, call: Call) -> Answer {
     }
 }
 
-/// Compares what a call came to: the answer, the last number and the last desk, every queue, and
-/// after a refusal every part, bit for bit.
+/// The counters after a call: an accepted submission moves its desk's, and nothing else moves any.
+fn moved(mut counters: [u32; 8], call: Call, answer: Answer) -> [u32; 8] {
+    if let (Call::Submit(desk, _), Ok(Good::Accepted(job))) = (call, answer) {
+        counters[desk as usize] = job.number;
+    }
+    counters
+}
+
+/// Compares what a call came to: the answer, the counters and the last desk, every queue, and after
+/// a refusal every part, bit for bit.
 fn same(
     before: &Desks,
     after: &Desks,
+    call: Call,
     answer: Answer,
     expected: Answer,
     beside: &impl Beside,
@@ -162,10 +179,10 @@ fn same(
     }
     let left = match answer {
         Err(_) => after == before,
-        Ok(Good::Accepted(job)) => (after.last, after.counter) == (before.last, job.number),
-        Ok(Good::Job(job)) => (u64::from(after.last), after.counter) == (job.desk, before.counter),
+        Ok(Good::Accepted(_)) => after.last == before.last,
+        Ok(Good::Job(job)) => u64::from(after.last) == job.desk,
     };
-    if !left {
+    if !left || after.counters != moved(before.counters, call, answer) {
         return Err(format!("{answer:?}, but then {after:?}"));
     }
     for desk in 0..8 {
@@ -188,16 +205,14 @@ fn hold(name: &str, start: Desks, mut beside: impl Beside, calls: &[Call]) -> Ou
         let before = desks;
         let answer = ours(&mut desks, call);
         let expected = beside.call(call);
-        same(&before, &desks, answer, expected, &beside)
+        same(&before, &desks, call, answer, expected, &beside)
             .map_err(|why| format!("{name}, call {i}, {call:?}: {why}: {before:?}"))?;
-        match answer {
-            Err(refusal) => {
-                refusals.insert(refusal.number);
-            }
-            Ok(Good::Accepted(job)) if job.number == 1 && before.counter == LAST_NUMBER => {
-                returned = ", numbers return to 1";
-            }
-            Ok(_) => {}
+        if let Err(refusal) = answer {
+            refusals.insert(refusal.number);
+        }
+        // only a counter that returns gets smaller
+        if (0..8).any(|desk| desks.counters[desk] < before.counters[desk]) {
+            returned = ", numbers return to 1";
         }
     }
     let refusals = match refusals.len() {
@@ -208,9 +223,9 @@ fn hold(name: &str, start: Desks, mut beside: impl Beside, calls: &[Call]) -> Ou
     Ok(format!("{name}: {refusals}{returned}"))
 }
 
-/// From the empty state, or from one whose last number is near the last there is, or that one.
+/// From the empty state, or from one in which each desk's last number is near the last there is, or
+/// that one.
 pub fn from_empty(rng: &mut Rng) -> Outcome {
-    let rules = Rules::as_of(9);
     let count = rng.between(100, 400) as usize;
     let calls = desk_calls(rng, count);
     let empty = Desks::new();
@@ -218,21 +233,18 @@ pub fn from_empty(rng: &mut Rng) -> Outcome {
         return hold(
             "desks from the empty state",
             empty,
-            second::Desks::new(&rules),
+            second::Desks::new(&rules()),
             &calls,
         );
     }
-    let before_last = rng.below(100);
-    let counter = LAST_NUMBER - rng.pick(&[0, 1, 2, before_last]) as u32;
-    let next = if counter == LAST_NUMBER {
-        1
-    } else {
-        counter + 1
-    };
+    let counters = std::array::from_fn(|_| {
+        let before_last = rng.below(100);
+        LAST_NUMBER - rng.pick(&[0, 1, 2, before_last]) as u32
+    });
     hold(
         "desks from late numbers",
-        Desks { counter, ..empty },
-        second::Desks::with_next(&rules, [next; 8]),
+        Desks { counters, ..empty },
+        second::Desks::with_next(&rules(), counters.map(next_number)),
         &calls,
     )
 }
@@ -240,18 +252,17 @@ pub fn from_empty(rng: &mut Rng) -> Outcome {
 /// Six parts of any values: any counts, rings and round, mostly with room for some jobs.
 fn any_parts(rng: &mut Rng) -> Desks {
     let most = rng.pick(&[0, 1, 3, 4, 5, 255]);
-    let counter = match rng.below(3) {
-        0 => LAST_NUMBER - rng.below(10) as u32,
-        1 => rng.below(10) as u32,
-        _ => rng.any() as u32,
-    };
     Desks {
         numbers: std::array::from_fn(|_| rng.any() as u32),
         tags: std::array::from_fn(|_| rng.any() as u32),
         oldest: std::array::from_fn(|_| rng.any() as u8),
         waiting: std::array::from_fn(|_| rng.below(most + 1) as u8),
         last: rng.any() as u8,
-        counter,
+        counters: std::array::from_fn(|_| match rng.below(3) {
+            0 => LAST_NUMBER - rng.below(10) as u32,
+            1 => rng.below(10) as u32,
+            _ => rng.any() as u32,
+        }),
     }
 }
 
@@ -277,13 +288,15 @@ pub fn from_any_parts(rng: &mut Rng) -> Outcome {
 mod tests {
     use super::*;
 
+    const SUBMIT: Call = Call::Submit(3, 30);
+
     /// A state with one job, of desk 3, and a model that the same job is submitted to.
     fn submitted() -> (Desks, Desks, Answer, Model) {
         let before = Desks::new();
         let mut model = Model::of(&before);
         let mut after = before;
-        let answer = ours(&mut after, Call::Submit(3, 30));
-        assert_eq!(answer, model.call(Call::Submit(3, 30)));
+        let answer = ours(&mut after, SUBMIT);
+        assert_eq!(answer, model.call(SUBMIT));
         (before, after, answer, model)
     }
 
@@ -291,17 +304,19 @@ mod tests {
     #[test]
     fn differences_are_seen() {
         let (before, after, answer, model) = submitted();
-        let seen = |after: &Desks, answer| same(&before, after, answer, answer, &model).is_err();
-        assert!(!seen(&after, answer));
+        let differs = |after: &Desks, expected| {
+            same(&before, after, SUBMIT, answer, expected, &model).is_err()
+        };
+        assert!(!differs(&after, answer));
         for (number, jobs) in [(2, 0), (1, 1)] {
             let other = Ok(Good::Accepted(Accepted {
                 number,
                 before: jobs,
             }));
-            assert!(same(&before, &after, answer, other, &model).is_err());
+            assert!(differs(&after, other));
         }
         let place = 12 + after.oldest[3] as usize % 4;
-        let changes: [fn(&mut Desks, usize); 8] = [
+        let changes: [fn(&mut Desks, usize); 9] = [
             |desks, place| desks.numbers[place] += 1,
             |desks, place| desks.tags[place] += 1,
             |desks, _| desks.oldest[3] += 1,
@@ -309,12 +324,13 @@ mod tests {
             |desks, _| desks.waiting[3] -= 1,
             |desks, _| desks.waiting[4] += 1,
             |desks, _| desks.last = 3,
-            |desks, _| desks.counter += 1,
+            |desks, _| desks.counters[3] += 1,
+            |desks, _| desks.counters[4] += 1,
         ];
         for change in changes {
             let mut other = after;
             change(&mut other, place);
-            assert!(seen(&other, answer), "{other:?}");
+            assert!(differs(&other, answer), "{other:?}");
         }
     }
 
@@ -324,18 +340,20 @@ mod tests {
         let before = Desks::new();
         let mut model = Model::of(&before);
         let answer = model.call(Call::HandOut);
-        assert!(same(&before, &before, answer, answer, &model).is_ok());
+        let differs =
+            |after: &Desks| same(&before, after, Call::HandOut, answer, answer, &model).is_err();
+        assert!(!differs(&before));
         let changes: [fn(&mut Desks); 5] = [
             |desks| desks.numbers[31] += 1,
             |desks| desks.tags[0] += 1,
             |desks| desks.oldest[5] += 4,
             |desks| desks.last += 8,
-            |desks| desks.counter += 1,
+            |desks| desks.counters[5] += 1,
         ];
         for change in changes {
             let mut after = before;
             change(&mut after);
-            assert!(same(&before, &after, answer, answer, &model).is_err());
+            assert!(differs(&after));
         }
     }
 
@@ -349,14 +367,17 @@ mod tests {
             Call::HandOut,
         ];
         let start = Desks::new();
-        let with = |next: u32, last| {
+        let with = |counter: u32, last| {
             let mut model = Model::of(&start);
-            (model.counter, model.last) = (next - 1, last);
+            (model.counters[2], model.last) = (counter, last);
             hold("desks", start, model, &calls)
         };
-        assert_eq!(with(1, 7), Ok("desks: no refusal".to_string()));
-        assert!(with(2, 7).is_err());
-        assert!(with(1, 1).is_err());
+        assert_eq!(with(0, 7), Ok("desks: no refusal".to_string()));
+        assert!(with(1, 7).is_err());
+        assert!(with(0, 1).is_err());
+        // one counter for all desks, as before request (x)
+        let shared = second::Desks::new(&Rules::as_of(9));
+        assert!(hold("desks", start, shared, &calls).is_err());
     }
 
     /// Both, held against each other, as far as the second implementation can be given the state.
@@ -365,7 +386,7 @@ mod tests {
         let mut rng = Rng::new(404);
         for _ in 0..100 {
             let mut model = Model::of(&Desks::new());
-            let mut second = second::Desks::new(&Rules::as_of(9));
+            let mut second = second::Desks::new(&rules());
             for call in desk_calls(&mut rng, 300) {
                 assert_eq!(model.call(call), Beside::call(&mut second, call));
                 for desk in 0..8 {

@@ -38,7 +38,7 @@ fn answer(desks: &mut Desks, call: &str) -> String {
 fn stored_output() {
     let stored = Path::new(env!("CARGO_MANIFEST_DIR")).join("../../crates/desk_calls/stdout");
     let stored = std::fs::read_to_string(stored).expect("the stored output");
-    let mut desks = Desks::new(&Rules::as_of(9));
+    let mut desks = Desks::new(&Rules::as_of(10));
     let mut lines = 0;
     for line in stored.lines() {
         let (call, told) = line.split_once(':').expect("a call and its answer");

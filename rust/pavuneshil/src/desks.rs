@@ -8,7 +8,9 @@ use crate::{archive, refusal, Refusal, UNWRITTEN};
 /// twice and none that was not accepted; if nobody submits after it, exactly as many jobs are handed
 /// out before a job as it was told when it was accepted, and whoever submits, at most 8 p + 7 where p
 /// jobs of its desk are older, so at most seven once it is its desk's oldest; and every job has been
-/// handed out once 32 hand-outs have been called after it was accepted.
+/// handed out once 32 hand-outs have been called after it was accepted. A desk's job numbers say
+/// nothing of the other desks: its n-th accepted submission, counted from 0, has number
+/// n % 4,294,967,295 + 1, so that of the jobs waiting no two share both desk and number.
 ///
 /// Every value of the fields is a state. Each desk has a ring of four places: the job of desk `d`
 /// before which `i` others of that desk wait is at place `4 * d + (oldest[d] + i) % 4` of `numbers`
@@ -19,13 +21,13 @@ use crate::{archive, refusal, Refusal, UNWRITTEN};
 /// let mut desks = Desks::new();
 /// let accepted = |number, before| Ok(Accepted { number, before });
 /// assert_eq!(desks.submit(2, 201), accepted(1, 0));
-/// assert_eq!(desks.submit(5, 501), accepted(2, 1));
+/// assert_eq!(desks.submit(5, 501), accepted(1, 1));
 /// // desk 5 comes before the second job of desk 2
-/// assert_eq!(desks.submit(2, 202), accepted(3, 2));
+/// assert_eq!(desks.submit(2, 202), accepted(2, 2));
 /// let handed = |desk, number, tag| Ok(Handed { desk, number, tag });
 /// assert_eq!(desks.hand_out(), handed(2, 1, 201));
-/// assert_eq!(desks.hand_out(), handed(5, 2, 501));
-/// assert_eq!(desks.hand_out(), handed(2, 3, 202));
+/// assert_eq!(desks.hand_out(), handed(5, 1, 501));
+/// assert_eq!(desks.hand_out(), handed(2, 2, 202));
 /// assert_eq!(desks.hand_out().unwrap_err().number, 14);
 /// ```
 #[derive(Debug, Clone, Copy, PartialEq, Eq)]
@@ -40,14 +42,14 @@ pub struct Desks {
     pub waiting: [u8; 8],
     /// The desk served last, at first 7. Taken modulo 8.
     pub last: u8,
-    /// The job number given last, at first 0.
-    pub counter: u32,
+    /// The job number that a desk was given last, at first 0.
+    pub counters: [u32; 8],
 }
 
 /// What a desk learns of a job that is accepted.
 #[derive(Debug, Clone, Copy, PartialEq, Eq, Hash)]
 pub struct Accepted {
-    /// The job's number.
+    /// The job's number, from the desk's own counter.
     pub number: u32,
     /// The exact number of jobs to be handed out before this one if nobody submits again.
     pub before: u64,
@@ -73,7 +75,7 @@ macro_rules! on_parts {
                 &mut $desks.oldest,
                 &mut $desks.waiting,
                 &mut $desks.last,
-                &mut $desks.counter
+                &mut $desks.counters
                 $(, $other)*
             )
         }
@@ -81,7 +83,7 @@ macro_rules! on_parts {
 }
 
 impl Desks {
-    /// The empty state: nothing waits, the round begins at desk 0, and job numbers at 1.
+    /// The empty state: nothing waits, the round begins at desk 0, and each desk's job numbers at 1.
     pub fn new() -> Desks {
         let mut desks = Desks {
             numbers: [0; 32],
@@ -89,15 +91,15 @@ impl Desks {
             oldest: [0; 8],
             waiting: [0; 8],
             last: 0,
-            counter: 0,
+            counters: [0; 8],
         };
         on_parts!(pavuneshil_none_waiting, desks);
         desks
     }
 
-    /// A desk submits a job, which waits behind the desk's others: the next job number, which returns
-    /// to 1 after 4,294,967,295, and how many jobs go before it if nobody submits again. Refusals 12,
-    /// then 13; both leave every field as it was.
+    /// A desk submits a job, which waits behind the desk's others: the desk's next job number, which
+    /// returns to 1 after 4,294,967,295, and how many jobs go before it if nobody submits again.
+    /// Refusals 12, then 13; both leave every field as it was.
     pub fn submit(&mut self, desk: u64, tag: u32) -> Result<Accepted, Refusal> {
         let mut four = UNWRITTEN;
         on_parts!(pavuneshil_submit, self, desk, tag, &mut four);

@@ -122,7 +122,7 @@ mod archive {
             oldest: *mut [u8; 8],
             waiting: *mut [u8; 8],
             last: *mut u8,
-            counter: *mut u32,
+            counters: *mut [u32; 8],
         );
         pub fn pavuneshil_submit(
             numbers: *mut [u32; 32],
@@ -130,7 +130,7 @@ mod archive {
             oldest: *mut [u8; 8],
             waiting: *mut [u8; 8],
             last: *mut u8,
-            counter: *mut u32,
+            counters: *mut [u32; 8],
             desk: u64,
             tag: u32,
             answer: *mut [u64; 4],
@@ -141,7 +141,7 @@ mod archive {
             oldest: *mut [u8; 8],
             waiting: *mut [u8; 8],
             last: *mut u8,
-            counter: *mut u32,
+            counters: *mut [u32; 8],
             answer: *mut [u64; 4],
         );
     }

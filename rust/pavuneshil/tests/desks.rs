@@ -28,7 +28,7 @@ fn any_state() -> Desks {
         oldest: [0, 1, 2, 3, 4, 5, 6, 255],
         waiting: [4, 0, 1, 2, 3, 4, 5, 255],
         last: 250,
-        counter: 77,
+        counters: std::array::from_fn(|desk| 70 + desk as u32),
     }
 }
 
@@ -36,7 +36,8 @@ fn any_state() -> Desks {
 fn the_empty_state() {
     let desks = Desks::new();
     assert_eq!(desks, Desks::default());
-    assert_eq!((desks.waiting, desks.last, desks.counter), ([0; 8], 7, 0));
+    assert_eq!((desks.waiting, desks.last), ([0; 8], 7));
+    assert_eq!(desks.counters, [0; 8]);
 }
 
 #[test]
@@ -57,19 +58,19 @@ fn the_round() {
     }
     assert_eq!(desks.hand_out(), Err(refused(14, 0)));
     // last served was 7; after 3 comes 5, though desk 0 submitted before it
-    assert_eq!(desks.submit(3, 1), accepted(27, 0));
-    assert_eq!(desks.hand_out(), handed(3, 27, 1));
-    assert_eq!(desks.submit(0, 2), accepted(28, 0));
-    assert_eq!(desks.submit(3, 3), accepted(29, 1));
-    assert_eq!(desks.submit(5, 4), accepted(30, 0));
-    assert_eq!(desks.hand_out(), handed(5, 30, 4));
-    assert_eq!(desks.hand_out(), handed(0, 28, 2));
-    assert_eq!(desks.hand_out(), handed(3, 29, 3));
+    assert_eq!(desks.submit(3, 1), accepted(5, 0));
+    assert_eq!(desks.hand_out(), handed(3, 5, 1));
+    assert_eq!(desks.submit(0, 2), accepted(2, 0));
+    assert_eq!(desks.submit(3, 3), accepted(6, 1));
+    assert_eq!(desks.submit(5, 4), accepted(5, 0));
+    assert_eq!(desks.hand_out(), handed(5, 5, 4));
+    assert_eq!(desks.hand_out(), handed(0, 2, 2));
+    assert_eq!(desks.hand_out(), handed(3, 6, 3));
     // a desk alone is served again and again
-    assert_eq!(desks.submit(3, 5), accepted(31, 0));
-    assert_eq!(desks.submit(3, 6), accepted(32, 1));
-    assert_eq!(desks.hand_out(), handed(3, 31, 5));
-    assert_eq!(desks.hand_out(), handed(3, 32, 6));
+    assert_eq!(desks.submit(3, 5), accepted(7, 0));
+    assert_eq!(desks.submit(3, 6), accepted(8, 1));
+    assert_eq!(desks.hand_out(), handed(3, 7, 5));
+    assert_eq!(desks.hand_out(), handed(3, 8, 6));
 }
 
 #[test]
@@ -85,7 +86,7 @@ fn four_wait() {
     // a refusal takes no number; a job handed out makes room for one of its desk
     assert_eq!(desks.hand_out(), handed(0, 1, 9));
     assert_eq!(desks.submit(1, 9), Err(refused(13, 1)));
-    assert_eq!(desks.submit(0, 9), accepted(33, 31));
+    assert_eq!(desks.submit(0, 9), accepted(5, 31));
     assert_eq!(desks.submit(0, 9), Err(refused(13, 0)));
 }
 
@@ -149,16 +150,35 @@ fn no_such_desk() {
 }
 
 #[test]
+fn a_desk_has_its_own_numbers() {
+    // however many jobs of others are accepted, and however many of its own are refused, in between
+    let mut desks = Desks::new();
+    for round in 0..5 {
+        for desk in [0, 1, 2, 4, 5, 6, 7] {
+            while desks.submit(desk, 0).is_ok() {}
+        }
+        for number in 4 * round + 1..=4 * round + 4 {
+            let job = desks.submit(3, 0).expect("room for one more");
+            assert_eq!(job.number, number);
+        }
+        assert_eq!(desks.submit(3, 0), Err(refused(13, 3)));
+        while desks.waiting[3] > 0 {
+            assert!(desks.hand_out().is_ok());
+        }
+    }
+}
+
+#[test]
 fn numbers_return_to_1() {
     let mut desks = Desks::new();
-    desks.counter = LAST_NUMBER - 2;
+    desks.counters[6] = LAST_NUMBER - 2;
     for (number, before) in [(LAST_NUMBER - 1, 0), (LAST_NUMBER, 1), (1, 2), (2, 3)] {
         assert_eq!(desks.submit(6, number), accepted(number, before));
     }
     for number in [LAST_NUMBER - 1, LAST_NUMBER, 1, 2] {
         assert_eq!(desks.hand_out(), handed(6, number, number));
     }
-    desks.counter = LAST_NUMBER;
+    desks.counters[6] = LAST_NUMBER;
     assert_eq!(desks.submit(6, 0), accepted(1, 0));
 }
 
@@ -186,10 +206,10 @@ fn refusals_leave_every_field() {
 fn every_value_is_a_state() {
     let mut desks = any_state();
     // desk 1, whose ring begins at its place 1, and desk 4 at its place 0, where three jobs wait
-    assert_eq!(desks.submit(1, 5), accepted(78, 6));
-    assert_eq!((desks.numbers[5], desks.tags[5], desks.last), (78, 5, 250));
-    assert_eq!(desks.submit(4, 6), accepted(79, 19));
-    assert_eq!((desks.numbers[19], desks.tags[19]), (79, 6));
+    assert_eq!(desks.submit(1, 5), accepted(72, 6));
+    assert_eq!((desks.numbers[5], desks.tags[5], desks.last), (72, 5, 250));
+    assert_eq!(desks.submit(4, 6), accepted(75, 19));
+    assert_eq!((desks.numbers[19], desks.tags[19]), (75, 6));
     // the desk after 250 is desk 3, as 250 is taken for 2; the count 255 for 4
     let places = [
         15, 16, 21, 26, 31, 0, 5, 10, // desks 3 to 7, then 0 to 2
@@ -198,8 +218,8 @@ fn every_value_is_a_state() {
     ];
     for place in places {
         let number = match place {
-            5 => 78,
-            19 => 79,
+            5 => 72,
+            19 => 75,
             _ => 1000 + place,
         };
         let out = desks.hand_out().expect("a job waits");
@@ -207,5 +227,5 @@ fn every_value_is_a_state() {
         assert_eq!(desks.last as u64, out.desk);
     }
     assert_eq!(desks.hand_out(), Err(refused(14, 0)));
-    assert_eq!(desks.counter, 79);
+    assert_eq!(desks.counters, [70, 72, 72, 73, 75, 75, 76, 77]);
 }

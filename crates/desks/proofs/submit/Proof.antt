@@ -42,6 +42,12 @@ returns-2 c =
     (full (s .desk) (s .tag) (seen (s .t1)) (c .before .before .before .if1 .left) (omega (arith, seen-length (s .t1) (s .desk), c .before .if2 .taken)))
     (c .refuse2 .ensures .0) (c .refuse2 .ensures .1)
 
+mul-next-number : tie.Need-mul-next-number
+mul-next-number c = search needs
+
+element-copy-out-next-number : tie.Need-element-copy-out-next-number
+element-copy-out-next-number c = search needs
+
 next-number-requires : tie.Need-next-number-requires
 next-number-requires c κs = search needs
 
@@ -54,10 +60,10 @@ put-requires c κs = search needs
 returns-3 : tie.Need-returns-3
 unfolding seen
 returns-3 c =
-    let s = c .before .before .before .before .before .before .before .args in
+    let s = c .before .before .before .before .before .before .before .before .args in
     let n = c .before .before .before .next-number .ensures in
     let b = c .before .jobs-before .ensures ∙ seen-before (s .t1) (s .desk) in
-    let e = accepts (s .desk) (s .tag) (seen (s .t1)) (c .before .before .before .before .before .before .if1 .left) (omega (arith, seen-length (s .t1) (s .desk), c .before .before .before .before .if2 .left)) in (
+    let e = accepts (s .desk) (s .tag) (seen (s .t1)) (c .before .before .before .before .before .before .before .if1 .left) (omega (arith, seen-length (s .t1) (s .desk), c .before .before .before .before .before .if2 .left)) in (
       ap₂ Accepted n b ∙ ap (λ r. toldAcceptance (r .answer)) (sym e),
       (
         c .put .ensures ∙ ap (λ m. joined (s .desk) (record { number = m; tag = s .tag }) (seen (s .t1))) n ∙ ap (λ r. r .state) (sym e),
@@ -68,4 +74,4 @@ returns-3 c =
 pub submit-spec : {M : Type 1} → statement M
 submit-spec =
     tie.close
-    (tie.spec refuse-requires returns element-copy-out-if2 refuse-requires-2 returns-2 next-number-requires jobs-before-requires put-requires returns-3)
+    (tie.spec refuse-requires returns element-copy-out-if2 refuse-requires-2 returns-2 mul-next-number element-copy-out-next-number next-number-requires jobs-before-requires put-requires returns-3)

@@ -35,10 +35,16 @@ add-t c = search needs
 element-write-t-3 : tie.Need-element-write-t-3
 element-write-t-3 c = search needs
 
+mul-t-3 : tie.Need-mul-t-3
+mul-t-3 c = search needs
+
+element-write-t-4 : tie.Need-element-write-t-4
+element-write-t-4 c = search needs
+
 returns : tie.Need-returns
 returns c =
     let s = c .before .before .before .before in
-    stored-joins (s .args .t1) (s .args .d) (c .place .result) _ _ (omega (arith, c .place .ensures, c .before .wide .ensures)) (s .pre .0) (s .pre .1) (search needs) (search needs) (search needs)
+    stored-joins (s .args .t1) (s .args .d) (c .place .result) _ _ (omega (arith, c .place .ensures, c .before .wide .ensures)) (s .pre .0) (s .pre .1) (search needs) (search needs) (search needs) (search needs)
 
 pub put-spec : {M : Type 1} → statement M
 put-spec =
@@ -54,4 +60,6 @@ put-spec =
     element-write-t-2
     add-t
     element-write-t-3
+    mul-t-3
+    element-write-t-4
     returns)
