@@ -1,6 +1,7 @@
 // A fair hand-out for eight desks. Desks 0 to 7 submit jobs, at most four wait for each, and a hand-out takes the oldest
-// job of the first desk with work, going round from the desk after the last one served. The state goes in by value and
-// comes back; every value of its type is a state (`seen`), so that no operation has a precondition.
+// job of the first desk with work, going round from the desk after the last one served. Each desk has job numbers of its
+// own. The state goes in by value and comes back; every value of its type is a state (`seen`), so that no operation has a
+// precondition.
 ghost use mathlib.Core.Path.{_≡_};
 ghost use Rattle.desks.specs.State.{empty, submitted, handedOut};
 ghost use Rattle.desks.specs.Seen.{seen, Untouched, toldAcceptance, toldJob};

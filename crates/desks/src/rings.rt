@@ -64,7 +64,7 @@ pub fn whose_turn(s: Desks) -> Turn
     Turn::Nobody
 }
 
-// A job joins its desk's queue.
+// A job joins its desk's queue, and its number is the last that this desk was given.
 pub fn put(s: Desks, d: usize, number: u32, tag: u32) -> Desks
     requires { ⌜ (d < 8) × (getD (s .waiting) d 0 < 4) ⌝ }
     ensures { λ r. ⌜ seen r ≡ joined d (record { number = number; tag = tag }) (seen s) ⌝ }
