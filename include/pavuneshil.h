@@ -125,8 +125,8 @@ typedef struct pavuneshil_desks {
     uint32_t tags[32];    /* the jobs' tags */
     uint8_t oldest[8];    /* where in its ring a desk's oldest job is; taken modulo 4 */
     uint8_t waiting[8];   /* how many jobs of a desk wait; more than 4 is taken as 4 */
-    uint8_t last;         /* the desk served last, at first 7; taken modulo 8 */
     uint32_t counters[8]; /* the job number that a desk was given last, at first 0 */
+    uint8_t last;         /* the desk served last, at first 7; taken modulo 8 */
 } pavuneshil_desks;
 
 /*
@@ -138,7 +138,7 @@ typedef struct pavuneshil_desks {
  * Makes the state empty: nothing waits, the round begins at desk 0, and each desk's job numbers at 1.
  */
 void pavuneshil_none_waiting(uint32_t numbers[32], uint32_t tags[32], uint8_t oldest[8], uint8_t waiting[8],
-                             uint8_t *last, uint32_t counters[8]);
+                             uint32_t counters[8], uint8_t *last);
 
 /*
  * A desk submits a job. { PAVUNESHIL_DONE, number, before, 0 }: it waits behind the desk's other jobs, and has the
@@ -146,34 +146,34 @@ void pavuneshil_none_waiting(uint32_t numbers[32], uint32_t tags[32], uint8_t ol
  * submits again.
  * Refused: 12 where desk is not 0 to 7; then 13.
  */
-void pavuneshil_submit(uint32_t numbers[32], uint32_t tags[32], uint8_t oldest[8], uint8_t waiting[8], uint8_t *last,
-                       uint32_t counters[8], uint64_t desk, uint32_t tag, uint64_t answer[4]);
+void pavuneshil_submit(uint32_t numbers[32], uint32_t tags[32], uint8_t oldest[8], uint8_t waiting[8],
+                       uint32_t counters[8], uint8_t *last, uint64_t desk, uint32_t tag, uint64_t answer[4]);
 
 /*
  * Hands out a job. { PAVUNESHIL_DONE, desk, number, tag }: the oldest job of the first desk with work, going round from
  * the desk after the one served last. It waits no longer, and its desk is now the one served last.
  * Refused: 14.
  */
-void pavuneshil_hand_out(uint32_t numbers[32], uint32_t tags[32], uint8_t oldest[8], uint8_t waiting[8], uint8_t *last,
-                         uint32_t counters[8], uint64_t answer[4]);
+void pavuneshil_hand_out(uint32_t numbers[32], uint32_t tags[32], uint8_t oldest[8], uint8_t waiting[8],
+                         uint32_t counters[8], uint8_t *last, uint64_t answer[4]);
 
 /* Makes the state empty: see pavuneshil_none_waiting. */
 static inline void pavuneshil_desks_empty(pavuneshil_desks *desks)
 {
-    pavuneshil_none_waiting(desks->numbers, desks->tags, desks->oldest, desks->waiting, &desks->last, desks->counters);
+    pavuneshil_none_waiting(desks->numbers, desks->tags, desks->oldest, desks->waiting, desks->counters, &desks->last);
 }
 
 /* A desk submits a job: see pavuneshil_submit. */
 static inline void pavuneshil_desks_submit(pavuneshil_desks *desks, uint64_t desk, uint32_t tag, uint64_t answer[4])
 {
-    pavuneshil_submit(desks->numbers, desks->tags, desks->oldest, desks->waiting, &desks->last, desks->counters, desk,
+    pavuneshil_submit(desks->numbers, desks->tags, desks->oldest, desks->waiting, desks->counters, &desks->last, desk,
                       tag, answer);
 }
 
 /* Hands out a job: see pavuneshil_hand_out. */
 static inline void pavuneshil_desks_hand_out(pavuneshil_desks *desks, uint64_t answer[4])
 {
-    pavuneshil_hand_out(desks->numbers, desks->tags, desks->oldest, desks->waiting, &desks->last, desks->counters,
+    pavuneshil_hand_out(desks->numbers, desks->tags, desks->oldest, desks->waiting, desks->counters, &desks->last,
                         answer);
 }
 

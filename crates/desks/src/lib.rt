@@ -20,10 +20,10 @@ pub struct Desks {
     pub oldest: [u8; 8],
     // How many jobs of a desk wait.
     pub waiting: [u8; 8],
-    // The last desk served.
-    pub last: u8,
     // The last number that a desk was given.
     pub counters: [u32; 8],
+    // The last desk served.
+    pub last: u8,
 }
 
 impl Desks {
@@ -81,8 +81,8 @@ pub fn none_waiting() -> Desks
         tags: [0; 32],
         oldest: [0; 8],
         waiting: [0; 8],
-        last: 7,
         counters: [0; 8],
+        last: 7,
     }
 }
 

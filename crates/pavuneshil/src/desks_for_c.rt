@@ -12,10 +12,10 @@ fn lent(
     tags: &[u32; 32],
     oldest: &[u8; 8],
     waiting: &[u8; 8],
-    last: u8,
     counters: &[u32; 8],
+    last: u8,
 ) -> Desks
-    ensures { λ r. ⌜ r ≡ record { numbers = now (numbers .entry); tags = now (tags .entry); oldest = now (oldest .entry); waiting = now (waiting .entry); last = last; counters = now (counters .entry) } ⌝ }
+    ensures { λ r. ⌜ r ≡ record { numbers = now (numbers .entry); tags = now (tags .entry); oldest = now (oldest .entry); waiting = now (waiting .entry); counters = now (counters .entry); last = last } ⌝ }
 {
     let n = *numbers;
     let t = *tags;
@@ -27,8 +27,8 @@ fn lent(
         tags: t,
         oldest: o,
         waiting: w,
-        last,
         counters: c,
+        last,
     }
 }
 
@@ -39,10 +39,10 @@ fn leave(
     tags: &mut [u32; 32],
     oldest: &mut [u8; 8],
     waiting: &mut [u8; 8],
-    last: &mut u8,
     counters: &mut [u32; 8],
+    last: &mut u8,
 )
-    ensures { λ _. ⌜ record { numbers = now (numbers .exit); tags = now (tags .exit); oldest = now (oldest .exit); waiting = now (waiting .exit); last = now (last .exit); counters = now (counters .exit) } ≡ s ⌝ }
+    ensures { λ _. ⌜ record { numbers = now (numbers .exit); tags = now (tags .exit); oldest = now (oldest .exit); waiting = now (waiting .exit); counters = now (counters .exit); last = now (last .exit) } ≡ s ⌝ }
 {
     let n = s.numbers;
     let t = s.tags;
@@ -53,8 +53,8 @@ fn leave(
     *tags = t;
     *oldest = o;
     *waiting = w;
-    *last = s.last;
     *counters = c;
+    *last = s.last;
 }
 
 // The empty state.
@@ -64,10 +64,10 @@ pub extern "C" fn pavuneshil_none_waiting(
     tags: &mut [u32; 32],
     oldest: &mut [u8; 8],
     waiting: &mut [u8; 8],
-    last: &mut u8,
     counters: &mut [u32; 8],
+    last: &mut u8,
 )
-    ensures { λ _. ⌜ seen (record { numbers = now (numbers .exit); tags = now (tags .exit); oldest = now (oldest .exit); waiting = now (waiting .exit); last = now (last .exit); counters = now (counters .exit) }) ≡ empty ⌝ }
+    ensures { λ _. ⌜ seen (record { numbers = now (numbers .exit); tags = now (tags .exit); oldest = now (oldest .exit); waiting = now (waiting .exit); counters = now (counters .exit); last = now (last .exit) }) ≡ empty ⌝ }
 {
     leave(
         desks::none_waiting(),
@@ -75,8 +75,8 @@ pub extern "C" fn pavuneshil_none_waiting(
         tags,
         oldest,
         waiting,
-        last,
         counters,
+        last,
     );
 }
 
@@ -87,19 +87,19 @@ pub extern "C" fn pavuneshil_submit(
     tags: &mut [u32; 32],
     oldest: &mut [u8; 8],
     waiting: &mut [u8; 8],
-    last: &mut u8,
     counters: &mut [u32; 8],
+    last: &mut u8,
     desk: u64,
     tag: u32,
     answer: &mut [u64; 4],
 )
-    ensures { λ _. ⌜ now (answer .exit) ≡ fourOfAcceptance (toldAcceptance (submitted desk tag (seen (record { numbers = now (numbers .entry); tags = now (tags .entry); oldest = now (oldest .entry); waiting = now (waiting .entry); last = now (last .entry); counters = now (counters .entry) })) .answer)) ⌝ }
-    ensures { λ _. ⌜ seen (record { numbers = now (numbers .exit); tags = now (tags .exit); oldest = now (oldest .exit); waiting = now (waiting .exit); last = now (last .exit); counters = now (counters .exit) }) ≡ submitted desk tag (seen (record { numbers = now (numbers .entry); tags = now (tags .entry); oldest = now (oldest .entry); waiting = now (waiting .entry); last = now (last .entry); counters = now (counters .entry) })) .state ⌝ }
-    ensures { λ _. ⌜ Untouched (submitted desk tag (seen (record { numbers = now (numbers .entry); tags = now (tags .entry); oldest = now (oldest .entry); waiting = now (waiting .entry); last = now (last .entry); counters = now (counters .entry) })) .answer) (record { numbers = now (numbers .entry); tags = now (tags .entry); oldest = now (oldest .entry); waiting = now (waiting .entry); last = now (last .entry); counters = now (counters .entry) }) (record { numbers = now (numbers .exit); tags = now (tags .exit); oldest = now (oldest .exit); waiting = now (waiting .exit); last = now (last .exit); counters = now (counters .exit) }) ⌝ }
+    ensures { λ _. ⌜ now (answer .exit) ≡ fourOfAcceptance (toldAcceptance (submitted desk tag (seen (record { numbers = now (numbers .entry); tags = now (tags .entry); oldest = now (oldest .entry); waiting = now (waiting .entry); counters = now (counters .entry); last = now (last .entry) })) .answer)) ⌝ }
+    ensures { λ _. ⌜ seen (record { numbers = now (numbers .exit); tags = now (tags .exit); oldest = now (oldest .exit); waiting = now (waiting .exit); counters = now (counters .exit); last = now (last .exit) }) ≡ submitted desk tag (seen (record { numbers = now (numbers .entry); tags = now (tags .entry); oldest = now (oldest .entry); waiting = now (waiting .entry); counters = now (counters .entry); last = now (last .entry) })) .state ⌝ }
+    ensures { λ _. ⌜ Untouched (submitted desk tag (seen (record { numbers = now (numbers .entry); tags = now (tags .entry); oldest = now (oldest .entry); waiting = now (waiting .entry); counters = now (counters .entry); last = now (last .entry) })) .answer) (record { numbers = now (numbers .entry); tags = now (tags .entry); oldest = now (oldest .entry); waiting = now (waiting .entry); counters = now (counters .entry); last = now (last .entry) }) (record { numbers = now (numbers .exit); tags = now (tags .exit); oldest = now (oldest .exit); waiting = now (waiting .exit); counters = now (counters .exit); last = now (last .exit) }) ⌝ }
 {
-    let s = lent(numbers, tags, oldest, waiting, *last, counters);
+    let s = lent(numbers, tags, oldest, waiting, counters, *last);
     let r = desks::submit(s, desk, tag);
-    leave(r.desks, numbers, tags, oldest, waiting, last, counters);
+    leave(r.desks, numbers, tags, oldest, waiting, counters, last);
     let a = r.answer;
     *answer = numbers::of_submission(a);
 }
@@ -111,17 +111,17 @@ pub extern "C" fn pavuneshil_hand_out(
     tags: &mut [u32; 32],
     oldest: &mut [u8; 8],
     waiting: &mut [u8; 8],
-    last: &mut u8,
     counters: &mut [u32; 8],
+    last: &mut u8,
     answer: &mut [u64; 4],
 )
-    ensures { λ _. ⌜ now (answer .exit) ≡ fourOfJob (toldJob (handedOut (seen (record { numbers = now (numbers .entry); tags = now (tags .entry); oldest = now (oldest .entry); waiting = now (waiting .entry); last = now (last .entry); counters = now (counters .entry) })) .answer)) ⌝ }
-    ensures { λ _. ⌜ seen (record { numbers = now (numbers .exit); tags = now (tags .exit); oldest = now (oldest .exit); waiting = now (waiting .exit); last = now (last .exit); counters = now (counters .exit) }) ≡ handedOut (seen (record { numbers = now (numbers .entry); tags = now (tags .entry); oldest = now (oldest .entry); waiting = now (waiting .entry); last = now (last .entry); counters = now (counters .entry) })) .state ⌝ }
-    ensures { λ _. ⌜ Untouched (handedOut (seen (record { numbers = now (numbers .entry); tags = now (tags .entry); oldest = now (oldest .entry); waiting = now (waiting .entry); last = now (last .entry); counters = now (counters .entry) })) .answer) (record { numbers = now (numbers .entry); tags = now (tags .entry); oldest = now (oldest .entry); waiting = now (waiting .entry); last = now (last .entry); counters = now (counters .entry) }) (record { numbers = now (numbers .exit); tags = now (tags .exit); oldest = now (oldest .exit); waiting = now (waiting .exit); last = now (last .exit); counters = now (counters .exit) }) ⌝ }
+    ensures { λ _. ⌜ now (answer .exit) ≡ fourOfJob (toldJob (handedOut (seen (record { numbers = now (numbers .entry); tags = now (tags .entry); oldest = now (oldest .entry); waiting = now (waiting .entry); counters = now (counters .entry); last = now (last .entry) })) .answer)) ⌝ }
+    ensures { λ _. ⌜ seen (record { numbers = now (numbers .exit); tags = now (tags .exit); oldest = now (oldest .exit); waiting = now (waiting .exit); counters = now (counters .exit); last = now (last .exit) }) ≡ handedOut (seen (record { numbers = now (numbers .entry); tags = now (tags .entry); oldest = now (oldest .entry); waiting = now (waiting .entry); counters = now (counters .entry); last = now (last .entry) })) .state ⌝ }
+    ensures { λ _. ⌜ Untouched (handedOut (seen (record { numbers = now (numbers .entry); tags = now (tags .entry); oldest = now (oldest .entry); waiting = now (waiting .entry); counters = now (counters .entry); last = now (last .entry) })) .answer) (record { numbers = now (numbers .entry); tags = now (tags .entry); oldest = now (oldest .entry); waiting = now (waiting .entry); counters = now (counters .entry); last = now (last .entry) }) (record { numbers = now (numbers .exit); tags = now (tags .exit); oldest = now (oldest .exit); waiting = now (waiting .exit); counters = now (counters .exit); last = now (last .exit) }) ⌝ }
 {
-    let s = lent(numbers, tags, oldest, waiting, *last, counters);
+    let s = lent(numbers, tags, oldest, waiting, counters, *last);
     let r = desks::hand_out(s);
-    leave(r.desks, numbers, tags, oldest, waiting, last, counters);
+    leave(r.desks, numbers, tags, oldest, waiting, counters, last);
     let a = r.answer;
     *answer = numbers::of_hand_out(a);
 }

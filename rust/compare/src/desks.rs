@@ -69,16 +69,16 @@ impl Beside for second::Desks {
 #[derive(Clone)]
 struct Model {
     queues: [VecDeque<Job>; 8],
-    last: usize,
     counters: [u32; 8],
+    last: usize,
 }
 
 impl Model {
     fn of(desks: &Desks) -> Model {
         Model {
             queues: std::array::from_fn(|desk| jobs(desks, desk).into()),
-            last: desks.last as usize % 8,
             counters: desks.counters,
+            last: desks.last as usize % 8,
         }
     }
 
@@ -257,12 +257,12 @@ fn any_parts(rng: &mut Rng) -> Desks {
         tags: std::array::from_fn(|_| rng.any() as u32),
         oldest: std::array::from_fn(|_| rng.any() as u8),
         waiting: std::array::from_fn(|_| rng.below(most + 1) as u8),
-        last: rng.any() as u8,
         counters: std::array::from_fn(|_| match rng.below(3) {
             0 => LAST_NUMBER - rng.below(10) as u32,
             1 => rng.below(10) as u32,
             _ => rng.any() as u32,
         }),
+        last: rng.any() as u8,
     }
 }
 

@@ -40,10 +40,10 @@ pub struct Desks {
     pub oldest: [u8; 8],
     /// How many jobs of a desk wait. More than 4 is taken as 4.
     pub waiting: [u8; 8],
-    /// The desk served last, at first 7. Taken modulo 8.
-    pub last: u8,
     /// The job number that a desk was given last, at first 0.
     pub counters: [u32; 8],
+    /// The desk served last, at first 7. Taken modulo 8.
+    pub last: u8,
 }
 
 /// What a desk learns of a job that is accepted.
@@ -74,8 +74,8 @@ macro_rules! on_parts {
                 &mut $desks.tags,
                 &mut $desks.oldest,
                 &mut $desks.waiting,
-                &mut $desks.last,
-                &mut $desks.counters
+                &mut $desks.counters,
+                &mut $desks.last
                 $(, $other)*
             )
         }
@@ -90,8 +90,8 @@ impl Desks {
             tags: [0; 32],
             oldest: [0; 8],
             waiting: [0; 8],
-            last: 0,
             counters: [0; 8],
+            last: 0,
         };
         on_parts!(pavuneshil_none_waiting, desks);
         desks

@@ -121,16 +121,16 @@ mod archive {
             tags: *mut [u32; 32],
             oldest: *mut [u8; 8],
             waiting: *mut [u8; 8],
-            last: *mut u8,
             counters: *mut [u32; 8],
+            last: *mut u8,
         );
         pub fn pavuneshil_submit(
             numbers: *mut [u32; 32],
             tags: *mut [u32; 32],
             oldest: *mut [u8; 8],
             waiting: *mut [u8; 8],
-            last: *mut u8,
             counters: *mut [u32; 8],
+            last: *mut u8,
             desk: u64,
             tag: u32,
             answer: *mut [u64; 4],
@@ -140,8 +140,8 @@ mod archive {
             tags: *mut [u32; 32],
             oldest: *mut [u8; 8],
             waiting: *mut [u8; 8],
-            last: *mut u8,
             counters: *mut [u32; 8],
+            last: *mut u8,
             answer: *mut [u64; 4],
         );
     }

@@ -27,8 +27,8 @@ fn any_state() -> Desks {
         tags: std::array::from_fn(|i| 2000 + i as u32),
         oldest: [0, 1, 2, 3, 4, 5, 6, 255],
         waiting: [4, 0, 1, 2, 3, 4, 5, 255],
-        last: 250,
         counters: std::array::from_fn(|desk| 70 + desk as u32),
+        last: 250,
     }
 }
 
