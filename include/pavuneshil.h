@@ -1,5 +1,6 @@
 /*
- * Pavuneshil: even-step update plans for a tunnelled backbone, and a fair hand-out for eight desks, for C.
+ * Pavuneshil: even-step update plans for a tunnelled backbone, the sharing of a flow among services, and a fair hand-out
+ * for eight desks, for C.
  * Link libpavuneshil.a, which `rt staticlib pavuneshil` makes. It needs memcpy and memset, and no heap.
  *
  * What holds of every function below is proved of the library's source. None has a precondition on the values: whatever
@@ -31,8 +32,11 @@
  *   12  no such desk                            desk                         0
  *   13  four jobs of the desk wait already      desk                         0
  *   14  hand-out with nothing waiting           0                            0
+ *   21  count of services out of range          0                            0
+ *       rate out of range                       0                            1
+ *       demand out of range                     first such service           0
  *
- * Lines and steps count from 1, rows, links, flows, tunnels and desks from 0. After a refusal everything lent is left
+ * Lines, steps and services count from 1, rows, links, flows, tunnels and desks from 0. After a refusal everything lent is left
  * as it was, except the marks after 7 and 8. Output beyond the written length is never touched.
  */
 #ifndef PAVUNESHIL_H
@@ -55,6 +59,7 @@ extern "C" {
 #define PAVUNESHIL_PLAN_NUMBERS 4708   /* the list of a plan */
 #define PAVUNESHIL_TEXT_BYTES 65536    /* either text */
 #define PAVUNESHIL_MARKS 96            /* the marks of a check */
+#define PAVUNESHIL_SERVICES 16         /* the shares of a flow */
 
 /*
  * Reads a network text. Done: out begins with the network's list, which has the number of each line.
@@ -106,6 +111,17 @@ void pavuneshil_check_plan(const uint64_t *network, size_t network_len, const ui
  * Refused: 2 at place 2 where scratch is not 20 to 500; 2 at place 3 where overrun is neither 0 nor 20 to 500.
  */
 void pavuneshil_step_bound(uint64_t scratch, uint64_t overrun, uint64_t answer[4]);
+
+/*
+ * Shares a flow: divides its rate among 1 to 16 services. The rate and each service's demand are 0 to 10,000,000. Done:
+ * out begins with a share for each service. If the demands add up to at most the rate, each is met. Else the shares add
+ * up to the rate: each service gets the lesser of its demand and t, the largest level at which these add up to at most
+ * the rate, and the units left go one each to the first services whose demand is above t. So nobody gets more than its
+ * demand, nobody short of its demand has over one unit less than another, and none less than one after it.
+ * Refused: 21 for the count, then for the rate, then for the first demand out of range; then 10.
+ */
+void pavuneshil_share(uint64_t rate, const uint64_t *demands, size_t demands_len, uint64_t *out, size_t out_len,
+                      uint64_t answer[4]);
 
 /*
  * A fair hand-out: desks 0 to 7 submit jobs, each with a tag of the caller's choice, and a hand-out takes one of them,

@@ -1,22 +1,16 @@
--- Laws of answers: what an answer tells of an outcome, and what becomes of an outcome with the room that is lent.
+-- Laws of answers: what an answer tells of an outcome.
 use mathlib.Core.Path.{_≡_, refl}
-use mathlib.Core.Bool.{Bool, true, false, cond}
-use mathlib.Core.List.{List, _++_}
-use Prim.Native.Nat.{ℕ, _≤_, _<_}
+use mathlib.Core.Logic.{_⊎_, ⊎-elim}
+use mathlib.Core.List.{List}
+use Prim.Native.Nat.{ℕ}
 use native.Mathlib.Omega.{arith}
-use lib.Dec.{leb}
-use lib.ListN.{length, drop}
-use borrow.Author.Tests.{le-leb, lt-leb}
-use Rattle.model.specs.Outcome.{Outcome, good, refused, noRoom}
+use lib.ListN.{length}
+use denote.Enum.Declared.{tagOf}
+use Rattle.model.specs.Outcome.{Outcome, good, refused, andThen}
 use Rattle.lists.specs.Answers.{done, withRoom, lent}
 use Rattle.lists.specs.declared.Answer.{Answer}
-use Rattle.lists.specs.declared.Answer.the-variants.{Done, Refused}
+use Rattle.lists.specs.declared.Answer.the-variants.{Done}
 use Rattle.lists.proofs.Answer.{the-type}
-use denote.Enum.Declared.{tagOf}
-use mathlib.Core.Logic.{_⊎_, ⊎-elim}
-use Rattle.model.specs.Outcome.{andThen}
-
--- ---- what an answer tells of an outcome
 
 pub done-good : (o : Outcome (List ℕ)) (n : ℕ) → done o ≡ Done n → (l : List ℕ) × (o ≡ good l) × (length l ≡ n)
 done-good (good l) n e = (l, refl, cc)
@@ -39,25 +33,3 @@ pub refused-room : (o : Outcome (List ℕ)) (a : Answer) (out : List ℕ) → a 
     → (a ≡ done (withRoom (length out) o)) × (out ≡ lent (withRoom (length out) o) out)
 refused-room (good l) a out e t = absurd (not-done (length l) a e t)
 refused-room (refused c place second) a out e t = (e, refl)
-
--- ---- what is good, where there is no room for it and where there is
-
-module _ (l out : List ℕ) where
-  pub give-none : length out < length l → (done (withRoom (length out) (good l)) ≡ Refused 10 (length l) 0) × (lent (withRoom (length out) (good l)) out ≡ out)
-  give-none h = (rw (lt-leb (length l) (length out) h), rw (lt-leb (length l) (length out) h))
-
-  pub give-all : length l ≤ length out → (done (withRoom (length out) (good l)) ≡ Done (length l)) × (lent (withRoom (length out) (good l)) out ≡ l ++ drop (length l) out)
-  give-all h = (rw (le-leb (length l) (length out) h), rw (le-leb (length l) (length out) h))
-
--- ---- an outcome with room
-
-pub room-good : (room : ℕ) (o : Outcome (List ℕ)) (l : List ℕ) → withRoom room o ≡ good l → o ≡ good l
-room-good room (good g) l e = go (leb (length g) room) e
-  where
-    go : (b : Bool) → cond b (good g) (refused noRoom (length g) 0) ≡ good l → good g ≡ good l
-    go true e = e
-    go false e = let z : _≡_ {A = ℕ} 0 1 = cc in absurd (omega arith)
-room-good room (refused c a b) l e = e
-
-pub good-room : (room : ℕ) (l : List ℕ) → length l ≤ room → withRoom room (good l) ≡ good l
-good-room room l h = rw (le-leb (length l) room h)

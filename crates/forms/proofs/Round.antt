@@ -21,7 +21,7 @@ use Rattle.forms.specs.declared.form.Form.{Form}
 use Rattle.forms.specs.declared.form.Range.{Range}
 use Rattle.forms.specs.declared.form.Field.{Field}
 use Rattle.forms.specs.declared.form.Field.the-variants.{Line, End}
-use Rattle.forms.proofs.Answers.{room-good, good-room}
+use Rattle.lists.proofs.Rooms.{room-good, good-room}
 use Rattle.forms.proofs.Forms.{sound-none, sound-more, small, small-set}
 use Rattle.forms.proofs.Keys.{no-feeds, key-no-feed}
 use Rattle.forms.proofs.Lines.{own-part, part-line}

@@ -101,3 +101,16 @@ pub sum-both : (n : ℕ) (p q r : ℕ → Bool) (x : ℕ → ℕ) → ((t u : �
 unfolding sumOver
 sum-both zero p q r x h = refl
 sum-both (suc n) p q r x h = omega (arith, sum-both n p q r x h, h n (x n))
+
+-- the summands that a test picks, as a sum over all
+pub sum-all : (n : ℕ) (p : ℕ → Bool) (x : ℕ → ℕ) → sumOver n (λ t. true) (λ t. cond (p t) (x t) 0) ≡ sumOver n p x
+unfolding sumOver
+sum-all zero p x = refl
+sum-all (suc n) p x = ap (λ (m : ℕ). m + cond (p n) (x n) 0) (sum-all n p x)
+
+-- a summand that the test picks is at most the sum
+pub sum-one : (n i : ℕ) (p : ℕ → Bool) (x : ℕ → ℕ) → i < n → p i ≡ true → x i ≤ sumOver n p x
+unfolding sumOver
+sum-one zero i p x h e = absurd (omega (arith, h))
+sum-one (suc n) i p x h e =
+    ⊎-elim (λ (k : i ≡ n). rw k (omega (arith, ap (λ (b : Bool). cond b (x n) 0) (ap p (sym k) ∙ e)))) (λ (k : i < n). omega (arith, sum-one n i p x k e)) (eq-or-lt-of-le (le-of-suc-le-suc h))

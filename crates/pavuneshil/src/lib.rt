@@ -1,13 +1,14 @@
-// The seven operations for C and Rust, and in a module of its own the desks: `rt staticlib pavuneshil` makes libpavuneshil.a
-// of them. Each has no precondition.
+// The seven operations and sharing for C and Rust, and in a module of its own the desks: `rt staticlib pavuneshil` makes
+// libpavuneshil.a of them. Each has no precondition.
 // A slice passes as a pointer and a length, `answer` as a pointer to four numbers: the kind, then the values, as `four`
-// gives them. What is lent is left as the operations of `product` leave it.
+// gives them. What is lent is left as the operations leave it.
 ghost use mathlib.Core.Path.{_≡_};
 ghost use lib.ListN.{length};
 ghost use Rattle.lists.specs.Answers.{withRoom, done, plan, lent};
 ghost use Rattle.planner.specs.Planned.{planned};
 ghost use Rattle.checker.specs.Check.{verdict, checked, marksAfter};
 ghost use Rattle.bound.specs.Bound.{boundOf, told};
+ghost use Rattle.sharing.specs.Share.{shared};
 ghost use Rattle.pavuneshil.specs.Four.{four, fourOfBound};
 ghost use Rattle.forms.specs.declared.form.Form.the-variants as forms;
 ghost use Rattle.forms.specs.Read.{readText};
@@ -112,4 +113,18 @@ pub extern "C" fn pavuneshil_step_bound(scratch: u64, overrun: u64, answer: &mut
     ensures { λ _. ⌜ now (answer .exit) ≡ fourOfBound (told (boundOf scratch overrun)) ⌝ }
 {
     *answer = bound_numbers(product::step_bound(scratch, overrun));
+}
+
+// Divides a flow's rate among services.
+#[no_mangle]
+pub extern "C" fn pavuneshil_share(
+    rate: u64,
+    demands: &[u64],
+    out: &mut [u64],
+    answer: &mut [u64; 4],
+)
+    ensures { λ _. ⌜ now (answer .exit) ≡ four (done (withRoom (length (now (out .entry))) (shared rate (now (demands .entry))))) ⌝ }
+    ensures { λ _. ⌜ now (out .exit) ≡ lent (withRoom (length (now (out .entry))) (shared rate (now (demands .entry)))) (now (out .entry)) ⌝ }
+{
+    *answer = numbers(sharing::share(rate, demands, out));
 }

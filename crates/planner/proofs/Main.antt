@@ -21,7 +21,7 @@ use Rattle.model.proofs.Bounded as model
 use Rattle.lists.specs.Answers.{withRoom}
 use Rattle.lists.specs.Lists.{at, networkOf, planOf, GoodNetwork}
 use Rattle.model.specs.Outcome.{andThen}
-use Rattle.forms.proofs.Answers.{good-room}
+use Rattle.lists.proofs.Rooms.{good-room}
 use Rattle.forms.proofs.Good.{good-network, plan-good}
 use Rattle.planner.specs.Planned.{evenList, stuck, byFewest, evenPlan, planned}
 use Rattle.planner.specs.Claim.{FewestSteps, NoneBelow, Safe, Claim}

@@ -15,7 +15,8 @@ use Rattle.lists.specs.declared.Answer.{Answer}
 use Rattle.lists.specs.declared.Answer.the-variants.{Done, Plan}
 use Rattle.lists.proofs.Answer.{the-type}
 use Rattle.forms.specs.declared.form.Form.the-variants as form
-use Rattle.forms.proofs.Answers.{done-good, good-room}
+use Rattle.lists.proofs.Rooms.{good-room}
+use Rattle.forms.proofs.Answers.{done-good}
 use Rattle.forms.proofs.Good.{good-network, good-plan}
 use Rattle.forms.proofs.Round.{read-good}
 use Rattle.planner.specs.Planned.{planned}

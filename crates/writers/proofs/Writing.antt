@@ -16,7 +16,8 @@ use Rattle.model.specs.Outcome.{good}
 use Rattle.lists.specs.Answers.{done, withRoom, lent}
 use Rattle.lists.specs.declared.Answer.the-variants.{Done}
 use Rattle.forms.specs.Read.{judgeList}
-use Rattle.forms.proofs.Answers.{done-good, give-all}
+use Rattle.lists.proofs.Rooms.{give-all}
+use Rattle.forms.proofs.Answers.{done-good}
 use Rattle.forms.proofs.Numbers.{length-digits}
 use Rattle.forms.proofs.Walks.{judged-good}
 use Rattle.writers.specs.Write.{placed, Puts}

@@ -1,5 +1,5 @@
 //! The inputs: networks of the largest size, each with its plan of 50 steps, and the swap; pairs for
-//! the step bound; submissions for the desks.
+//! the step bound; rates and demands to share; submissions for the desks.
 
 use second::gen::Rng;
 
@@ -151,6 +151,45 @@ pub fn shares(count: usize, seed: u64) -> Vec<(u64, u64)> {
         .map(|_| {
             let overrun = rng.between(20, 500);
             (rng.between(20, 500), rng.pick(&[0, overrun]))
+        })
+        .collect()
+}
+
+/// The most that a rate or a demand may be.
+const AMOUNT: u64 = 10_000_000;
+
+/// So many times 16 demands of any size, with a rate that meets all of them or part of them.
+pub fn demands(count: usize, met: bool, seed: u64) -> Vec<(u64, Vec<u64>)> {
+    let mut rng = Rng::new(seed);
+    (0..count)
+        .map(|_| {
+            let demands: Vec<u64> = (0..16).map(|_| rng.below(AMOUNT / 16 + 1)).collect();
+            let sum: u64 = demands.iter().sum();
+            (if met { sum } else { rng.below(sum) }, demands)
+        })
+        .collect()
+}
+
+/// So many times 16 demands of which the level meets one after the other: what the rate leaves to
+/// the unmet, shared evenly, meets just one more each time.
+pub fn stairs(count: usize, seed: u64) -> Vec<(u64, Vec<u64>)> {
+    let mut rng = Rng::new(seed);
+    (0..count)
+        .map(|_| {
+            let rate = rng.between(AMOUNT / 2, AMOUNT);
+            let mut demands = vec![];
+            let (mut met, mut level) = (0, 0);
+            for unmet in (2..=16).rev() {
+                let next = (rate - met) / unmet;
+                demands.push(level);
+                met += level;
+                level = next + 1;
+            }
+            demands.push(AMOUNT);
+            for last in (1..demands.len()).rev() {
+                demands.swap(last, rng.below(last as u64 + 1) as usize);
+            }
+            (rate, demands)
         })
         .collect()
 }

@@ -7,7 +7,7 @@
 
 use bench::clock::medians;
 use bench::inputs::{self, Input};
-use pavuneshil::{Answer, Desks, Refusal, StepBound, MARKS, PLAN_NUMBERS, TEXT_BYTES};
+use pavuneshil::{Answer, Desks, Refusal, StepBound, MARKS, PLAN_NUMBERS, SERVICES, TEXT_BYTES};
 use second::{Checked, Rules};
 use std::hint::black_box;
 
@@ -161,6 +161,38 @@ fn rows(inputs: &[Input], repeat: usize) {
     check!("check_plan, judging alone (no marks, 10)", network, 0);
 }
 
+/// A row of sharing.
+fn share_row(name: &str, cases: &[(u64, Vec<u64>)]) {
+    let mut out = [0; SERVICES];
+    for (rate, demands) in cases {
+        let answer = pavuneshil::share(*rate, demands, &mut out);
+        agree(answer, &out, second::share(*rate, demands, SERVICES));
+    }
+    row(
+        name,
+        cases.len(),
+        &mut || {
+            for (rate, demands) in cases {
+                black_box(pavuneshil::share(
+                    black_box(*rate),
+                    black_box(demands),
+                    &mut out,
+                ));
+            }
+        },
+        &mut || {
+            for (rate, demands) in cases {
+                black_box(second::share(
+                    black_box(*rate),
+                    black_box(demands),
+                    SERVICES,
+                ))
+                .ok();
+            }
+        },
+    );
+}
+
 /// The same state, ours and the second implementation's.
 type Both = (Desks, second::Desks);
 
@@ -286,6 +318,11 @@ fn main() {
             }
         },
     );
+
+    println!("-- a rate shared among 16 services, 1,024 times");
+    share_row("share, each met", &inputs::demands(1024, true, SEED));
+    share_row("share, cut", &inputs::demands(1024, false, SEED));
+    share_row("share, met one by one", &inputs::stairs(1024, SEED));
 
     let rounds = inputs::submissions(64, SEED);
     println!(

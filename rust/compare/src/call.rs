@@ -100,8 +100,8 @@ fn convert<I: Copy + PartialEq + Debug, O: Copy + PartialEq + Debug>(
     name: &str,
     input: &[I],
     make: fn(u64) -> O,
-    ours: fn(&[I], &mut [O]) -> Answer,
-    theirs: fn(&[I], usize) -> Result<Vec<O>, second::Refusal>,
+    ours: impl Fn(&[I], &mut [O]) -> Answer,
+    theirs: impl Fn(&[I], usize) -> Result<Vec<O>, second::Refusal>,
     good: fn(usize) -> Answer,
 ) -> Outcome {
     let needed = theirs(input, usize::MAX).map(|output| output.len());
@@ -268,6 +268,26 @@ pub fn step_bound(rng: &mut Rng) -> Outcome {
     })
 }
 
+pub fn share(rng: &mut Rng) -> Outcome {
+    let (rate, demands) = inputs::sharing(rng);
+    let wanted: u128 = demands.iter().copied().map(u128::from).sum();
+    let name = if wanted <= rate.into() {
+        "share, each met"
+    } else {
+        "share, cut"
+    };
+    convert(
+        rng,
+        name,
+        &demands,
+        number,
+        |demands, out| pavuneshil::share(rate, demands, out),
+        |demands, room| second::share(rate, demands, room),
+        Answer::Done,
+    )
+    .map_err(|why| format!("{why}, rate {rate}"))
+}
+
 #[cfg(test)]
 mod tests {
     use super::*;
@@ -282,6 +302,22 @@ mod tests {
                     Err(refusal) => StepBound::Refused(told(refusal)),
                 };
                 assert_eq!(pavuneshil::step_bound(scratch, overrun), expected);
+            }
+        }
+    }
+
+    /// Every sharing among up to four services with demands up to 4.
+    #[test]
+    fn every_small_share() {
+        for count in 1..=4 {
+            for code in 0..5u64.pow(count) {
+                let demands: Vec<u64> = (0..count).map(|i| code / 5u64.pow(i) % 5).collect();
+                for rate in 0..=17 {
+                    let mut out = vec![0; demands.len()];
+                    let answer = pavuneshil::share(rate, &demands, &mut out);
+                    assert_eq!(answer, Answer::Done(demands.len()));
+                    assert_eq!(second::share(rate, &demands, out.len()), Ok(out));
+                }
             }
         }
     }

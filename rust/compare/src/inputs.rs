@@ -229,3 +229,37 @@ pub fn share(rng: &mut Rng) -> u64 {
         _ => rng.any() >> rng.below(64),
     }
 }
+
+/// Demands of which the level meets one after the other: what the rate leaves to the unmet, shared
+/// evenly, meets just one more each time. In any order.
+fn stairs(rng: &mut Rng, rate: u64) -> Vec<u64> {
+    let count = rng.between(2, 16);
+    let mut demands = Vec::new();
+    let (mut met, mut level) = (0, 0);
+    for unmet in (2..=count).rev() {
+        let next = (rate - met) / unmet;
+        let demand = rng.between(level.min(next), next);
+        demands.push(demand);
+        met += demand;
+        level = next + 1;
+    }
+    demands.push(rng.pick(&[level, 10_000_000]));
+    for last in (1..demands.len()).rev() {
+        demands.swap(last, rng.below(last as u64 + 1) as usize);
+    }
+    demands
+}
+
+/// A rate and demands: around the edge where each is met, with something out of range, or met one
+/// after the other.
+pub fn sharing(rng: &mut Rng) -> (u64, Vec<u64>) {
+    match rng.below(10) {
+        0..=4 => services(rng),
+        5..=7 => damaged_services(rng),
+        _ => {
+            let most = rng.pick(&[100, 10_000, 10_000_000]);
+            let rate = rng.below(most + 1);
+            (rate, stairs(rng, rate))
+        }
+    }
+}

@@ -1,5 +1,6 @@
 //! Holds every operation of the static library against the second implementation, by the rules of
-//! the first paper, and the eight desks by those of requests (iv) and (ix).
+//! the first paper, the sharing of a flow by request (xiv), and the eight desks by requests (iv),
+//! (ix) and (x).
 //!
 //!     compare [CASES [SEED [FIRST]]]
 //!
@@ -34,7 +35,7 @@ pub type Outcome = Result<String, String>;
 /// One case. Every operation comes up, the cheap ones more often.
 fn case(seed: u64, number: u64) -> Outcome {
     let mut rng = Rng::new(Rng::new(seed).any() ^ number.wrapping_mul(0xd134_2543_de82_ef95));
-    match number % 18 {
+    match number % 19 {
         0..=2 => call::read_network(&mut rng),
         3..=4 => call::read_plan(&mut rng),
         5..=6 => call::write_network(&mut rng),
@@ -44,7 +45,8 @@ fn case(seed: u64, number: u64) -> Outcome {
         14 => call::step_bound(&mut rng),
         15 => choices::hold(&mut rng),
         16 => desks::from_empty(&mut rng),
-        _ => desks::from_any_parts(&mut rng),
+        17 => desks::from_any_parts(&mut rng),
+        _ => call::share(&mut rng),
     }
 }
 

@@ -1,5 +1,5 @@
-//! Even-step update plans for a tunnelled backbone, and a fair hand-out for eight desks, [`Desks`]:
-//! the proved operations, for Rust.
+//! Even-step update plans for a tunnelled backbone, the sharing of a flow among services,
+//! [`share`], and a fair hand-out for eight desks, [`Desks`]: the proved operations, for Rust.
 //!
 //! Texts and lists go in as slices, and results are written into a slice that the caller lends.
 //! No operation has a precondition: whatever is given, the answer says what came of it, and what
@@ -33,6 +33,9 @@ pub const TEXT_BYTES: usize = 65_536;
 /// No network has more tunnels, so no check writes more marks.
 pub const MARKS: usize = 96;
 
+/// No flow is shared among more services.
+pub const SERVICES: usize = 16;
+
 /// Why nothing was done: the number of the cause, and its place and second.
 #[derive(Debug, Clone, Copy, PartialEq, Eq, Hash)]
 pub struct Refusal {
@@ -40,12 +43,13 @@ pub struct Refusal {
     /// 4 amounts that miss a flow's rate, 5 another number of tunnels, 6 a row that misses
     /// parts × rate, 7 protected overload, 8 overload of all classes, 9 no even plan of 1 to 50
     /// steps, 10 lent output too short, 12 no such desk, 13 four jobs of the desk wait already,
-    /// 14 hand-out with nothing waiting.
+    /// 14 hand-out with nothing waiting, 21 count of services, rate or demand out of range.
     pub number: u64,
-    /// The line, flow, row or step; the length needed for 10; the desk for 12 and 13; 0 for 14.
+    /// The line, flow, row or step; the length needed for 10; the desk for 12 and 13; 0 for 14; for
+    /// 21 the first service, counted from 1, whose demand is out of range, 0 for count and rate.
     pub place: u64,
     /// 0 network and 1 plan for 1, 2, 3 and 5; 0 old and 1 new for 4; the flow for 6; the link
-    /// for 7, 8 and 9; 0 for 10, 12, 13 and 14.
+    /// for 7, 8 and 9; 0 for 10, 12, 13 and 14; 1 for a rate out of range in 21, else 0.
     pub second: u64,
 }
 
@@ -116,6 +120,14 @@ mod archive {
             answer: *mut [u64; 4],
         );
         pub fn pavuneshil_step_bound(scratch: u64, overrun: u64, answer: *mut [u64; 4]);
+        pub fn pavuneshil_share(
+            rate: u64,
+            demands: *const u64,
+            demands_len: usize,
+            out: *mut u64,
+            out_len: usize,
+            answer: *mut [u64; 4],
+        );
         pub fn pavuneshil_none_waiting(
             numbers: *mut [u32; 32],
             tags: *mut [u32; 32],
@@ -243,4 +255,31 @@ pub fn step_bound(scratch: u64, overrun: u64) -> StepBound {
         [2, number, place, second] => StepBound::Refused(refusal(number, place, second)),
         _ => unreachable!("no answer: {four:?}"),
     }
+}
+
+/// Divides a flow's rate among 1 to 16 services with these demands; rate and demands up to
+/// 10,000,000. Done: one share for each service. If the demands add up to at most the rate, each is
+/// met. Else the shares add up to the rate, none is above its demand, and nobody short of its
+/// demand has over one unit less than another, or less than one after it. Refusals 21 and 10.
+///
+/// ```
+/// use pavuneshil::{share, Answer};
+/// let mut shares = [0; 3];
+/// assert_eq!(share(10, &[3, 5, 7], &mut shares), Answer::Done(3));
+/// assert_eq!(shares, [3, 4, 3]);
+/// ```
+pub fn share(rate: u64, demands: &[u64], out: &mut [u64]) -> Answer {
+    let mut four = UNWRITTEN;
+    // Sound: as in `convert`.
+    unsafe {
+        archive::pavuneshil_share(
+            rate,
+            demands.as_ptr(),
+            demands.len(),
+            out.as_mut_ptr(),
+            out.len(),
+            &mut four,
+        );
+    }
+    answer(four)
 }

@@ -1,6 +1,6 @@
 -- `readers::read::give` meets its contract.
 use mathlib.Core.Path.{sym, _∙_}
-use Rattle.forms.proofs.Answers.{give-none, give-all}
+use Rattle.lists.proofs.Rooms.{give-none, give-all}
 use borrow.Author.Needs.{needs}
 use Rattle.readers.proofs.read.give.Statement.{statement}
 use Rattle.readers.proofs.read.give.Tie as tie

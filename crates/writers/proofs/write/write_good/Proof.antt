@@ -4,7 +4,7 @@ use Prim.Native.Nat.{ℕ, _≤_}
 use lib.ListN.{length}
 use Rattle.lists.specs.declared.Answer.the-variants.{Refused}
 use Rattle.forms.specs.Write.{render}
-use Rattle.forms.proofs.Answers.{give-none}
+use Rattle.lists.proofs.Rooms.{give-none}
 use Rattle.writers.proofs.Writing.{given}
 use borrow.Author.Needs.{needs}
 use Rattle.writers.proofs.write.write_good.Statement.{statement}
