@@ -1,12 +1,14 @@
 -- Laws of the answer: where a refusal points, and what is answered and left.
 use Prim.Native.Nat.{ℕ, suc, _≤_, _<_}
 use mathlib.Core.Path.{_≡_, refl, sym, ap, _∙_}
+use mathlib.Core.Bool.{true}
 use mathlib.Core.Option.{Option, none, some}
 use mathlib.Core.List.{List, _++_}
 use native.Mathlib.Omega.{arith}
 use lib.ListN.{length, drop}
 use borrow.Author.Tests.{le-leb, lt-leb, lt-ltb, le-ltb, ltb-false}
 use Rattle.model.specs.Limits.{mostAmount}
+use Rattle.model.specs.Sum.{sumOver}
 use Rattle.model.specs.Search.{onlyIf, orElse, first}
 use Rattle.model.specs.Outcome.{good, Place, unless, unshareable}
 use Rattle.model.proofs.Searches.{first-at, first-none, only-true, only-none}
@@ -15,7 +17,7 @@ use Rattle.lists.specs.Answers.{done, withRoom, lent}
 use Rattle.lists.specs.declared.Answer.{Answer}
 use Rattle.lists.specs.declared.Answer.the-variants.{Done, Refused}
 use Rattle.lists.proofs.Rooms.{give-none, give-all}
-use Rattle.sharing.specs.Share.{mostServices, outside, badDemand, shares, shared}
+use Rattle.sharing.specs.Share.{mostServices, total, outside, badDemand, shares, shared}
 use Rattle.sharing.specs.Inner.{InRange, FirstBad}
 use Rattle.sharing.proofs.Shares.{shares-length}
 
@@ -37,22 +39,26 @@ module _ (rate : ℕ) (demands : List ℕ) where
     unfolding outside onlyIf orElse
     outside-first h = rw (le-leb 1 (length demands) s, le-leb (length demands) mostServices f, le-ltb mostAmount rate h)
 
-    pub outside-demand : (i : ℕ) → rate ≤ mostAmount → FirstBad demands i → i < length demands → outside rate demands ≡ some (record { place = suc i; second = 0 })
+    pub outside-demand : (i sum : ℕ) → rate ≤ mostAmount → FirstBad demands i sum → i < length demands → outside rate demands ≡ some (record { place = suc i; second = 0 })
     unfolding badDemand
-    outside-demand i h b l = outside-first h ∙ first-at (badDemand demands) i (length demands) _ (b .before) (only-true _ _ (lt-ltb mostAmount (at demands i) (b .here l))) l
+    outside-demand i sum h b l = outside-first h ∙ first-at (badDemand demands) i (length demands) _ (b .before) (only-true _ _ (lt-ltb mostAmount (at demands i) (b .here l))) l
 
-    pub inside : (i : ℕ) → rate ≤ mostAmount → FirstBad demands i → length demands ≤ i → outside rate demands ≡ none
-    inside i h b l = let e : i ≡ length demands = omega (arith, b .inside, l) in outside-first h ∙ rw e at (b .before)
+    pub inside : (i sum : ℕ) → rate ≤ mostAmount → FirstBad demands i sum → length demands ≤ i → outside rate demands ≡ none
+    inside i sum h b l = let e : i ≡ length demands = omega (arith, b .inside, l) in outside-first h ∙ rw e at (b .before)
 
-    pub in-range : (i : ℕ) → FirstBad demands i → length demands ≤ i → InRange demands
+    pub in-range : (i sum : ℕ) → FirstBad demands i sum → length demands ≤ i → InRange demands
     unfolding badDemand
-    in-range i b l =
+    in-range i sum b l =
         let e : i ≡ length demands = omega (arith, b .inside, l) in
         record {
           some = s;
           few = f;
           low = λ j k. ltb-false mostAmount (at demands j) (only-none _ _ (first-none (badDemand demands) i (b .before) j (omega (arith, e, k))));
         }
+
+    pub adds-up : (i sum : ℕ) → FirstBad demands i sum → length demands ≤ i → sum ≡ total demands
+    unfolding total
+    adds-up i sum b l = let e : i ≡ length demands = omega (arith, b .inside, l) in b .adds ∙ ap (λ (m : ℕ). sumOver m (λ j. true) (at demands)) e
 
   -- ---- what is answered, and what is left in the output
 

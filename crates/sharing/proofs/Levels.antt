@@ -103,10 +103,6 @@ module _ (demands : List ℕ) where
   unfolding total
   demand-most i h = sum-one n i (λ j. true) (at demands) h refl
 
-  pub met-all : (u : ℕ) → ((i : ℕ) → i < n → at demands i ≤ u) → metBy demands u n ≡ total demands
-  unfolding metBy total
-  met-all u h = sym (sum-all n (λ i. leb (at demands i) u) (at demands)) ∙ sum-cong n (λ i. true) (λ i k q. ap (λ (b : Bool). cond b (at demands i) 0) (le-leb (at demands i) u (h i k)))
-
   -- the higher a level, the more it meets and the fewer are above it
   pub met-mono : (t u : ℕ) → t ≤ u → metBy demands t n ≤ metBy demands u n
   unfolding metBy

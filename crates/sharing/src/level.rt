@@ -15,9 +15,9 @@ pub(crate) struct Level {
 }
 
 // What a level makes of the demands: those that it meets, added up, and how many are above it.
-pub(crate) struct Parts {
-    pub met: u64,
-    pub above: u64,
+struct Parts {
+    met: u64,
+    above: u64,
 }
 
 // A demand that a level meets, else 0.
@@ -37,7 +37,7 @@ pub(crate) fn is_above(demand: u64, level: u64) -> u64
 }
 
 // What a level makes of the demands, in one pass.
-pub(crate) fn split(demands: &[u64], level: u64) -> Parts
+fn split(demands: &[u64], level: u64) -> Parts
     requires { ⌜ InRange (now demands) ⌝ }
     ensures { λ r. ⌜ (r .met ≡ metBy (now (demands .entry)) level (length (now (demands .entry)))) × (r .above ≡ share.above (now (demands .entry)) level (length (now (demands .entry)))) ⌝ }
 {

@@ -31,7 +31,8 @@ pub fn share(rate: u64, demands: &[u64], out: &mut [u64]) -> Answer
     if count == 0 || SERVICES < count {
         return refusal(21, 0, 0);
     }
-    let bad = divide::first_bad(demands);
+    let judged = divide::judge(demands);
+    let bad = judged.bad;
     let service = (bad + 1) as u64;
     if Network::AMOUNT < rate {
         return refusal(21, 0, 1);
@@ -42,6 +43,6 @@ pub fn share(rate: u64, demands: &[u64], out: &mut [u64]) -> Answer
     if out.len() < count {
         return refusal(10, count as u64, 0);
     }
-    divide::give(rate, demands, out);
+    divide::give(rate, demands, judged.sum, out);
     Answer::Done(count)
 }

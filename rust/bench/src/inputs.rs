@@ -171,7 +171,7 @@ pub fn demands(count: usize, met: bool, seed: u64) -> Vec<(u64, Vec<u64>)> {
 }
 
 /// So many times 16 demands of which the level meets one after the other: what the rate leaves to
-/// the unmet, shared evenly, meets just one more each time.
+/// the unmet, shared evenly, meets just one more each time, until it rises by less than 1.
 pub fn stairs(count: usize, seed: u64) -> Vec<(u64, Vec<u64>)> {
     let mut rng = Rng::new(seed);
     (0..count)

@@ -231,7 +231,7 @@ pub fn share(rng: &mut Rng) -> u64 {
 }
 
 /// Demands of which the level meets one after the other: what the rate leaves to the unmet, shared
-/// evenly, meets just one more each time. In any order.
+/// evenly, meets just one more each time, until it rises by less than 1. In any order.
 fn stairs(rng: &mut Rng, rate: u64) -> Vec<u64> {
     let count = rng.between(2, 16);
     let mut demands = Vec::new();

@@ -9,9 +9,9 @@ use lib.ListN.{length}
 use borrow.Author.Needs.{needs}
 use borrow.Author.Tests.{ltb-true, ltb-false}
 use Rattle.lists.specs.declared.Answer.the-variants.{Refused}
-use Rattle.sharing.specs.Share.{mostServices, outside}
+use Rattle.sharing.specs.Share.{mostServices, total, outside}
 use Rattle.sharing.specs.Inner.{InRange}
-use Rattle.sharing.proofs.Answers.{outside-none, outside-many, outside-rate, outside-demand, inside, in-range, share-refused, share-none, share-all}
+use Rattle.sharing.proofs.Answers.{outside-none, outside-many, outside-rate, outside-demand, inside, in-range, adds-up, share-refused, share-none, share-all}
 use Rattle.sharing.proofs.share.Statement.{statement}
 use Rattle.sharing.proofs.share.Tie as tie
 
@@ -25,20 +25,20 @@ returns c =
     let p = share-refused (a .rate) (a .demands .now) (a .out .now) _ count in
     (c .refusal .ensures ∙ p .0, p .1)
 
-first-bad-requires : tie.Need-first-bad-requires
-first-bad-requires c κs = search needs
+-- the count is in range
+counted : (c : tie.Else2)
+    → let l = c .before .before .before .before .args .demands .now in
+    (1 ≤ length l) × (length l ≤ mostServices)
+counted c = (omega (arith, c .before .if1 .left), ltb-false _ _ (c .if2 .left))
+
+judge-requires : tie.Need-judge-requires
+judge-requires c κs = counted c .1
 
 add-service : tie.Need-add-service
 add-service c = search needs
 
 refusal-requires-2 : tie.Need-refusal-requires-2
 refusal-requires-2 c κs = search needs
-
--- the count is in range
-counted : (c : tie.Else2)
-    → let l = c .before .before .before .before .args .demands .now in
-    (1 ≤ length l) × (length l ≤ mostServices)
-counted c = (omega (arith, c .before .if1 .left), ltb-false _ _ (c .if2 .left))
 
 returns-2 : tie.Need-returns-2
 returns-2 c =
@@ -55,20 +55,21 @@ returns-3 c =
     let b = c .before .before .before in
     let a = b .before .before .before .before .before .args in
     let n = counted (b .before) in
-    let e = outside-demand (a .rate) (a .demands .now) (n .0) (n .1) (b .first-bad .result) (c .before .before .if3 .left) (b .first-bad .ensures) (c .before .if4 .taken) in
+    let e = outside-demand (a .rate) (a .demands .now) (n .0) (n .1) (b .judge .result .bad) _ (c .before .before .if3 .left) (b .judge .ensures) (c .before .if4 .taken) in
     let p = share-refused (a .rate) (a .demands .now) (a .out .now) _ e in
     (c .refusal3 .ensures ∙ ap (λ (m : ℕ). Refused 21 m 0) (add-one _) ∙ p .0, p .1)
 
--- all is in range
+-- all is in range, and the demands are added up
 passed : (c : tie.Else4)
     → let a = c .before .before .before .before .before .before .before .args in
-    (outside (a .rate) (a .demands .now) ≡ none) × InRange (a .demands .now)
+    (outside (a .rate) (a .demands .now) ≡ none) × InRange (a .demands .now) × (c .before .before .judge .result .sum ≡ total (a .demands .now))
 passed c =
     let b = c .before .before in
     let a = b .before .before .before .before .before .args in
     let n = counted (b .before) in (
-      inside (a .rate) (a .demands .now) (n .0) (n .1) _ (c .before .if3 .left) (b .first-bad .ensures) (c .if4 .left),
-      in-range (a .rate) (a .demands .now) (n .0) (n .1) _ (b .first-bad .ensures) (c .if4 .left),
+      inside (a .rate) (a .demands .now) (n .0) (n .1) _ _ (c .before .if3 .left) (b .judge .ensures) (c .if4 .left),
+      in-range (a .rate) (a .demands .now) (n .0) (n .1) _ _ (b .judge .ensures) (c .if4 .left),
+      adds-up (a .rate) (a .demands .now) (n .0) (n .1) _ _ (b .judge .ensures) (c .if4 .left),
     )
 
 refusal-requires-4 : tie.Need-refusal-requires-4
@@ -81,7 +82,7 @@ returns-4 c =
     (c .refusal4 .ensures ∙ p .0, p .1)
 
 give-requires : tie.Need-give-requires
-give-requires c κs = (passed (c .before .before) .1, c .before .before .before .if3 .left, c .before .if5 .left)
+give-requires c κs = let p = passed (c .before .before) in (p .1, c .before .before .before .if3 .left, p .2, c .before .if5 .left)
 
 same-length : tie.Need-same-length
 same-length c = search needs
@@ -99,7 +100,7 @@ share-spec =
     (tie.spec
     refusal-requires
     returns
-    first-bad-requires
+    judge-requires
     add-service
     refusal-requires-2
     returns-2

@@ -1,35 +1,25 @@
 -- `sharing::divide::give` meets its contract. Assumes nothing.
 use Prim.Native.Nat.{ℕ}
-use mathlib.Core.Path.{_≡_, ap, _∙_}
+use mathlib.Core.Path.{ap, _∙_}
 use mathlib.Core.List.{List, _++_}
 use native.Mathlib.Omega.{arith}
 use lib.ListN.{length, drop}
-use Rattle.model.specs.Limits.{mostAmount}
-use Rattle.sharing.specs.Share.{total}
-use Rattle.sharing.specs.Inner.{metBy}
-use Rattle.sharing.proofs.Levels.{met-all, level-low}
+use Rattle.sharing.proofs.Levels.{level-low}
 use Rattle.sharing.proofs.Shares.{shares-met, shares-found}
 use borrow.Author.Needs.{needs}
 use Rattle.sharing.proofs.divide.give.Statement.{statement}
 use Rattle.sharing.proofs.divide.give.Tie as tie
 
--- the largest amount meets every demand
-whole : (c : tie.Start) → metBy (c .args .demands .now) mostAmount (length (c .args .demands .now)) ≡ total (c .args .demands .now)
-whole c = met-all (c .args .demands .now) mostAmount (c .pre .0 .low)
-
-split-requires : tie.Need-split-requires
-split-requires c κs = search needs
-
 fill-requires : tie.Need-fill-requires
 fill-requires c κs = search needs
 
 find-requires : tie.Need-find-requires
-find-requires c κs = let a = c .before .before .before .before .before in (a .pre .0, a .pre .1, omega (arith, c .if1 .left, c .before .before .split .ensures .0, whole a))
+find-requires c κs = search needs
 
 fill-requires-2 : tie.Need-fill-requires-2
 fill-requires-2 c κs =
-    let a = c .before .before .before .before .before .before .before in
-    (a .pre .2, omega (arith, a .pre .1, c .before .find .ensures .0, level-low (a .args .rate) (a .args .demands .now)))
+    let a = c .before .before .before .before .before in
+    (a .pre .3, omega (arith, a .pre .1, c .before .find .ensures .0, level-low (a .args .rate) (a .args .demands .now)))
 
 same-length : tie.Need-same-length
 same-length c = search needs
@@ -37,8 +27,8 @@ same-length c = search needs
 returns : tie.Need-returns
 returns c =
     let b = c .before .before in
-    let a = b .before .before .before .before .before .before .before in
-    b .fill .ensures ∙ ap (λ (l : List ℕ). l ++ drop (length (a .args .demands .now)) (a .args .out .now)) (shares-met (a .args .rate) (a .args .demands .now) (omega (arith, b .before .before .if1 .taken, b .before .before .before .before .split .ensures .0, whole a)))
+    let a = b .before .before .before .before .before in
+    b .fill .ensures ∙ ap (λ (l : List ℕ). l ++ drop (length (a .args .demands .now)) (a .args .out .now)) (shares-met (a .args .rate) (a .args .demands .now) (omega (arith, b .before .before .if1 .taken, a .pre .2)))
 
 same-length-2 : tie.Need-same-length-2
 same-length-2 c = search needs
@@ -46,15 +36,14 @@ same-length-2 c = search needs
 returns-2 : tie.Need-returns-2
 returns-2 c =
     let b = c .before .before in
-    let a = b .before .before .before .before .before .before .before .before in
+    let a = b .before .before .before .before .before .before in
     let f = b .before .before .find in
-    b .fill2 .ensures ∙ ap (λ (l : List ℕ). l ++ drop (length (a .args .demands .now)) (a .args .out .now)) (shares-found (a .args .rate) (a .args .demands .now) (f .ensures .0) (f .ensures .1) (omega (arith, b .before .before .before .if1 .left, b .before .before .before .before .before .split .ensures .0, whole a)))
+    b .fill2 .ensures ∙ ap (λ (l : List ℕ). l ++ drop (length (a .args .demands .now)) (a .args .out .now)) (shares-found (a .args .rate) (a .args .demands .now) (f .ensures .0) (f .ensures .1) (omega (arith, b .before .before .before .if1 .left, a .pre .2)))
 
 pub give-spec : {M : Type 1} → statement M
 give-spec =
     tie.close
     (tie.spec
-    split-requires
     fill-requires
     find-requires
     fill-requires-2
