@@ -1,5 +1,5 @@
 /*
- * Sharing a flow: 100 Mbit/s among four services. Each is met while the demands add up to at most that; then the small
+ * Sharing a flow: some 100 Mbit/s among four services. Each is met while the demands add up to at most that; then the small
  * demands are met and the others are cut to one level, the units left over going to the first of them. Then one call of
  * each kind that is refused. Prints a line for each call.
  *

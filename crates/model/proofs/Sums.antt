@@ -1,6 +1,6 @@
 -- The laws of sums: a proof about sums cites these and does not open `sumOver`.
 use Prim.Native.Nat.{ℕ, zero, suc, _+_, _*_, _≤_, _<_}
-use mathlib.Core.Path.{_≡_, refl, sym, ap, _∙_}
+use mathlib.Core.Path.{_≡_, refl, sym, ap, ap₂, _∙_}
 use mathlib.Core.Logic.{_≢_, ⊎-elim}
 use mathlib.Core.Bool.{Bool, true, false, cond, true≢false}
 use native.Mathlib.Nat.{add-zero, eq-or-lt-of-le, le-of-suc-le-suc}
@@ -18,6 +18,10 @@ sum-zero p x = refl
 pub sum-next : (n : ℕ) (p : ℕ → Bool) (x : ℕ → ℕ) → sumOver (n + 1) p x ≡ sumOver n p x + cond (p n) (x n) 0
 unfolding sumOver
 sum-next n p x = ap (λ m. sumOver m p x) (add-one n)
+
+-- a sum so far and what is added to it
+pub sum-on : (n : ℕ) (p : ℕ → Bool) (x : ℕ → ℕ) {m v : ℕ} → m ≡ sumOver n p x → v ≡ cond (p n) (x n) 0 → m + v ≡ sumOver (n + 1) p x
+sum-on n p x e k = ap₂ (λ (a b : ℕ). a + b) e k ∙ sym (sum-next n p x)
 
 pub sum-take : (n : ℕ) (p : ℕ → Bool) (x : ℕ → ℕ) → p n ≡ true → sumOver (n + 1) p x ≡ sumOver n p x + x n
 sum-take n p x e = sum-next n p x ∙ ap (λ (b : Bool). sumOver n p x + cond b (x n) 0) e
@@ -107,6 +111,16 @@ pub sum-all : (n : ℕ) (p : ℕ → Bool) (x : ℕ → ℕ) → sumOver n (λ t
 unfolding sumOver
 sum-all zero p x = refl
 sum-all (suc n) p x = ap (λ (m : ℕ). m + cond (p n) (x n) 0) (sum-all n p x)
+
+-- the more the test picks, the more the sum is
+pub sum-wider : (n : ℕ) (p q : ℕ → Bool) (x : ℕ → ℕ) → ((t : ℕ) → p t ≡ true → q t ≡ true) → sumOver n p x ≤ sumOver n q x
+unfolding sumOver
+sum-wider zero p q x h = omega arith
+sum-wider (suc n) p q x h = omega (arith, sum-wider n p q x h, cond-wider (p n) (q n) (h n))
+  where
+    cond-wider : (a b : Bool) → (a ≡ true → b ≡ true) → cond a (x n) 0 ≤ cond b (x n) 0
+    cond-wider false b k = omega arith
+    cond-wider true b k = rw (k refl) (omega arith)
 
 -- a summand that the test picks is at most the sum
 pub sum-one : (n i : ℕ) (p : ℕ → Bool) (x : ℕ → ℕ) → i < n → p i ≡ true → x i ≤ sumOver n p x

@@ -43,22 +43,20 @@ module _ (rate : ℕ) (demands : List ℕ) where
     unfolding badDemand
     outside-demand i sum h b l = outside-first h ∙ first-at (badDemand demands) i (length demands) _ (b .before) (only-true _ _ (lt-ltb mostAmount (at demands i) (b .here l))) l
 
-    pub inside : (i sum : ℕ) → rate ≤ mostAmount → FirstBad demands i sum → length demands ≤ i → outside rate demands ≡ none
-    inside i sum h b l = let e : i ≡ length demands = omega (arith, b .inside, l) in outside-first h ∙ rw e at (b .before)
-
-    pub in-range : (i sum : ℕ) → FirstBad demands i sum → length demands ≤ i → InRange demands
-    unfolding badDemand
-    in-range i sum b l =
-        let e : i ≡ length demands = omega (arith, b .inside, l) in
-        record {
-          some = s;
-          few = f;
-          low = λ j k. ltb-false mostAmount (at demands j) (only-none _ _ (first-none (badDemand demands) i (b .before) j (omega (arith, e, k))));
-        }
-
-    pub adds-up : (i sum : ℕ) → FirstBad demands i sum → length demands ≤ i → sum ≡ total demands
-    unfolding total
-    adds-up i sum b l = let e : i ≡ length demands = omega (arith, b .inside, l) in b .adds ∙ ap (λ (m : ℕ). sumOver m (λ j. true) (at demands)) e
+    -- no demand is out of range
+    pub inside : (i sum : ℕ) → rate ≤ mostAmount → FirstBad demands i sum → length demands ≤ i
+        → (outside rate demands ≡ none) × InRange demands × (sum ≡ total demands)
+    unfolding badDemand total
+    inside i sum h b l =
+        let e : i ≡ length demands = omega (arith, b .inside, l) in (
+          outside-first h ∙ rw e at (b .before),
+          record {
+            some = s;
+            few = f;
+            low = λ j k. ltb-false mostAmount (at demands j) (only-none _ _ (first-none (badDemand demands) i (b .before) j (omega (arith, e, k))));
+          },
+          b .adds ∙ ap (λ (m : ℕ). sumOver m (λ j. true) (at demands)) e,
+        )
 
   -- ---- what is answered, and what is left in the output
 

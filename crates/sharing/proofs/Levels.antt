@@ -8,9 +8,9 @@ use native.Mathlib.Nat.{le-antisymm}
 use native.Mathlib.Omega.{arith}
 use lib.Dec.{leb, ltb}
 use lib.ListN.{length}
-use borrow.Author.Tests.{le-leb, lt-leb, lt-ltb, le-ltb, leb-true, ltb-true, ltb-false}
+use borrow.Author.Tests.{le-leb, lt-leb, lt-ltb, leb-true, ltb-true, ltb-false}
 use Rattle.model.specs.Sum.{sumOver}
-use Rattle.model.proofs.Sums.{sum-mono, sum-cong, sum-add, sum-mul, sum-bound, sum-all, sum-one, sum-zero, sum-next}
+use Rattle.model.proofs.Sums.{sum-mono, sum-cong, sum-add, sum-mul, sum-bound, sum-all, sum-one, sum-wider}
 use Rattle.model.proofs.Searches.{bool-cases, le-of-not-lt}
 use Rattle.lists.specs.Lists.{at}
 use Rattle.sharing.specs.Share.{total, upTo, largest, level, above}
@@ -23,48 +23,17 @@ use Rattle.sharing.specs.Inner.{metBy}
 abbrev parts : ℕ → ℕ → ℕ → ℕ
 parts t u d = cond (leb d t) d 0 + u * cond (ltb t d) 1 0
 
-parts-met : (t u d : ℕ) → d ≤ t → parts t u d ≡ d
-parts-met t u d h = rw (le-leb d t h, le-ltb t d h) (omega arith)
-
-parts-above : (t u d : ℕ) → t < d → parts t u d ≡ u
-parts-above t u d h = rw (lt-leb d t h, lt-ltb t d h) (omega arith)
-
-parts-most : (t u d : ℕ) → min d u ≤ parts t u d
-parts-most t u d =
+-- no less than the lesser of the demand and the multiplier, and just that where the multiplier is the level or the next
+parts-least : (t u d : ℕ) → (min d u ≤ parts t u d) × (t ≤ u → u ≤ t + 1 → min d u ≡ parts t u d)
+parts-least t u d =
     ⊎-elim
-    (λ e. omega (arith, parts-above t u d (ltb-true t d e)))
-    (λ e. omega (arith, parts-met t u d (ltb-false t d e)))
+    (λ e. let k = ltb-true t d e in rw (lt-leb d t k, e) (omega arith, λ l h. omega (arith, k, l, h)))
+    (λ e. let k = ltb-false t d e in rw (le-leb d t k, e) (omega arith, λ l h. omega (arith, k, l, h)))
     (bool-cases (ltb t d))
-
-parts-exact : (t u d : ℕ) → t ≤ u → u ≤ t + 1 → min d u ≡ parts t u d
-parts-exact t u d l h =
-    ⊎-elim
-    (λ e. let k = ltb-true t d e in omega (arith, parts-above t u d k))
-    (λ e. let k = ltb-false t d e in omega (arith, parts-met t u d k))
-    (bool-cases (ltb t d))
-
--- ---- one demand more: what a loop that goes up proves at each turn
-
-module _ (demands : List ℕ) (t i m x : ℕ) where
-  pub met-next : m ≡ metBy demands t i → x ≡ cond (leb (at demands i) t) (at demands i) 0 → m + x ≡ metBy demands t (i + 1)
-  unfolding metBy
-  met-next e k = ap₂ (λ (a b : ℕ). a + b) e k ∙ sym (sum-next i (λ j. leb (at demands j) t) (at demands))
-
-  pub above-next : m ≡ above demands t i → x ≡ cond (ltb t (at demands i)) 1 0 → m + x ≡ above demands t (i + 1)
-  unfolding above
-  above-next e k = ap₂ (λ (a b : ℕ). a + b) e k ∙ sym (sum-next i (λ j. ltb t (at demands j)) (λ j. 1))
 
 -- ---- the sum at a level
 
 module _ (demands : List ℕ) where
-  pub met-zero : (t : ℕ) → 0 ≡ metBy demands t 0
-  unfolding metBy
-  met-zero t = sym (sum-zero (λ j. leb (at demands j) t) (at demands))
-
-  pub above-zero : (t : ℕ) → 0 ≡ above demands t 0
-  unfolding above
-  above-zero t = sym (sum-zero (λ j. ltb t (at demands j)) (λ j. 1))
-
   abbrev n : ℕ
   n = length demands
 
@@ -79,12 +48,12 @@ module _ (demands : List ℕ) where
   -- at any level u no more than what t meets, and u for each above t
   pub up-to-most : (t u : ℕ) → upTo demands u ≤ metBy demands t n + u * above demands t n
   unfolding upTo
-  up-to-most t u = rw (sym (sum-parts t u)) (sum-mono n (λ i. true) (λ i k q. parts-most t u (at demands i)))
+  up-to-most t u = rw (sym (sum-parts t u)) (sum-mono n (λ i. true) (λ i k q. parts-least t u (at demands i) .0))
 
   -- at t and at the next level just that
   pub up-to-exact : (t u : ℕ) → t ≤ u → u ≤ t + 1 → upTo demands u ≡ metBy demands t n + u * above demands t n
   unfolding upTo
-  up-to-exact t u l h = sum-cong n (λ i. true) (λ i k q. parts-exact t u (at demands i) l h) ∙ sum-parts t u
+  up-to-exact t u l h = sum-cong n (λ i. true) (λ i k q. parts-least t u (at demands i) .1 l h) ∙ sum-parts t u
 
   pub up-to-mono : (t u : ℕ) → t ≤ u → upTo demands t ≤ upTo demands u
   unfolding upTo
@@ -106,21 +75,11 @@ module _ (demands : List ℕ) where
   -- the higher a level, the more it meets and the fewer are above it
   pub met-mono : (t u : ℕ) → t ≤ u → metBy demands t n ≤ metBy demands u n
   unfolding metBy
-  met-mono t u h =
-      rw (sym (sum-all n (λ i. leb (at demands i) t) (at demands)), sym (sum-all n (λ i. leb (at demands i) u) (at demands)))
-      (sum-mono n (λ i. true) (λ i k q. one (at demands i)))
-    where
-      one : (d : ℕ) → cond (leb d t) d 0 ≤ cond (leb d u) d 0
-      one d = ⊎-elim (λ e. rw (e, le-leb d u (omega (arith, leb-true d t e, h))) (omega arith)) (λ e. rw e (omega arith)) (bool-cases (leb d t))
+  met-mono t u h = sum-wider n _ _ (at demands) (λ i e. le-leb (at demands i) u (omega (arith, leb-true (at demands i) t e, h)))
 
   pub above-mono : (t u : ℕ) → t ≤ u → above demands u n ≤ above demands t n
   unfolding above
-  above-mono t u h =
-      rw (sym (sum-all n (λ i. ltb t (at demands i)) (λ i. 1)), sym (sum-all n (λ i. ltb u (at demands i)) (λ i. 1)))
-      (sum-mono n (λ i. true) (λ i k q. one (at demands i)))
-    where
-      one : (d : ℕ) → cond (ltb u d) 1 0 ≤ cond (ltb t d) 1 0
-      one d = ⊎-elim (λ e. rw (e, lt-ltb t d (omega (arith, ltb-true u d e, h))) (omega arith)) (λ e. rw e (omega arith)) (bool-cases (ltb u d))
+  above-mono t u h = sum-wider n _ _ (λ i. 1) (λ i e. lt-ltb t (at demands i) (omega (arith, ltb-true u (at demands i) e, h)))
 
   pub above-count : (t : ℕ) → above demands t n ≤ n
   unfolding above

@@ -13,7 +13,7 @@ use Rattle.lists.specs.Lists.{at}
 use Rattle.sharing.specs.Share.{total, upTo, level, above, shareAt, shares}
 use Rattle.sharing.specs.Claim.{Claim, Fair, IsLevel}
 use Rattle.sharing.proofs.Levels.{is-level, up-to-exact}
-use Rattle.sharing.proofs.Shares.{share-within, share-most, share-short, share-first, shares-all, shares-met, shares-cut, shares-length, shares-total}
+use Rattle.sharing.proofs.Shares.{share-bounds, share-first, shares-all, shares-met, shares-cut, shares-length, shares-total}
 use Rattle.sharing.proofs.Answers.{shared-good}
 use Rattle.sharing.proofs.Only.{only}
 
@@ -45,10 +45,10 @@ fair rate demands =
           let i = is-level rate demands h in
           ap total (shares-cut rate demands h)
           ∙ omega (arith, shares-total demands (level rate demands) (rate - upTo demands (level rate demands)) (few-left rate demands (level rate demands) i), i .fits);
-      within = λ i h. omega (arith, r .2 i h, share-within demands t left i);
+      within = λ i h. omega (arith, r .2 i h, share-bounds demands t left i .0);
       even =
           λ i j h k l.
-          omega (arith, r .2 i h, r .2 j k, share-most demands t left j, share-short demands t left i (omega (arith, r .2 i h, l)));
+          omega (arith, r .2 i h, r .2 j k, share-bounds demands t left j .1, share-bounds demands t left i .2 (omega (arith, r .2 i h, l)));
       lowest =
           λ i j l k g.
           let h : i < length demands = omega (arith, l, k) in

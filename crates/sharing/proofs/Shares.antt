@@ -1,10 +1,11 @@
 -- Laws of the shares at a level.
 use Prim.Native.Nat.{ℕ, zero, suc, _+_, _-_, _≤_, _<_, min}
-use mathlib.Core.Path.{_≡_, sym, ap, ap₂, _∙_}
+use mathlib.Core.Path.{_≡_, refl, sym, ap, ap₂, _∙_}
 use mathlib.Core.Logic.{⊎-elim}
 use mathlib.Core.Bool.{Bool, true, false, cond, _&&_}
 use mathlib.Core.List.{List}
 use native.Mathlib.Nat.{le-trans, eq-or-lt-of-le, le-of-suc-le-suc}
+use native.Mathlib.Numerals.{add-one}
 use native.Mathlib.Omega.{arith}
 use lib.Dec.{leb, ltb}
 use lib.ListN.{length}
@@ -12,7 +13,7 @@ use lib.Seq.{ext-getD}
 use borrow.Author.Tests.{le-leb, lt-leb, lt-ltb, le-ltb, ltb-true, ltb-false}
 use Rattle.model.specs.Sum.{sumOver}
 use Rattle.model.specs.Listed.{listed}
-use Rattle.model.proofs.Sums.{sum-cong, sum-add, sum-next}
+use Rattle.model.proofs.Sums.{sum-zero, sum-next, sum-cong, sum-add}
 use Rattle.model.proofs.Searches.{bool-cases}
 use Rattle.model.proofs.Listed.{listed-length, listed-at}
 use Rattle.lists.specs.Lists.{at}
@@ -30,34 +31,24 @@ module _ (demands : List ℕ) (t left : ℕ) where
   unfolding shareAt unit
   share-met i h = rw (le-ltb t (at demands i) h) (omega (arith, h))
 
-  pub share-cut : (i : ℕ) → t < at demands i → (t ≤ shareAt demands t left i) × (shareAt demands t left i ≤ t + 1)
+  share-cut : (i : ℕ) → t < at demands i → (t ≤ shareAt demands t left i) × (shareAt demands t left i ≤ t + 1)
   unfolding shareAt unit
-  share-cut i h =
-      let b = bit-most (ltb t (at demands i) && ltb (above demands t i) left) in
-      (omega (arith, h), omega (arith, h, b))
+  share-cut i h = (omega (arith, h), omega (arith, h, bit-most (ltb t (at demands i) && ltb (above demands t i) left)))
 
-  pub share-within : (i : ℕ) → shareAt demands t left i ≤ at demands i
-  share-within i =
+  -- a share is no more than the demand, at most one above the level, and not below it where it is short of the demand
+  pub share-bounds : (i : ℕ)
+      → (shareAt demands t left i ≤ at demands i) × (shareAt demands t left i ≤ t + 1) × (shareAt demands t left i < at demands i → t ≤ shareAt demands t left i)
+  share-bounds i =
       ⊎-elim
-      (λ e. let h = ltb-true t (at demands i) e in omega (arith, h, share-cut i h .1))
-      (λ e. omega (arith, share-met i (ltb-false t (at demands i) e)))
-      (bool-cases (ltb t (at demands i)))
-
-  pub share-most : (i : ℕ) → shareAt demands t left i ≤ t + 1
-  share-most i =
-      ⊎-elim
-      (λ e. share-cut i (ltb-true t (at demands i) e) .1)
-      (λ e. let h = ltb-false t (at demands i) e in omega (arith, h, share-met i h))
-      (bool-cases (ltb t (at demands i)))
-
-  pub share-short : (i : ℕ) → shareAt demands t left i < at demands i → t ≤ shareAt demands t left i
-  share-short i k =
-      ⊎-elim
-      (λ e. share-cut i (ltb-true t (at demands i) e) .0)
-      (λ e. absurd (omega (arith, k, share-met i (ltb-false t (at demands i) e))))
+      (λ e. let h = ltb-true t (at demands i) e in let c = share-cut i h in (omega (arith, h, c .1), c .1, λ k. c .0))
+      (λ e. let h = ltb-false t (at demands i) e in let m = share-met i h in (omega (arith, m), omega (arith, h, m), λ k. absurd (omega (arith, k, m))))
       (bool-cases (ltb t (at demands i)))
 
   -- ---- the units, one after the other
+
+  pub above-zero : above demands t 0 ≡ 0
+  unfolding above
+  above-zero = sum-zero _ _
 
   -- what a turn of the code gives, when so many units are left for service i and those after it
   pub unit-next : (i rest one : ℕ) → rest ≡ left - above demands t i → one ≡ min (cond (ltb t (at demands i)) 1 0) rest
@@ -99,25 +90,20 @@ module _ (demands : List ℕ) (t left : ℕ) where
       (λ (e : ltb t (at demands i) ≡ true).
       let h = ltb-true t (at demands i) e in
       ⊎-elim
-      (λ g. omega (arith, share-most j, unit-one i h (ltb-true (above demands t i) left g), h))
+      (λ g. omega (arith, share-bounds j .1, unit-one i h (ltb-true (above demands t i) left g), h))
       (λ g. omega (arith, unit-none j (le-trans (ltb-false (above demands t i) left g) (above-later i j l)), h))
       (bool-cases (ltb (above demands t i) left)))
       (λ (e : ltb t (at demands i) ≡ false). absurd (omega (arith, k, share-met i (ltb-false t (at demands i) e))))
       (bool-cases (ltb t (at demands i)))
 
-  -- together as many as are left, where there are enough services above the level
-  units : (n : ℕ) → sumOver n (λ i. true) (unit demands t left) ≡ min (above demands t n) left
-  unfolding sumOver above unit
-  units zero = omega arith
+  -- those given and those still left are all
+  units : (n : ℕ) → left ≡ sumOver n (λ i. true) (unit demands t left) + (left - above demands t n)
+  unfolding sumOver
+  units zero = omega (arith, above-zero)
   units (suc n) =
-      let h = units n in
-      ⊎-elim
-      (λ (b : ltb t (at demands n) ≡ true). rw b (⊎-elim
-      (λ (k : ltb (above demands t n) left ≡ true). rw k (omega (arith, h, ltb-true (above demands t n) left k)))
-      (λ (k : ltb (above demands t n) left ≡ false). rw k (omega (arith, h, ltb-false (above demands t n) left k)))
-      (bool-cases (ltb (above demands t n) left))))
-      (λ (b : ltb t (at demands n) ≡ false). rw b (omega (arith, h)))
-      (bool-cases (ltb t (at demands n)))
+      let s = unit-next n (left - above demands t n) _ refl refl in
+      let e : above demands t (n + 1) ≡ above demands t (suc n) = ap (above demands t) (add-one n) in
+      omega (arith, units n, s .0, s .1, s .2, e)
 
 -- ---- all shares
 

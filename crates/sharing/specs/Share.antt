@@ -42,7 +42,7 @@ above demands t i = sumOver i (λ j. ltb t (at demands j)) (λ j. 1)
 unfoldable pub unit : List ℕ → ℕ → ℕ → ℕ → ℕ
 unit demands t left i = cond (ltb t (at demands i) && ltb (above demands t i) left) 1 0
 
--- "each gets that minimum, and the units left"; then of all services, at a level
+-- "each gets that minimum, and the units left go one each": one service's share, and all shares at level t
 unfoldable pub shareAt : List ℕ → ℕ → ℕ → ℕ → ℕ
 shareAt demands t left i = min (at demands i) t + unit demands t left i
 

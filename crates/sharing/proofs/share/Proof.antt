@@ -11,7 +11,7 @@ use borrow.Author.Tests.{ltb-true, ltb-false}
 use Rattle.lists.specs.declared.Answer.the-variants.{Refused}
 use Rattle.sharing.specs.Share.{mostServices, total, outside}
 use Rattle.sharing.specs.Inner.{InRange}
-use Rattle.sharing.proofs.Answers.{outside-none, outside-many, outside-rate, outside-demand, inside, in-range, adds-up, share-refused, share-none, share-all}
+use Rattle.sharing.proofs.Answers.{outside-none, outside-many, outside-rate, outside-demand, inside, share-refused, share-none, share-all}
 use Rattle.sharing.proofs.share.Statement.{statement}
 use Rattle.sharing.proofs.share.Tie as tie
 
@@ -66,11 +66,8 @@ passed : (c : tie.Else4)
 passed c =
     let b = c .before .before in
     let a = b .before .before .before .before .before .args in
-    let n = counted (b .before) in (
-      inside (a .rate) (a .demands .now) (n .0) (n .1) _ _ (c .before .if3 .left) (b .judge .ensures) (c .if4 .left),
-      in-range (a .rate) (a .demands .now) (n .0) (n .1) _ _ (b .judge .ensures) (c .if4 .left),
-      adds-up (a .rate) (a .demands .now) (n .0) (n .1) _ _ (b .judge .ensures) (c .if4 .left),
-    )
+    let n = counted (b .before) in
+    inside (a .rate) (a .demands .now) (n .0) (n .1) _ _ (c .before .if3 .left) (b .judge .ensures) (c .if4 .left)
 
 refusal-requires-4 : tie.Need-refusal-requires-4
 refusal-requires-4 c κs = search needs

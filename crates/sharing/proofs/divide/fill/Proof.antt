@@ -7,8 +7,7 @@ use lib.ListN.{length, drop, length-set}
 use Rattle.model.specs.Listed.{listed}
 use Rattle.model.proofs.Listed.{listed-none, listed-on, listed-to}
 use Rattle.sharing.specs.Share.{above, unit, shareAt}
-use Rattle.sharing.proofs.Levels.{above-zero}
-use Rattle.sharing.proofs.Shares.{unit-next}
+use Rattle.sharing.proofs.Shares.{above-zero, unit-next}
 use borrow.Author.Needs.{needs}
 use Rattle.sharing.proofs.divide.fill.Statement.{statement}
 use Rattle.sharing.proofs.divide.fill.Tie as tie
@@ -25,7 +24,7 @@ abbrev μ-loop : tie.MeasureT-loop
 μ-loop demands out₀ t left₀ i₀ out left i = length demands - i
 
 loop-holds : tie.Need-loop-holds Inv-loop μ-loop
-loop-holds c = let a = c .before .before .args in record { size = refl; low = omega arith; rest = omega (arith, above-zero (a .demands .now) (a .level .at)); done = listed-none _ _ }
+loop-holds c = let a = c .before .before .args in record { size = refl; low = omega arith; rest = omega (arith, above-zero (a .demands .now) (a .level .at) (a .level .left)); done = listed-none _ _ }
 
 mul-demand : tie.Need-mul-demand Inv-loop μ-loop
 mul-demand c = search needs

@@ -1,6 +1,6 @@
 -- `sharing::divide::judge` meets its contract: no demand passed is out of range, and those passed are added up. Assumes nothing.
-use Prim.Native.Nat.{ℕ, _+_, _-_, _*_, _≤_}
-use mathlib.Core.Path.{_≡_, refl, sym, ap, _∙_}
+use Prim.Native.Nat.{_-_, _*_, _≤_}
+use mathlib.Core.Path.{_≡_, refl, sym}
 use mathlib.Core.Bool.{true}
 use mathlib.Core.Option.{none}
 use native.Mathlib.Omega.{arith}
@@ -9,7 +9,7 @@ use borrow.Author.Tests.{le-ltb}
 use Rattle.model.specs.Sum.{sumOver}
 use Rattle.model.specs.Search.{first}
 use Rattle.model.specs.Limits.{mostAmount}
-use Rattle.model.proofs.Sums.{sum-zero, sum-take}
+use Rattle.model.proofs.Sums.{sum-zero, sum-on}
 use Rattle.model.proofs.Searches.{first-zero, first-on, only-false}
 use Rattle.lists.specs.Lists.{at}
 use Rattle.sharing.specs.Share.{badDemand}
@@ -56,7 +56,7 @@ loop-again c =
     record {
       low = omega (arith, c .before .before .loop-test .taken);
       good = first-on _ (l .i) (l .inv .good) (only-false _ _ (le-ltb _ _ (c .if1 .left)));
-      adds = ap (λ (m : ℕ). m + at (c .before .before .before .before .args .demands .now) (l .i)) (l .inv .adds) ∙ sym (sum-take (l .i) _ _ refl);
+      adds = sum-on (l .i) _ _ (l .inv .adds) refl;
       small = omega (arith, l .inv .small, c .if1 .left);
     }
 

@@ -1,12 +1,12 @@
 -- `sharing::level::split` meets its contract: the demands passed are added up or counted. Assumes nothing.
 use Prim.Native.Nat.{_-_, _*_, _≤_}
-use mathlib.Core.Path.{_≡_, ap, _∙_}
+use mathlib.Core.Path.{_≡_, sym, ap, _∙_}
 use native.Mathlib.Omega.{arith}
 use lib.ListN.{length}
 use Rattle.model.specs.Limits.{mostAmount}
+use Rattle.model.proofs.Sums.{sum-zero, sum-on}
 use Rattle.sharing.specs.Share as share
 use Rattle.sharing.specs.Inner.{metBy}
-use Rattle.sharing.proofs.Levels.{met-zero, above-zero, met-next, above-next}
 use borrow.Author.Needs.{needs}
 use Rattle.sharing.proofs.level.split.Statement.{statement}
 use Rattle.sharing.proofs.level.split.Tie as tie
@@ -24,7 +24,8 @@ abbrev μ-loop : tie.MeasureT-loop
 μ-loop demands level sum₀ above₀ i₀ sum above i = length demands - i
 
 loop-holds : tie.Need-loop-holds Inv-loop μ-loop
-loop-holds c = record { met = met-zero _ _; over = above-zero _ _; small = omega arith; few = omega arith; low = omega arith }
+unfolding metBy share.above
+loop-holds c = record { met = sym (sum-zero _ _); over = sym (sum-zero _ _); small = omega arith; few = omega arith; low = omega arith }
 
 mul-demand : tie.Need-mul-demand Inv-loop μ-loop
 mul-demand c = search needs
@@ -56,12 +57,13 @@ loop-less : tie.Need-loop-less Inv-loop μ-loop
 loop-less c = search needs
 
 loop-again : tie.Need-loop-again Inv-loop μ-loop
+unfolding metBy share.above
 loop-again c =
     let l = c .before .before .before .before .loop in
     let below = c .before .before .before .loop-test .taken in
     record {
-      met = met-next _ _ (l .i) _ _ (l .inv .met) (c .before .met .ensures .0);
-      over = above-next _ _ (l .i) _ _ (l .inv .over) (c .is-above .ensures .0);
+      met = sum-on (l .i) _ _ (l .inv .met) (c .before .met .ensures .0);
+      over = sum-on (l .i) _ _ (l .inv .over) (c .is-above .ensures .0);
       small = omega (arith, l .inv .small, added (c .before));
       few = omega (arith, l .inv .few, c .is-above .ensures .1);
       low = omega (arith, below);
