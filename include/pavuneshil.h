@@ -36,8 +36,8 @@
  *       rate out of range                       0                            1
  *       demand out of range                     first such service           0
  *
- * Lines, steps and services count from 1, rows, links, flows, tunnels and desks from 0. After a refusal everything lent is left
- * as it was, except the marks after 7 and 8. Output beyond the written length is never touched.
+ * Lines, steps and services count from 1, rows, links, flows, tunnels and desks from 0. After a refusal everything lent is
+ * left as it was, except the marks after 7 and 8. Output beyond the written length is never touched.
  */
 #ifndef PAVUNESHIL_H
 #define PAVUNESHIL_H
