@@ -11,7 +11,8 @@
  *   - what is written to (out, marks, answer, the parts of a state) overlaps nothing else passed in the same call.
  *
  * A text is bytes. A list has one 64-bit number for each line of the text, in line order. Lengths are in bytes for texts
- * and marks, in numbers for lists.
+ * and marks, in numbers for lists. A line of a text that begins with # is a remark: up to 80 bytes before its line feed, the
+ * # among them, at most 32 in a text, anywhere. Lists have none, and what is written has none.
  *
  * The answer is four numbers (the step bound and the desks have other values after PAVUNESHIL_DONE; see there):
  *   { PAVUNESHIL_DONE,    length, 0, 0 }              done; length items of the output were written
@@ -36,6 +37,8 @@
  *       rate out of range                       0                            1
  *       demand out of range                     first such service           0
  *
+ * A longer remark, a 33rd one, or one that the text's end cuts meets 1. In a text, lines count remarks; of a list, a number's
+ * position stands for its line.
  * Lines, steps and services count from 1, rows, links, flows, tunnels and desks from 0. After a refusal everything lent is
  * left as it was, except the marks after 7 and 8. Output beyond the written length is never touched.
  */
@@ -57,18 +60,18 @@ extern "C" {
 /* No valid input needs more room than this. */
 #define PAVUNESHIL_NETWORK_NUMBERS 518 /* the list of a network */
 #define PAVUNESHIL_PLAN_NUMBERS 4708   /* the list of a plan */
-#define PAVUNESHIL_TEXT_BYTES 65536    /* either text */
+#define PAVUNESHIL_TEXT_BYTES 65536    /* either text, with its remarks */
 #define PAVUNESHIL_MARKS 96            /* the marks of a check */
 #define PAVUNESHIL_SERVICES 16         /* the shares of a flow */
 
 /*
- * Reads a network text. Done: out begins with the network's list, which has the number of each line.
+ * Reads a network text. Done: out begins with the network's list, which has the number of each line that is no remark.
  * Refused: the first of 1, 2 and 3 that a line meets, line after line (3, then 1, then 2); then 4; then 10.
  */
 void pavuneshil_read_network(const uint8_t *text, size_t text_len, uint64_t *out, size_t out_len, uint64_t answer[4]);
 
 /*
- * Reads a plan text. Done: out begins with the plan's list, which has the number of each line.
+ * Reads a plan text. Done: out begins with the plan's list, which has the number of each line that is no remark.
  * Refused: the first of 1, 2 and 3 that a line meets, line after line (3, then 1, then 2); then 10.
  */
 void pavuneshil_read_plan(const uint8_t *text, size_t text_len, uint64_t *out, size_t out_len, uint64_t answer[4]);

@@ -1,16 +1,17 @@
 -- The session's network text, read and written by the definitions, and texts that are refused: antt computes each.
 use mathlib.Core.Path.{_≡_, refl}
 use mathlib.Core.List.{List, [], _∷_, _++_}
-use Prim.Native.Nat.{ℕ}
-use Rattle.model.specs.Outcome.{good, refused, malformed, outOfRange, missing, missedRate}
+use Prim.Native.Nat.{ℕ, _-_}
+use lib.ListN.{replicate}
+use Rattle.model.specs.Outcome.{Outcome, good, refused, malformed, outOfRange, missing, missedRate}
 use Rattle.model.specs.Sum.{sumOver}
 use Rattle.model.specs.Search.{onlyIf, orElse, first}
 use Rattle.model.specs.Rule as rule
 use Rattle.lists.specs.Lists.{networkOf}
 use Rattle.forms.specs.Bytes.{bytes}
-use Rattle.forms.specs.Line.{lines, onFirst, valuePart, beforeFeed, digitOf, numberFrom, decimalOf, hexOf}
+use Rattle.forms.specs.Line.{lines, onFirst, joined, fits, kept, plain, valuePart, beforeFeed, digitOf, numberFrom, decimalOf, hexOf}
 use Rattle.forms.specs.Form.{fieldOf, networkBody}
-use Rattle.forms.specs.Read.{walk, readLines, addUp}
+use Rattle.forms.specs.Read.{walkLines, readLines, addUp}
 use Rattle.forms.specs.Write.{render, renderFrom, digitsIn, widthOf, widthFrom}
 use Rattle.forms.specs.declared.form.Form.the-variants.{Network}
 use Rattle.forms.specs.Named.{readNetwork, readPlan}
@@ -34,7 +35,7 @@ network : List ℕ
 network = 1 ∷ 333 ∷ 0 ∷ 2 ∷ 2 ∷ 4 ∷ 15 ∷ 15 ∷ 0 ∷ 10 ∷ 0 ∷ 10 ∷ 0 ∷ 1 ∷ 10 ∷ 0 ∷ 0 ∷ 2 ∷ 0 ∷ 10 ∷ 1 ∷ 2 ∷ 10 ∷ 0 ∷ 1 ∷ 1 ∷ 0 ∷ 10 ∷ []
 
 reads : readNetwork session ≡ good network
-unfolding network session readLines walk lines onFirst valuePart beforeFeed digitOf numberFrom decimalOf hexOf fieldOf networkBody addUp networkOf rule.missedRate rule.missedBy rule.flowSum sumOver onlyIf orElse first
+unfolding network session readLines walkLines lines onFirst valuePart beforeFeed digitOf numberFrom decimalOf hexOf fieldOf networkBody addUp networkOf rule.missedRate rule.missedBy rule.flowSum sumOver onlyIf orElse first
 reads = refl
 
 writes : render Network network ≡ session
@@ -43,36 +44,100 @@ writes = refl
 
 -- "Empty network text: 3 at line 1. `cap=007`: 1. `cap=10000001`: 2."
 empty-text : readNetwork [] ≡ refused missing 1 0
-unfolding readLines walk lines fieldOf networkBody
+unfolding readLines walkLines lines fieldOf networkBody
 empty-text = refl
 
 leading-zero : readNetwork (head ++ bytes "cap=007\n") ≡ refused malformed 7 0
-unfolding readLines walk lines onFirst valuePart beforeFeed digitOf numberFrom decimalOf hexOf fieldOf networkBody
+unfolding readLines walkLines lines onFirst valuePart beforeFeed digitOf numberFrom decimalOf hexOf fieldOf networkBody
 leading-zero = refl
 
 large-cap : readNetwork (head ++ bytes "cap=10000001\n") ≡ refused outOfRange 7 0
-unfolding readLines walk lines onFirst valuePart beforeFeed digitOf numberFrom decimalOf hexOf fieldOf networkBody
+unfolding readLines walkLines lines onFirst valuePart beforeFeed digitOf numberFrom decimalOf hexOf fieldOf networkBody
 large-cap = refl
 
 wrong-key : readNetwork (head ++ bytes "cup=7\n") ≡ refused malformed 7 0
-unfolding readLines walk lines onFirst valuePart beforeFeed digitOf numberFrom decimalOf hexOf fieldOf networkBody
+unfolding readLines walkLines lines onFirst valuePart beforeFeed digitOf numberFrom decimalOf hexOf fieldOf networkBody
 wrong-key = refl
 
 -- `flow` when `flows` is 0
 no-flow : readNetwork (bytes "net=1\nscratch=20\noverrun=20\nlinks=1\nflows=0\ntunnels=1\ncap=0\nflow=0\n") ≡ refused outOfRange 8 0
-unfolding readLines walk lines onFirst valuePart beforeFeed digitOf numberFrom decimalOf hexOf fieldOf networkBody
+unfolding readLines walkLines lines onFirst valuePart beforeFeed digitOf numberFrom decimalOf hexOf fieldOf networkBody
 no-flow = refl
 
 -- a missing last line feed, and bytes after the last line
 no-feed : readPlan (bytes "plan=1\nparts=1\nsteps=1\ntunnels=0") ≡ refused malformed 4 1
-unfolding readLines walk lines onFirst valuePart beforeFeed digitOf numberFrom decimalOf hexOf fieldOf
+unfolding readLines walkLines lines onFirst valuePart beforeFeed digitOf numberFrom decimalOf hexOf fieldOf
 no-feed = refl
 
 more-bytes : readPlan (bytes "plan=1\nparts=1\nsteps=1\ntunnels=0\n\n") ≡ refused missing 5 1
-unfolding readLines walk lines onFirst valuePart beforeFeed digitOf numberFrom decimalOf hexOf fieldOf
+unfolding readLines walkLines lines onFirst valuePart beforeFeed digitOf numberFrom decimalOf hexOf fieldOf
 more-bytes = refl
 
 -- a flow's new amounts miss its rate
 missed-new : readNetwork (bytes "net=1\nscratch=20\noverrun=0\nlinks=1\nflows=1\ntunnels=1\ncap=0\nclass=2\nrate=5\nflow=0\nvia=0000000000000001\nold=5\nnew=4\n") ≡ refused missedRate 0 1
-unfolding readLines walk lines onFirst valuePart beforeFeed digitOf numberFrom decimalOf hexOf fieldOf networkBody addUp networkOf rule.missedRate rule.missedBy rule.flowSum sumOver onlyIf orElse first
+unfolding readLines walkLines lines onFirst valuePart beforeFeed digitOf numberFrom decimalOf hexOf fieldOf networkBody addUp networkOf rule.missedRate rule.missedBy rule.flowSum sumOver onlyIf orElse first
 missed-new = refl
+
+-- ---- remarks
+
+-- a plan text, a remark of n bytes before its line feed, and n remarks
+short : List ℕ
+short = bytes "plan=1\nparts=1\nsteps=1\ntunnels=0\n"
+
+remark : ℕ → List ℕ
+remark n = 35 ∷ (replicate (n - 1) 46 ++ (10 ∷ []))
+
+many : ℕ → List ℕ
+many n = joined (replicate n (remark 1))
+
+-- texts, each with what it is read as, as a plan
+abbrev got : List (List ℕ × Outcome (List ℕ)) → List (Outcome (List ℕ))
+got [] = []
+got (c ∷ cs) = readPlan (c .0) ∷ got cs
+
+abbrev said : List (List ℕ × Outcome (List ℕ)) → List (Outcome (List ℕ))
+said [] = []
+said (c ∷ cs) = c .1 ∷ said cs
+
+abbrev Read : List (List ℕ × Outcome (List ℕ)) → Type 0
+Read cases = got cases ≡ said cases
+
+abbrev numbers : Outcome (List ℕ)
+numbers = good (1 ∷ 1 ∷ 1 ∷ 0 ∷ [])
+
+-- remarks in order: first, between and last; of up to 80 bytes; up to 32 of them, and any byte but the line feed
+in-order : Read (
+    (remark 80 ++ short, numbers)
+    ∷ (bytes "plan=1\n#\nparts=1\n#=1\n# why\nsteps=1\ntunnels=0\n", numbers)
+    ∷ (short ++ remark 79, numbers)
+    ∷ (many 16 ++ (short ++ many 16), numbers)
+    ∷ [])
+unfolding short remark many readLines walkLines lines onFirst joined fits valuePart beforeFeed digitOf numberFrom decimalOf hexOf fieldOf addUp
+in-order = refl
+
+-- one of 81 bytes, a 33rd and one that the text's end cuts meet 1 at their own line
+out-of-order : Read (
+    (remark 81 ++ short, refused malformed 1 1)
+    ∷ (short ++ remark 81, refused malformed 5 1)
+    ∷ (many 33 ++ short, refused malformed 33 1)
+    ∷ (many 16 ++ (short ++ many 17), refused malformed 37 1)
+    ∷ (short ++ bytes "# why", refused malformed 5 1)
+    ∷ [])
+unfolding short remark many readLines walkLines lines onFirst joined fits valuePart beforeFeed digitOf numberFrom decimalOf hexOf fieldOf
+out-of-order = refl
+
+-- the first line that is not in order is named, remark or not, by its number in the text
+first-named : Read (
+    (remark 1, refused missing 2 1)
+    ∷ (bytes "# why\nplan=1\nparts=01\n" ++ remark 81, refused malformed 3 1)
+    ∷ (bytes "# why\nplan=1\nparts=51\n" ++ remark 81, refused outOfRange 3 1)
+    ∷ (bytes "plan=1\n" ++ (remark 81 ++ bytes "parts=51\n"), refused malformed 2 1)
+    ∷ (short ++ bytes "# why\nat=1\n", refused missing 6 1)
+    ∷ (short ++ bytes " # why\n", refused missing 5 1)
+    ∷ [])
+unfolding short remark many readLines walkLines lines onFirst joined fits valuePart beforeFeed digitOf numberFrom decimalOf hexOf fieldOf
+first-named = refl
+
+without : plain (bytes "# why\nplan=1\n#\nparts=1\nsteps=1\n# so\ntunnels=0\n# cut") ≡ short
+unfolding short lines onFirst kept joined
+without = refl

@@ -203,9 +203,12 @@ room form l v s t = go (decLt (length l) (mostOf form))
         let e : fieldOf form l ≡ End = full form l s (omega arith) in
         absurd (rw e at t)
 
+pub most-numbers : (form : Form) → mostOf form ≤ mostNumbers
+most-numbers Network = omega arith
+most-numbers Plan = omega arith
+
 pub room-in-all : (form : Form) (l : List ℕ) (v : ℕ) → Sound form l → T (allows (fieldOf form l) v) → length l < mostNumbers
-room-in-all Network l v s t = omega (arith, room Network l v s t)
-room-in-all Plan l v s t = room Plan l v s t
+room-in-all form l v s t = omega (arith, room form l v s t, most-numbers form)
 
 -- ---- a bound on every range that a field can have
 

@@ -9,5 +9,9 @@ pub mod InRange
 pub mod Gathering
 pub mod Lines
 pub mod Rendering
+pub mod Texts
+pub mod Values
+pub mod Remarks
+pub mod Cut
 pub mod Round
 pub mod Cases

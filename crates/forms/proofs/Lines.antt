@@ -24,7 +24,7 @@ own-part (k ∷ p) d = rw (eq-eqb k k refl) (own-part p d)
 empty : (d : List ℕ) → 1 ≤ length d → [] ≡ d → ⊥
 empty d h e = let n : 0 ≡ length d = ap length e in omega arith
 
-last-feed : (l d : List ℕ) → 1 ≤ length d → beforeFeed l ≡ d → l ≡ d ++ (10 ∷ [])
+pub last-feed : (l d : List ℕ) → 1 ≤ length d → beforeFeed l ≡ d → l ≡ d ++ (10 ∷ [])
 unfolding beforeFeed
 last-feed l d h e = go (eqb (getD l (length l - 1) 0) 10) refl e
   where

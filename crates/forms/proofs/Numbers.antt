@@ -162,9 +162,9 @@ wide-no-more v m n x y = go (decLt m n)
 wide-unique : (v m n : ℕ) → Wide v m → Wide v n → m ≡ n
 wide-unique v m n x y = le-antisymm (wide-no-more v n m y x) (wide-no-more v m n x y)
 
-width-wide : (f m v : ℕ) → 1 ≤ m → v < 10 ^ (m + f) → (m ≡ 1) ⊎ (10 ^ (m - 1) ≤ v) → Wide v (widthFrom f m v) × (widthFrom f m v ≤ m + f)
+width-wide : (f m v : ℕ) → 1 ≤ m → v < 10 ^ (m + f) → (m ≡ 1) ⊎ (10 ^ (m - 1) ≤ v) → Wide v (widthFrom f m v)
 unfolding widthFrom
-width-wide zero m v s h a = (record { least = s; below = rw add-zero at h; above = a }, omega arith)
+width-wide zero m v s h a = record { least = s; below = rw add-zero at h; above = a }
 width-wide (suc f) m v s h a =
     go (ltb v (10 ^ m)) refl (λ k. width-wide f (suc m) v (omega arith) (rw move at h) (inr (rw down k)))
   where
@@ -174,25 +174,38 @@ width-wide (suc f) m v s h a =
     down : suc m - 1 ≡ m
     down = omega arith
 
-    go : (b : Bool) → ltb v (10 ^ m) ≡ b → (10 ^ m ≤ v → Wide v (widthFrom f (suc m) v) × (widthFrom f (suc m) v ≤ suc m + f))
-        → Wide v (cond b m (widthFrom f (suc m) v)) × (cond b m (widthFrom f (suc m) v) ≤ m + suc f)
-    go true e k = (record { least = s; below = ltb-true v (10 ^ m) e; above = a }, omega arith)
-    go false e k = let r = k (ltb-false v (10 ^ m) e) in (r .0, omega (arith, r .1))
+    go : (b : Bool) → ltb v (10 ^ m) ≡ b → (10 ^ m ≤ v → Wide v (widthFrom f (suc m) v)) → Wide v (cond b m (widthFrom f (suc m) v))
+    go true e k = record { least = s; below = ltb-true v (10 ^ m) e; above = a }
+    go false e k = k (ltb-false v (10 ^ m) e)
 
-width-of : (v : ℕ) → v < 10000000000 → Wide v (widthOf v) × (widthOf v ≤ 10)
+width-of : (v : ℕ) → v < 10000000000 → Wide v (widthOf v)
 unfolding widthOf
 width-of v h = width-wide 9 1 v (lit≤ tt) h (inl refl)
 
+width-from : (f m v : ℕ) → widthFrom f m v ≤ m + f
+unfolding widthFrom
+width-from zero m v = omega arith
+width-from (suc f) m v = go (ltb v (10 ^ m)) (width-from f (suc m) v)
+  where
+    go : (b : Bool) → widthFrom f (suc m) v ≤ suc m + f → cond b m (widthFrom f (suc m) v) ≤ m + suc f
+    go true h = omega arith
+    go false h = omega arith
+
+-- no number is written with more than 10 digits
+pub width-ten : (v : ℕ) → widthOf v ≤ 10
+unfolding widthOf
+width-ten v = width-from 9 1 v
+
 -- a number from 10^(n-1) on, or any where n is 1, and below 10^n, has n digits
 pub width-is : (v n : ℕ) → 1 ≤ n → n ≤ 10 → v < 10 ^ n → (n ≡ 1) ⊎ (10 ^ (n - 1) ≤ v) → widthOf v ≡ n
-width-is v n one most h a = wide-unique v (widthOf v) n (width-of v (omega (arith, h, ten n 10 most)) .0) (record { least = one; below = h; above = a })
+width-is v n one most h a = wide-unique v (widthOf v) n (width-of v (omega (arith, h, ten n 10 most))) (record { least = one; below = h; above = a })
 
 -- a number below 10^n has at most n digits
 pub width-most : (v n : ℕ) → 1 ≤ n → n ≤ 10 → v < 10 ^ n → widthOf v ≤ n
 width-most v n one most h = go (decLt n (widthOf v))
   where
     w : Wide v (widthOf v)
-    w = width-of v (omega (arith, h, ten n 10 most)) .0
+    w = width-of v (omega (arith, h, ten n 10 most))
 
     off : n < widthOf v → (widthOf v ≡ 1) ⊎ (10 ^ (widthOf v - 1) ≤ v) → ⊥
     off k (inl e) = omega arith
@@ -245,7 +258,7 @@ wide-read v n w l = go (ℕ-discrete n 1)
     go (no o) = rw (length-digits 10 n v, nonzero, le-ltb 10 n l, ne-eqb n 1 o, ne-eqb (getD (digitsIn 10 n v) 0 0) 48 (leads v n w o)) value
 
 pub decimal-digits : (v : ℕ) → v < 10000000000 → decimalOf (digitsIn 10 (widthOf v) v) ≡ some v
-decimal-digits v h = wide-read v (widthOf v) (width-of v h .0) (width-of v h .1)
+decimal-digits v h = wide-read v (widthOf v) (width-of v h) (width-ten v)
 
 pub hex-digits : (v : ℕ) → v < 2 ^ 64 → hexOf (digitsIn 16 16 v) ≡ some v
 unfolding hexOf
@@ -289,7 +302,7 @@ digits-decimal d v e =
     let o : (length d ≡ 1) ⊎ (getD d 0 0 ≡ 48 → ⊥) = ⊎-elim (λ t. inl (eqb-true (length d) 1 t)) (λ t. inr (eqb-false (getD d 0 0) 48 t)) (p₃ .0) in
     let w : Wide v (length d) = read-wide d v (omega arith) o f in
     let small : v < 10000000000 = omega (arith, w .below, ten (length d) 10 short) in
-    f .digits ∙ ap (λ (n : ℕ). digitsIn 10 n v) (wide-unique v (length d) (widthOf v) w (width-of v small .0))
+    f .digits ∙ ap (λ (n : ℕ). digitsIn 10 n v) (wide-unique v (length d) (widthOf v) w (width-of v small))
 
 pub digits-hex : (d : List ℕ) (v : ℕ) → hexOf d ≡ some v → (d ≡ digitsIn 16 16 v) × (v < 2 ^ 64)
 unfolding hexOf

@@ -1,120 +1,31 @@
 -- The laws of reading, judging and writing: the round trips, and that a text is read exactly when it follows the file form.
 use mathlib.Core.Path.{_≡_, refl, sym, ap, _∙_}
-use mathlib.Core.Bool.{Bool, true, false, cond, not, _&&_}
-use mathlib.Core.List.{List, [], _∷_, _++_, append-assoc, append-nil}
+use mathlib.Core.Bool.{Bool, true, false, cond}
+use mathlib.Core.List.{List, [], _∷_, _++_, append-nil}
 use mathlib.Core.Option.{Option, none, some}
-use Prim.Native.Nat.{ℕ, zero, suc, _+_, _/_, _%_, _^_, _≤_, _<_}
+use Prim.Native.Nat.{ℕ, _+_, _≤_}
 use native.Mathlib.Omega.{arith}
-use lib.Dec.{T, ltb, eqb}
+use lib.Dec.{T}
 use lib.ListN.{length}
 use lib.Seq.{append-snoc}
-use borrow.Author.Tests.{ne-eqb}
-use Rattle.model.specs.Outcome.{Outcome, good, refused, Cause, malformed, outOfRange, missing}
+use Rattle.model.specs.Outcome.{Outcome, good, refused, andThen, Cause, malformed, outOfRange, missing}
 use Rattle.lists.specs.Answers.{withRoom}
-use Rattle.forms.specs.Keys.{prefixOf}
-use Rattle.forms.specs.Line.{lines, onFirst, valuePart, decimalOf, hexOf, lineValue}
-use Rattle.forms.specs.Form.{isHex, fieldOf, admitsOf, allows, secondOf, Sound}
+use Rattle.forms.specs.Line.{lines, joined, isRemark, kept, realLines, plain, lineValue}
+use Rattle.forms.specs.Form.{fieldOf, admitsOf, allows, secondOf, Sound}
 use Rattle.forms.specs.Read.{walk, itself, readLines, judgeNumbers, readText, judgeList, addUp, onField, onValue}
-use Rattle.forms.specs.Write.{digitChar, digitsIn, widthOf, valueDigits, lineOf, renderFrom, render, writeText}
-use Rattle.forms.specs.Laws.{Follows, FileForm, RoundTrip, mostBytes}
+use Rattle.forms.specs.Write.{lineOf, renderFrom, render, writeText}
+use Rattle.forms.specs.Laws.{InOrder, numberIn, moved, Follows, FileForm, RoundTrip, mostBytes}
 use Rattle.forms.specs.declared.form.Form.{Form}
 use Rattle.forms.specs.declared.form.Range.{Range}
 use Rattle.forms.specs.declared.form.Field.{Field}
 use Rattle.forms.specs.declared.form.Field.the-variants.{Line, End}
 use Rattle.lists.proofs.Rooms.{room-good, good-room}
 use Rattle.forms.proofs.Forms.{sound-none, sound-more, small, small-set}
-use Rattle.forms.proofs.Keys.{no-feeds, key-no-feed}
-use Rattle.forms.proofs.Lines.{own-part, part-line}
-use Rattle.forms.proofs.Numbers.{some-digits, decimal-digits, hex-digits, digits-decimal, digits-hex}
-use Rattle.forms.proofs.Rendering.{render-short}
+use Rattle.forms.proofs.Rendering.{render-plain}
+use Rattle.forms.proofs.Values.{value-of-line, line-of-value, value-real-line, lines-written}
+use Rattle.forms.proofs.Cut.{first-bytes}
+use Rattle.forms.proofs.Remarks.{lines-plain, read-passed, read-unremarked, read-ordered, read-real, plain-longer}
 use Rattle.forms.proofs.Walks.{then-good, judged-good}
-
--- ---- a line that is written, read
-
-value-of-line : (k : ℕ) (r : Range) (v : ℕ) → (isHex r ≡ false → v < 10000000000) → (isHex r ≡ true → v < 2 ^ 64) → lineValue k r (lineOf (Line k r) v) ≡ some v
-value-of-line k r v s h = go (isHex r) refl
-  where
-    go : (b : Bool) → isHex r ≡ b → lineValue k r (lineOf (Line k r) v) ≡ some v
-    go true e = rw (own-part (prefixOf k) (valueDigits r v), e) (hex-digits v (h e))
-    go false e = rw (own-part (prefixOf k) (valueDigits r v), e) (decimal-digits v (s e))
-
--- ---- a line that is read, written
-
-line-of-value : (k : ℕ) (r : Range) (l : List ℕ) (v : ℕ) → lineValue k r l ≡ some v → l ≡ lineOf (Line k r) v
-line-of-value k r l v e =
-    part-line (prefixOf k) l (valuePart (prefixOf k) l) (some-digits (isHex r) _ v e) refl
-    ∙ ap (λ (d : List ℕ). prefixOf k ++ (d ++ (10 ∷ []))) (go (isHex r) e)
-  where
-    go : (b : Bool) → cond b (hexOf (valuePart (prefixOf k) l)) (decimalOf (valuePart (prefixOf k) l)) ≡ some v
-        → valuePart (prefixOf k) l ≡ cond b (digitsIn 16 16 v) (digitsIn 10 (widthOf v) v)
-    go true e = digits-hex _ v e .0
-    go false e = digits-decimal _ v e
-
--- ---- the lines of a text
-
--- lines put together
-unfoldable joined : List (List ℕ) → List ℕ
-joined [] = []
-joined (l ∷ ls) = l ++ joined ls
-
-joined-first : (b : ℕ) (ls : List (List ℕ)) → joined (onFirst b ls) ≡ b ∷ joined ls
-unfolding joined onFirst
-joined-first b [] = refl
-joined-first b (l ∷ ls) = refl
-
-lines-joined : (t : List ℕ) → joined (lines t) ≡ t
-unfolding lines joined
-lines-joined [] = refl
-lines-joined (b ∷ t) = go (eqb b 10) (lines-joined t)
-  where
-    go : (e : Bool) → joined (lines t) ≡ t → joined (cond e ((b ∷ []) ∷ lines t) (onFirst b (lines t))) ≡ b ∷ t
-    go true h = ap (λ (l : List ℕ). b ∷ l) h
-    go false h = joined-first b (lines t) ∙ ap (λ (l : List ℕ). b ∷ l) h
-
-lines-line : (x rest : List ℕ) → T (no-feeds x) → lines (x ++ (10 ∷ []) ++ rest) ≡ (x ++ (10 ∷ [])) ∷ lines rest
-unfolding lines onFirst
-lines-line [] rest h = refl
-lines-line (b ∷ x) rest h = go (eqb b 10) h (lines-line x rest)
-  where
-    go : (e : Bool) → T (not e && no-feeds x) → (T (no-feeds x) → lines (x ++ (10 ∷ []) ++ rest) ≡ (x ++ (10 ∷ [])) ∷ lines rest)
-        → cond e ((b ∷ []) ∷ lines (x ++ (10 ∷ []) ++ rest)) (onFirst b (lines (x ++ (10 ∷ []) ++ rest))) ≡ (b ∷ (x ++ (10 ∷ []))) ∷ lines rest
-    go true h f = absurd h
-    go false h f = rw (f h)
-
--- ---- what is written has no line feed but at the end of each line
-
-no-feeds-append : (x y : List ℕ) → T (no-feeds x) → T (no-feeds y) → T (no-feeds (x ++ y))
-no-feeds-append [] y p q = q
-no-feeds-append (b ∷ x) y p q = go (not (eqb b 10)) p (λ h. no-feeds-append x y h q)
-  where
-    go : (e : Bool) → T (e && no-feeds x) → (T (no-feeds x) → T (no-feeds (x ++ y))) → T (e && no-feeds (x ++ y))
-    go true h f = f h
-    go false h f = h
-
-char-no-feed : (x : ℕ) → eqb (digitChar x) 10 ≡ false
-char-no-feed x = go (ltb x 10)
-  where
-    go : (e : Bool) → eqb (cond e (48 + x) (87 + x)) 10 ≡ false
-    go true = ne-eqb (48 + x) 10 (λ e. omega arith)
-    go false = ne-eqb (87 + x) 10 (λ e. omega arith)
-
-digits-no-feed : (base n v : ℕ) → T (no-feeds (digitsIn base n v))
-unfolding digitsIn
-digits-no-feed base zero v = tt
-digits-no-feed base (suc n) v = rw (char-no-feed (v / base ^ n % base)) (digits-no-feed base n v)
-
-value-no-feed : (r : Range) (v : ℕ) → T (no-feeds (valueDigits r v))
-value-no-feed r v = go (isHex r)
-  where
-    go : (hex : Bool) → T (no-feeds (cond hex (digitsIn 16 16 v) (digitsIn 10 (widthOf v) v)))
-    go true = digits-no-feed 16 16 v
-    go false = digits-no-feed 10 (widthOf v) v
-
-lines-written : (k : ℕ) (r : Range) (v : ℕ) (rest : List ℕ) → lines (lineOf (Line k r) v ++ rest) ≡ lineOf (Line k r) v ∷ lines rest
-lines-written k r v rest =
-    rw (← append-assoc (prefixOf k) (valueDigits r v) (10 ∷ []))
-    (lines-line (prefixOf k ++ valueDigits r v) rest
-    (no-feeds-append (prefixOf k) (valueDigits r v) (key-no-feed k) (value-no-feed r v)))
 
 -- ---- the first round trip
 
@@ -150,23 +61,19 @@ unfolding walk renderFrom lines
 again form n done [] g s e = e
 again form n done (v ∷ l) g s e = again-field form n v done l g s (fieldOf form done) refl (again form (n + 1) (done ++ (v ∷ [])) l g) e
 
--- a list that is accepted is read again from what it is written as
-read-written : (form : Form) (l g : List ℕ) → judgeNumbers form l ≡ good g → readLines form (render form l) ≡ good g
-unfolding judgeNumbers readLines render
-read-written form l g e = again form 1 [] l g (sound-none form) e
-
 -- ---- the second round trip
 
 record Reads (form : Form) (n : ℕ) (done : List ℕ) (ls : List (List ℕ)) (g : List ℕ) : Type 0 where
   list : List ℕ
   same : g ≡ done ++ list
   written : renderFrom form done list ≡ joined ls
+  real : kept isRemark ls ≡ []
   accepted : walk itself form n done list ≡ good g
 
 module _ (form : Form) (n : ℕ) (done g : List ℕ) where
   reads-end : (f : Field) → fieldOf form done ≡ f → onField f (good done) (λ k r. refused missing n (secondOf form)) ≡ good g → Reads form n done [] g
-  unfolding walk renderFrom joined
-  reads-end End f e = record { list = []; same = rw append-nil (let k : g ≡ done = cc in k); written = refl; accepted = rw f e }
+  unfolding walk renderFrom joined kept
+  reads-end End f e = record { list = []; same = rw append-nil (let k : g ≡ done = cc in k); written = refl; real = refl; accepted = rw f e }
   reads-end (Line k r) f e = let z : _≡_ {A = ℕ} 0 1 = cc in absurd (omega arith)
 
   module _ (x : List ℕ) (xs : List (List ℕ)) where
@@ -175,13 +82,14 @@ module _ (form : Form) (n : ℕ) (done g : List ℕ) where
 
     reads-range : (k : ℕ) (r : Range) (v : ℕ) → fieldOf form done ≡ Line k r → lineValue k r x ≡ some v → (b : Bool) → admitsOf r v ≡ b → Rest
         → cond b (walk lineValue form (n + 1) (done ++ (v ∷ [])) xs) (refused outOfRange n (secondOf form)) ≡ good g → Reads form n done (x ∷ xs) g
-    unfolding walk renderFrom joined
+    unfolding walk renderFrom joined kept
     reads-range k r v f w true a ih e =
         let p = ih v e in
         record {
           list = v ∷ p .list;
           same = p .same ∙ append-snoc done v (p .list);
           written = rw (f, p .written, ← line-of-value k r x v w);
+          real = rw (value-real-line k r x v w) (p .real);
           accepted = rw (f, a) (p .accepted);
         }
     reads-range k r v f w false a ih e = let z : _≡_ {A = ℕ} 0 1 = cc in absurd (omega arith)
@@ -203,12 +111,28 @@ unfolding walk
 reads form n done [] g e = reads-end form n done g (fieldOf form done) refl e
 reads form n done (x ∷ xs) g e = reads-field form n done g x xs (fieldOf form done) refl (λ v. reads form (n + 1) (done ++ (v ∷ [])) xs g) e
 
--- a text that is read is what the numbers are written as, and they are accepted
-written-read : (form : Form) (t g : List ℕ) → readLines form t ≡ good g → (render form g ≡ t) × (judgeNumbers form g ≡ good g)
-unfolding judgeNumbers readLines render
+-- a list that is accepted is read again from what it is written as
+lines-rendered : (form : Form) (l g : List ℕ) → judgeNumbers form l ≡ good g → walk lineValue form 1 [] (lines (render form l)) ≡ good g
+unfolding judgeNumbers render
+lines-rendered form l g e = again form 1 [] l g (sound-none form) e
+
+read-written : (form : Form) (l g : List ℕ) → judgeNumbers form l ≡ good g → readLines form (render form l) ≡ good g
+read-written form l g e =
+    let w = lines-rendered form l g e in
+    read-unremarked form (render form l) (reads form 1 [] (lines (render form l)) g w .real) ∙ w
+
+-- a text that is read is, without its remarks, what the numbers are written as, and they are accepted
+written-read : (form : Form) (t g : List ℕ) → readLines form t ≡ good g → (render form g ≡ plain t) × (judgeNumbers form g ≡ good g)
+unfolding judgeNumbers render
 written-read form t g e =
-    let p = reads form 1 [] (lines t) g e in
-    (rw (p .same) (p .written ∙ lines-joined t), ap (λ (l : List ℕ). walk itself form 1 [] l) (p .same) ∙ p .accepted)
+    let p = reads form 1 [] (realLines t) g (read-real form t g e) in
+    (rw (p .same) (p .written), ap (λ (l : List ℕ). walk itself form 1 [] l) (p .same) ∙ p .accepted)
+
+-- a text whose remarks are in order and which is without them what some numbers are written as
+read-plain : (form : Form) (t l g : List ℕ) → InOrder t → render form l ≡ plain t → judgeNumbers form l ≡ good g → readLines form t ≡ good g
+read-plain form t l g o e j =
+    let w : walk lineValue form 1 [] (realLines t) ≡ good g = ap (walk lineValue form 1 []) (sym (ap lines e ∙ lines-plain t)) ∙ lines-rendered form l g j in
+    read-passed form t o ∙ ap (moved (numberIn (lines t))) w
 
 -- ---- with the sums
 
@@ -230,14 +154,17 @@ module _ (form : Form) (text l : List ℕ) (e : readText form text ≡ good l) w
   pub read-good : judgeList form l ≡ good l
   read-good = rw (sym same) at judged-again
 
-  rendered : render form l ≡ text
+  rendered : render form l ≡ plain text
   rendered = rw same (written-read form text (taken .0) (taken .1) .0)
 
+  in-order : InOrder text
+  in-order = read-ordered form text (taken .0) (taken .1)
+
   short : length text ≤ mostBytes
-  short = rw (← rendered) (render-short form l (judged-good form l l read-good .whole))
+  short = omega (arith, plain-longer text in-order, ap length rendered, render-plain form l (judged-good form l l read-good .whole .sound))
 
   read-follows : Follows form text
-  read-follows = record { list = l; judged = read-good; written = rendered }
+  read-follows = record { ordered = in-order; list = l; judged = read-good; written = rendered }
 
 good-read : (form : Form) (l : List ℕ) → judgeList form l ≡ good l → readText form (render form l) ≡ good l
 good-read form l e =
@@ -255,7 +182,9 @@ else-refused form text (good l) e f = absurd (f (read-follows form text l e))
 else-refused form text (refused c a b) e f = (c, a, b, e)
 
 follows-read : (form : Form) (text : List ℕ) (f : Follows form text) → readText form text ≡ good (f .list)
-follows-read form text f = rw (← f .written) (good-read form (f .list) (f .judged))
+follows-read form text f =
+    let p = then-good (judgeNumbers form (f .list)) (addUp form) (f .list) (f .judged) in
+    rw (read-plain form text (f .list) (p .0) (f .ordered) (f .written) (p .1)) (p .2)
 
 -- a text is read exactly when it follows the file form
 pub file-form : (form : Form) → FileForm form
@@ -268,15 +197,16 @@ file-form form =
       follows = read-follows form;
       read = follows-read form;
       short = short form;
+      first-bytes = λ text. ap (λ (o : Outcome (List ℕ)). andThen o (addUp form)) (first-bytes form text);
     }
 
 -- ---- the round trips, with room
 
-text-again : (form : Form) (text l : List ℕ) (room space : ℕ) → withRoom room (readText form text) ≡ good l → length text ≤ space
-    → withRoom space (writeText form l) ≡ good text
+text-again : (form : Form) (text l : List ℕ) (room space : ℕ) → withRoom room (readText form text) ≡ good l → length (plain text) ≤ space
+    → withRoom space (writeText form l) ≡ good (plain text)
 text-again form text l room space e h =
     let r : readText form text ≡ good l = room-good room (readText form text) l e in
-    rw (read-good form text l r, rendered form text l r) (good-room space text h)
+    rw (read-good form text l r, rendered form text l r) (good-room space (plain text) h)
 
 list-again : (form : Form) (l text : List ℕ) (space room : ℕ) → withRoom space (writeText form l) ≡ good text → length l ≤ room
     → withRoom room (readText form text) ≡ good l

@@ -1,7 +1,7 @@
--- The lines of a text, the part of a line that is its value, and the number that the part is.
+-- The lines of a text, remarks among them, the part of a line that is its value, and the number that the part is.
 use Prim.Native.Nat.{ℕ, _+_, _*_, _-_}
-use mathlib.Core.Bool.{cond}
-use mathlib.Core.List.{List, [], _∷_}
+use mathlib.Core.Bool.{Bool, cond, not, _&&_}
+use mathlib.Core.List.{List, [], _∷_, _++_}
 use mathlib.Core.Option.{Option, none, some}
 use lib.ListN.{length, getD, take}
 use lib.Dec.{eqb, leb, ltb}
@@ -20,9 +20,55 @@ unfolding onFirst
 lines [] = []
 lines (b ∷ t) = cond (eqb b 10) ((b ∷ []) ∷ lines t) (onFirst b (lines t))
 
+-- lines put together again
+unfoldable pub joined : List (List ℕ) → List ℕ
+joined [] = []
+joined (l ∷ ls) = l ++ joined ls
+
 -- what stands before the line feed that ends a line; nothing where none does
 unfoldable pub beforeFeed : List ℕ → List ℕ
 beforeFeed l = cond (eqb (getD l (length l - 1) 0) 10) (take (length l - 1) l) []
+
+-- ---- remarks
+
+-- "A line of either text that begins with `#` is a remark"
+abbrev pub isRemark : List ℕ → Bool
+isRemark l = eqb (getD l 0 0) 35
+
+abbrev pub isReal : List ℕ → Bool
+isReal l = not (isRemark l)
+
+-- "up to 80 bytes before its line feed": at least its `#` stands there, unless the text's end cuts it
+abbrev pub mostInRemark : ℕ
+mostInRemark = 80
+
+unfoldable pub fits : List ℕ → Bool
+unfolding beforeFeed
+fits l = leb 1 (length (beforeFeed l)) && leb (length (beforeFeed l)) mostInRemark
+
+-- "at most 32 in a text": a remark is passed over, after so many others
+abbrev pub mostRemarks : ℕ
+mostRemarks = 32
+
+abbrev pub isPassed : ℕ → List ℕ → Bool
+isPassed before l = ltb before mostRemarks && fits l
+
+-- the lines that pass a test: the remarks, and the real lines
+unfoldable pub kept : (List ℕ → Bool) → List (List ℕ) → List (List ℕ)
+kept p [] = []
+kept p (l ∷ ls) = cond (p l) (l ∷ kept p ls) (kept p ls)
+
+abbrev pub remarks : List ℕ → List (List ℕ)
+remarks text = kept isRemark (lines text)
+
+abbrev pub realLines : List ℕ → List (List ℕ)
+realLines text = kept isReal (lines text)
+
+-- a text without its remarks
+abbrev pub plain : List ℕ → List ℕ
+plain text = joined (realLines text)
+
+-- ---- values
 
 -- what stands in a line between a prefix and the line feed; nothing where the line does not have them
 unfoldable pub valuePart : List ℕ → List ℕ → List ℕ

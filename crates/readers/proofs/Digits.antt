@@ -24,16 +24,16 @@ use Rattle.readers.specs.declared.line.Value.the-variants.{Is, Malformed
 -- ---- the byte at i: a line feed, another byte, or none
 
 module _ (t : List ℕ) (i : ℕ) where
-  feed-none : length t ≤ i → bytesBefore (drop i t) ≡ 0
+  pub feed-none : length t ≤ i → bytesBefore (drop i t) ≡ 0
   unfolding bytesBefore
   feed-none h = rw (drop-of-length-le t h)
 
   module _ (h : i < length t) where
-    feed-here : getD t i 0 ≡ 10 → bytesBefore (drop i t) ≡ 0
+    pub feed-here : getD t i 0 ≡ 10 → bytesBefore (drop i t) ≡ 0
     unfolding bytesBefore
     feed-here e = rw (step t i h, eq-eqb (getD t i 0) 10 e)
 
-    feed-later : (getD t i 0 ≡ 10 → ⊥) → bytesBefore (drop i t) ≡ suc (bytesBefore (drop (i + 1) t))
+    pub feed-later : (getD t i 0 ≡ 10 → ⊥) → bytesBefore (drop i t) ≡ suc (bytesBefore (drop (i + 1) t))
     unfolding bytesBefore
     feed-later e = rw (step t i h, ne-eqb (getD t i 0) 10 e)
 
@@ -117,7 +117,7 @@ module _ (base : ℕ) (text : List ℕ) (from : ℕ) where
 -- ---- what stands before the line feed
 
 -- a first line with a line feed is what stands before it, and the line feed
-feed-first : (t : List ℕ) → bytesBefore t < length t → firstLine t ≡ take (bytesBefore t) t ++ (10 ∷ [])
+pub feed-first : (t : List ℕ) → bytesBefore t < length t → firstLine t ≡ take (bytesBefore t) t ++ (10 ∷ [])
 unfolding bytesBefore lineLen
 feed-first [] h = absurd (omega arith)
 feed-first (b ∷ t) h = go (eqb b 10) refl h (feed-first t)
@@ -163,10 +163,10 @@ no-digits true = refl
 no-digits false = refl
 
 -- the value has no digits, or is all that stands before the line feed
-part-closed : (t : List ℕ) → bytesBefore t < length t → beforeFeed (firstLine t) ≡ unfed t
+pub part-closed : (t : List ℕ) → bytesBefore t < length t → beforeFeed (firstLine t) ≡ unfed t
 part-closed t h = rw (feed-first t h) (own-feed (unfed t))
 
-by-part : (t : List ℕ) (P : List ℕ → Type 0) → P [] → (bytesBefore t < length t → length (unfed t) ≡ bytesBefore t → P (unfed t)) → P (beforeFeed (firstLine t))
+pub by-part : (t : List ℕ) (P : List ℕ → Type 0) → P [] → (bytesBefore t < length t → length (unfed t) ≡ bytesBefore t → P (unfed t)) → P (beforeFeed (firstLine t))
 by-part t P e f = go (decLt (bytesBefore t) (length t))
   where
     go : Dec (bytesBefore t < length t) → P (beforeFeed (firstLine t))

@@ -1,28 +1,35 @@
 -- Laws of reading: what is taken from a text in each case, the walk's next turn by what was taken, and how a list is handed over.
 use mathlib.Core.Path.{_≡_, refl, sym, ap, _∙_}
-use mathlib.Core.Bool.{Bool, true, false, cond}
+use mathlib.Core.Logic.{_⊎_, ⊎-elim}
+use mathlib.Core.Bool.{Bool, true, false, cond, _&&_}
 use mathlib.Core.List.{List, [], _∷_, _++_}
 use mathlib.Core.Option.{Option, none, some}
 use Prim.Native.Nat.{ℕ, _+_, _-_, _≤_, _<_}
 use native.Mathlib.Decide.{ℕ-discrete}
 use native.Mathlib.Omega.{arith}
-use lib.ListN.{length, take, drop, length-drop, length-take}
-use lib.Seq.{drop-drop, drop-length}
-use borrow.Author.Tests.{eq-eqb, ne-eqb}
+use native.Mathlib.Nat.{add-zero}
+use lib.Dec.{T, eqb, ltb}
+use lib.ListN.{length, getD, take, drop, length-drop, length-take}
+use lib.Seq.{drop-drop, drop-length, getD-take, getD-drop}
+use borrow.Author.Tests.{eq-eqb, ne-eqb, ltb-true}
+use denote.Enum.Declared.{tagOf}
 use Rattle.model.specs.Outcome.{Outcome, good, refused, missing, malformed, outOfRange}
 use Rattle.lists.specs.Lists.{at}
 use Rattle.lists.specs.Answers.{done}
 use Rattle.lists.specs.declared.Answer.the-variants.{Done, Refused}
-use Rattle.forms.specs.Line.{lines, lineValue}
-use Rattle.forms.specs.Form.{fieldOf, admitsOf, secondOf}
-use Rattle.forms.specs.Read.{walk, onValue}
+use Rattle.forms.specs.Line.{lines, lineValue, fits, mostRemarks, isPassed}
+use Rattle.forms.specs.Form.{fieldOf, admitsOf, allows, secondOf}
+use Rattle.forms.specs.Read.{walkLines, atEnd, atItem, onValue}
 use Rattle.forms.specs.declared.form.Form.{Form}
 use Rattle.forms.specs.declared.form.Range.{Range}
+use Rattle.forms.specs.declared.form.Field.{Field}
 use Rattle.forms.specs.declared.form.Field.the-variants.{Line, End}
-use Rattle.readers.specs.Line.{lineLen, firstLine}
-use Rattle.readers.specs.Read.{takenOf, Holds}
+use Rattle.forms.proofs.Values.{value-real-line}
+use Rattle.readers.specs.Line.{lineLen, firstLine, afterRemark}
+use Rattle.readers.specs.Read.{takenOf, nextOf, answerOf, NoNumber, onward, Holds}
 use Rattle.readers.specs.declared.read.Taken.{Taken}
-use Rattle.readers.specs.declared.read.Taken.the-variants.{Number, Stop}
+use Rattle.readers.specs.declared.read.Taken.the-variants.{Number, Stop, Ended}
+use Rattle.readers.proofs.read.Taken.{the-type}
 use Rattle.readers.proofs.Lines.{lines-some, line-some, line-within}
 
 -- ---- what is taken
@@ -45,78 +52,13 @@ module _ (k : ℕ) (r : Range) (text : List ℕ) (at : ℕ) where
     unfolding takenOf
     taken-outside v m a = rw (ne-eqb at (length text) more, m, a)
 
--- ---- the walk, at the end of the form
+-- where the form ends
+module _ (d : Field) (text : List ℕ) (at : ℕ) (f : d ≡ End) where
+  pub next-ended : at ≡ length text → nextOf d text at ≡ Ended
+  next-ended e = rw (f, eq-eqb at (length text) e)
 
-module _ (form : Form) (n : ℕ) (done′ text : List ℕ) (at : ℕ) (f : fieldOf form done′ ≡ End) where
-  pub walk-ended : at ≡ length text → walk lineValue form n done′ (lines (drop at text)) ≡ good done′
-  unfolding walk lines
-  walk-ended e = rw (e, drop-length text, f)
-
-  pub walk-many : at < length text → walk lineValue form n done′ (lines (drop at text)) ≡ refused missing n (secondOf form)
-  unfolding walk
-  walk-many h = rw (lines-some (drop at text) (simp length-drop (omega arith)), f)
-
--- ---- the walk, by what was taken
-
-lines-at : (text : List ℕ) (at : ℕ) → at < length text → lines (drop at text) ≡ firstLine (drop at text) ∷ lines (drop (at + lineLen (drop at text)) text)
-lines-at text at h = rw (← drop-drop (lineLen (drop at text)) at text) (lines-some (drop at text) (simp length-drop (omega arith)))
-
-module _ (form : Form) (n : ℕ) (done′ text : List ℕ) where
-  -- what the walk comes to
-  abbrev goOn : Taken → Outcome (List ℕ) → Type 0
-  goOn (Number v next) o = o ≡ walk lineValue form (n + 1) (done′ ++ (v ∷ [])) (lines (drop next text))
-  goOn (Stop m) o = done o ≡ Refused m n (secondOf form)
-
-  by-range : (next v : ℕ) (b : Bool)
-      → goOn (cond b (Number v next) (Stop 2)) (cond b (walk lineValue form (n + 1) (done′ ++ (v ∷ [])) (lines (drop next text))) (refused outOfRange n (secondOf form)))
-  by-range next v true = refl
-  by-range next v false = refl
-
-  by-value : (next : ℕ) (r : Range) (x : Option ℕ)
-      → goOn (onValue x (Stop 1) (λ v. cond (admitsOf r v) (Number v next) (Stop 2)))
-      (onValue x (refused malformed n (secondOf form)) (λ v. cond (admitsOf r v) (walk lineValue form (n + 1) (done′ ++ (v ∷ [])) (lines (drop next text))) (refused outOfRange n (secondOf form))))
-  by-value next r none = refl
-  by-value next r (some v) = by-range next v (admitsOf r v)
-
-  module _ (at k : ℕ) (r : Range) (h : at ≤ length text) (f : fieldOf form done′ ≡ Line k r) where
-    walk-missing : at ≡ length text → walk lineValue form n done′ (lines (drop at text)) ≡ refused missing n (secondOf form)
-    unfolding walk lines
-    walk-missing e = rw (e, drop-length text, f)
-
-    walk-line : (at ≡ length text → ⊥)
-        → walk lineValue form n done′ (lines (drop at text)) ≡ onValue (lineValue k r (firstLine (drop at text))) (refused malformed n (secondOf form)) (λ v. cond (admitsOf r v) (walk lineValue form (n + 1) (done′ ++ (v ∷ [])) (lines (drop (at + lineLen (drop at text)) text))) (refused outOfRange n (secondOf form)))
-    unfolding walk
-    walk-line e = rw (lines-at text at (omega arith), f)
-
-    walk-taken : goOn (takenOf k r text at) (walk lineValue form n done′ (lines (drop at text)))
-    unfolding takenOf
-    walk-taken = go (ℕ-discrete at (length text))
-      where
-        go : Dec (at ≡ length text) → goOn (takenOf k r text at) (walk lineValue form n done′ (lines (drop at text)))
-        go (yes e) = rw (eq-eqb at (length text) e) (ap done (walk-missing e))
-        go (no e) = rw (ne-eqb at (length text) e, walk-line e) (by-value (at + lineLen (drop at text)) r (lineValue k r (firstLine (drop at text))))
-
-    pub walk-number : (v next : ℕ) → takenOf k r text at ≡ Number v next
-        → walk lineValue form n done′ (lines (drop at text)) ≡ walk lineValue form (n + 1) (done′ ++ (v ∷ [])) (lines (drop next text))
-    walk-number v next e = rw e at walk-taken
-
-    pub walk-stop : (m : ℕ) → takenOf k r text at ≡ Stop m → done (walk lineValue form n done′ (lines (drop at text))) ≡ Refused m n (secondOf form)
-    walk-stop m e = rw e at walk-taken
-
--- ---- what is known of a number that was taken
-
-abbrev Facts : Range → List ℕ → ℕ → Taken → Type 0
-Facts r text at (Number v next) = (at < next) × ((next ≤ length text) × (admitsOf r v ≡ true))
-Facts r text at (Stop m) = Unit {0}
-
-module _ (r : Range) (text : List ℕ) (at next : ℕ) (more : at < next) (within : next ≤ length text) where
-  fact-range : (v : ℕ) (b : Bool) → admitsOf r v ≡ b → Facts r text at (cond b (Number v next) (Stop 2))
-  fact-range v true e = (more, (within, e))
-  fact-range v false e = tt
-
-  fact-value : (x : Option ℕ) → Facts r text at (onValue x (Stop 1) (λ v. cond (admitsOf r v) (Number v next) (Stop 2)))
-  fact-value none = tt
-  fact-value (some v) = fact-range v (admitsOf r v) refl
+  pub next-many : (at ≡ length text → ⊥) → nextOf d text at ≡ Stop 3
+  next-many e = rw (f, ne-eqb at (length text) e)
 
 -- the line at `at` ends within the text
 pub line-ends : (text : List ℕ) (at : ℕ) → at < length text → (at < at + lineLen (drop at text)) × (at + lineLen (drop at text) ≤ length text)
@@ -125,24 +67,182 @@ line-ends text at h =
     let fits : lineLen (drop at text) ≤ length text - at = simp length-drop at (line-within (drop at text)) in
     (omega arith, omega arith)
 
-facts : (k : ℕ) (r : Range) (text : List ℕ) (at : ℕ) → at ≤ length text → Facts r text at (takenOf k r text at)
-unfolding takenOf
-facts k r text at h = go (ℕ-discrete at (length text))
-  where
-    go : Dec (at ≡ length text) → Facts r text at (takenOf k r text at)
-    go (yes e) = rw (eq-eqb at (length text) e) tt
-    go (no e) =
-        let p = line-ends text at (omega arith) in
-        rw (ne-eqb at (length text) e) (fact-value r text at (at + lineLen (drop at text)) (p .0) (p .1) (lineValue k r (firstLine (drop at text))))
+-- a remark that is in order is passed over to where its line ends
+module _ (text : List ℕ) (at c next : ℕ) (is : afterRemark text at c ≡ next) (some : next ≡ 0 → ⊥) where
+  passes : (isPassed c (firstLine (drop at text)) ≡ true) × (at + lineLen (drop at text) ≡ next)
+  unfolding afterRemark
+  passes = go (isPassed c (firstLine (drop at text))) is
+    where
+      go : (b : Bool) → cond b (at + lineLen (drop at text)) 0 ≡ next → (b ≡ true) × (at + lineLen (drop at text) ≡ next)
+      go true e = (refl, e)
+      go false e = absurd (some (sym e))
 
-pub number-facts : (k : ℕ) (r : Range) (text : List ℕ) (at v next : ℕ) → at ≤ length text → takenOf k r text at ≡ Number v next
-    → (at < next) × ((next ≤ length text) × (admitsOf r v ≡ true))
-number-facts k r text at v next h e = rw e at (facts k r text at h)
+  pub past-facts : at < length text → (at < next) × ((next ≤ length text) × (c < mostRemarks))
+  past-facts h =
+      let p = line-ends text at h in
+      (omega (arith, p .0, passes .1), (omega (arith, p .1, passes .1), few (ltb c mostRemarks) refl (passes .0)))
+    where
+      few : (b : Bool) → ltb c mostRemarks ≡ b → (b && fits (firstLine (drop at text))) ≡ true → c < mostRemarks
+      few true e t = ltb-true c mostRemarks e
+      few false e t = let z : _≡_ {A = ℕ} 0 1 = cc in absurd (omega arith)
+
+-- ---- the walk, where no lines are left
+
+walk-none : (form : Form) (n c : ℕ) (done′ text : List ℕ) (at : ℕ) → at ≡ length text → walkLines form n c done′ (lines (drop at text)) ≡ atEnd form n done′
+unfolding walkLines lines
+walk-none form n c done′ text at e = rw (e, drop-length text)
+
+-- ---- and where the next line is a remark, or a real line
+
+lines-at : (text : List ℕ) (at : ℕ) → at < length text → lines (drop at text) ≡ firstLine (drop at text) ∷ lines (drop (at + lineLen (drop at text)) text)
+lines-at text at h = rw (← drop-drop (lineLen (drop at text)) at text) (lines-some (drop at text) (simp length-drop (omega arith)))
+
+first-at : (text : List ℕ) (at : ℕ) → at < length text → getD (firstLine (drop at text)) 0 0 ≡ getD text at 0
+first-at text at h =
+    getD-take (lineLen (drop at text)) (drop at text) 0 0 (line-some (drop at text) (simp length-drop (omega arith))) ∙ rw (getD-drop, add-zero)
+
+module _ (form : Form) (n c : ℕ) (done′ text : List ℕ) (at : ℕ) (h : at < length text) where
+  walk-first : (b : Bool) → eqb (getD text at 0) 35 ≡ b
+      → walkLines form n c done′ (lines (drop at text))
+      ≡ cond b (cond (isPassed c (firstLine (drop at text))) (walkLines form (n + 1) (c + 1) done′ (lines (drop (at + lineLen (drop at text)) text))) (refused malformed n (secondOf form)))
+      (atItem form n done′ (λ k r. lineValue k r (firstLine (drop at text))) (λ more. walkLines form (n + 1) c more (lines (drop (at + lineLen (drop at text)) text))))
+  unfolding walkLines
+  walk-first b e = rw (lines-at text at h, first-at text at h, e)
+
+  -- a remark that is not in order, and one that is
+  module _ (hash : eqb (getD text at 0) 35 ≡ true) where
+    abbrev after : ℕ
+    after = at + lineLen (drop at text)
+
+    pub walk-disorder : afterRemark text at c ≡ 0 → walkLines form n c done′ (lines (drop at text)) ≡ refused malformed n (secondOf form)
+    unfolding afterRemark
+    walk-disorder e = walk-first true hash ∙ go (isPassed c (firstLine (drop at text))) e
+      where
+        go : (b : Bool) → cond b after 0 ≡ 0 → cond b (walkLines form (n + 1) (c + 1) done′ (lines (drop after text))) (refused malformed n (secondOf form)) ≡ refused malformed n (secondOf form)
+        go true e = absurd (omega (arith, line-ends text at h .0))
+        go false e = refl
+
+    pub walk-past : (next : ℕ) → afterRemark text at c ≡ next → (next ≡ 0 → ⊥)
+        → walkLines form n c done′ (lines (drop at text)) ≡ walkLines form (n + 1) (c + 1) done′ (lines (drop next text))
+    walk-past next is other = let p = passes text at c next is other in walk-first true hash ∙ rw (p .0, p .1)
+
+-- after a remark that is passed over the reading goes on
+pub onward-past : (form : Form) (text vals : List ℕ) (i at remarks next : ℕ) → at < length text → eqb (getD text at 0) 35 ≡ true → afterRemark text at remarks ≡ next → (next ≡ 0 → ⊥)
+    → onward form text vals i at remarks ≡ onward form text vals i next (remarks + 1)
+onward-past form text vals i at remarks next h hash is other =
+    let n : i + remarks + 1 + 1 ≡ i + (remarks + 1) + 1 = omega arith in
+    rw (← n) (walk-past form (i + remarks + 1) remarks (take i vals) text at h hash next is other)
+
+-- ---- the walk, by what the next line gives
+
+module _ (form : Form) (n c : ℕ) (done′ text : List ℕ) where
+  -- what the walk comes to
+  abbrev goOn : Taken → Outcome (List ℕ) → Type 0
+  goOn (Number v next) o = o ≡ walkLines form (n + 1) c (done′ ++ (v ∷ [])) (lines (drop next text))
+  goOn (Stop m) o = done o ≡ Refused m n (secondOf form)
+  goOn Ended o = o ≡ good done′
+
+  by-range : (next v : ℕ) (b : Bool)
+      → goOn (cond b (Number v next) (Stop 2)) (cond b (walkLines form (n + 1) c (done′ ++ (v ∷ [])) (lines (drop next text))) (refused outOfRange n (secondOf form)))
+  by-range next v true = refl
+  by-range next v false = refl
+
+  by-value : (next : ℕ) (r : Range) (x : Option ℕ)
+      → goOn (onValue x (Stop 1) (λ v. cond (admitsOf r v) (Number v next) (Stop 2)))
+      (onValue x (refused malformed n (secondOf form)) (λ v. cond (admitsOf r v) (walkLines form (n + 1) c (done′ ++ (v ∷ [])) (lines (drop next text))) (refused outOfRange n (secondOf form))))
+  by-value next r none = refl
+  by-value next r (some v) = by-range next v (admitsOf r v)
+
+  -- a real line, or the text's end
+  module _ (at : ℕ) (h : at ≤ length text) (real : eqb (getD text at 0) 35 ≡ false) where
+    walk-next : (d : Field) → fieldOf form done′ ≡ d → goOn (nextOf d text at) (walkLines form n c done′ (lines (drop at text)))
+    unfolding takenOf
+    walk-next d f = go (ℕ-discrete at (length text)) d f
+      where
+        go : Dec (at ≡ length text) → (d : Field) → fieldOf form done′ ≡ d → goOn (nextOf d text at) (walkLines form n c done′ (lines (drop at text)))
+        go (yes e) End f = rw (eq-eqb at (length text) e) (walk-none form n c done′ text at e ∙ rw f)
+        go (yes e) (Line k r) f =
+            let w : walkLines form n c done′ (lines (drop at text)) ≡ refused missing n (secondOf form) = walk-none form n c done′ text at e ∙ rw f in
+            rw (eq-eqb at (length text) e) (ap done w)
+        go (no e) End f =
+            let w : walkLines form n c done′ (lines (drop at text)) ≡ refused missing n (secondOf form) = walk-first form n c done′ text at (omega arith) false real ∙ rw f in
+            rw (ne-eqb at (length text) e) (ap done w)
+        go (no e) (Line k r) f =
+            rw (ne-eqb at (length text) e, walk-first form n c done′ text at (omega arith) false real, f)
+            (by-value (at + lineLen (drop at text)) r (lineValue k r (firstLine (drop at text))))
+
+-- ---- what is known of a number that a line gives
+
+pub record Given (d : Field) (text : List ℕ) (at v next : ℕ) : Type 0 where
+  pub later : at < next
+  pub within : next ≤ length text
+  pub allowed : T (allows d v)
+  -- the line is no remark
+  pub real : eqb (getD text at 0) 35 ≡ false
+
+abbrev Facts : Field → List ℕ → ℕ → Taken → Type 0
+Facts d text at (Number v next) = Given d text at v next
+Facts d text at (Stop m) = Unit {0}
+Facts d text at Ended = Unit {0}
+
+line-facts : (k : ℕ) (r : Range) (text : List ℕ) (at : ℕ) → at < length text → (x : Option ℕ) → lineValue k r (firstLine (drop at text)) ≡ x
+    → Facts (Line k r) text at (onValue x (Stop 1) (λ v. cond (admitsOf r v) (Number v (at + lineLen (drop at text))) (Stop 2)))
+line-facts k r text at h none x = tt
+line-facts k r text at h (some v) x = go (admitsOf r v) refl
+  where
+    go : (b : Bool) → admitsOf r v ≡ b → Facts (Line k r) text at (cond b (Number v (at + lineLen (drop at text))) (Stop 2))
+    go true a =
+        let p = line-ends text at h in
+        record { later = p .0; within = p .1; allowed = rw a tt; real = ap (λ (b : ℕ). eqb b 35) (sym (first-at text at h)) ∙ value-real-line k r (firstLine (drop at text)) v x }
+    go false a = tt
+
+facts : (d : Field) (text : List ℕ) (at : ℕ) → at ≤ length text → Facts d text at (nextOf d text at)
+unfolding takenOf
+facts d text at h = go (ℕ-discrete at (length text)) d
+  where
+    go : Dec (at ≡ length text) → (d : Field) → Facts d text at (nextOf d text at)
+    go (yes e) End = rw (eq-eqb at (length text) e) tt
+    go (yes e) (Line k r) = rw (eq-eqb at (length text) e) tt
+    go (no e) End = rw (ne-eqb at (length text) e) tt
+    go (no e) (Line k r) = rw (ne-eqb at (length text) e) (line-facts k r text at (omega arith) (lineValue k r (firstLine (drop at text))) refl)
+
+pub given : (d : Field) (text : List ℕ) (at v next : ℕ) → at ≤ length text → nextOf d text at ≡ Number v next → Given d text at v next
+given d text at v next h e = rw e at (facts d text at h)
+
+-- the reading goes on with it
+pub onward-number : (form : Form) (text vals after : List ℕ) (i at v next remarks : ℕ) → at ≤ length text → nextOf (fieldOf form (take i vals)) text at ≡ Number v next
+    → take (i + 1) after ≡ take i vals ++ (v ∷ []) → onward form text vals i at remarks ≡ onward form text after (i + 1) next remarks
+onward-number form text vals after i at v next remarks h e more =
+    let n : i + remarks + 1 + 1 ≡ i + 1 + remarks + 1 = omega arith in
+    let real = given (fieldOf form (take i vals)) text at v next h e .real in
+    let w : onward form text vals i at remarks ≡ walkLines form (i + remarks + 1 + 1) remarks (take i vals ++ (v ∷ [])) (lines (drop next text))
+    = rw e at (walk-next form (i + remarks + 1) remarks (take i vals) text at h real (fieldOf form (take i vals)) refl) in
+    rw (more, ← n) w
+
+-- ---- the answer where none is given
 
 -- where a text is refused, the list may have anything
 pub holds-refused : (o : Outcome (List ℕ)) (m place second : ℕ) (vals : List ℕ) → done o ≡ Refused m place second → Holds o vals
 holds-refused (good l) m place second vals e = let z : _≡_ {A = ℕ} 0 1 = cc in absurd (omega arith)
 holds-refused (refused c a b) m place second vals e = tt
+
+-- what the `else` of `let Taken::Number(v, next) = t else { .. }` knows
+pub no-number : (t : Taken) → (tagOf the-type t ≡ 1) ⊎ (tagOf the-type t ≡ 2) → NoNumber t
+no-number (Number v next) k = absurd (⊎-elim (λ e. omega arith) (λ e. omega arith) k)
+no-number (Stop m) k = tt
+no-number Ended k = tt
+
+answered : (form : Form) (n c : ℕ) (text vals : List ℕ) (i : ℕ) → length (take i vals) ≡ i → (t : Taken) → NoNumber t → (o : Outcome (List ℕ))
+    → goOn form n c (take i vals) text t o → (answerOf t i n (secondOf form) ≡ done o) × Holds o vals
+answered form n c text vals i size (Number v next) k o g = absurd k
+answered form n c text vals i size (Stop m) k o g = (sym g, holds-refused o m n (secondOf form) vals g)
+answered form n c text vals i size Ended k o g = (sym (ap done g ∙ ap Done size), rw g (ap (λ (m : ℕ). take m vals) size))
+
+pub walk-answer : (form : Form) (n c : ℕ) (text vals : List ℕ) (at i : ℕ) → length (take i vals) ≡ i → at ≤ length text → eqb (getD text at 0) 35 ≡ false
+    → (t : Taken) → nextOf (fieldOf form (take i vals)) text at ≡ t → NoNumber t
+    → (answerOf t i n (secondOf form) ≡ done (walkLines form n c (take i vals) (lines (drop at text)))) × Holds (walkLines form n c (take i vals) (lines (drop at text))) vals
+walk-answer form n c text vals at i size h real t e k =
+    answered form n c text vals i size t k _ (rw e at (walk-next form n c (take i vals) text at h real (fieldOf form (take i vals)) refl))
 
 -- the numbers that were read
 pub lines-read : (o : Outcome (List ℕ)) (vals : List ℕ) (n : ℕ) → done o ≡ Done n → Holds o vals → (o ≡ good (take n vals)) × (n ≤ length vals)

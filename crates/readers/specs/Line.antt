@@ -7,7 +7,7 @@ use mathlib.Core.List.{List, [], _∷_, _++_}
 use mathlib.Core.Option.{Option, none, some}
 use lib.Dec.{eqb}
 use lib.ListN.{length, getD, take, drop, replicate}
-use Rattle.forms.specs.Line.{beforeFeed, digitOf, numberFrom, decimalOf, hexOf}
+use Rattle.forms.specs.Line.{beforeFeed, fits, isPassed, digitOf, numberFrom, decimalOf, hexOf}
 use Rattle.readers.specs.declared.line.Value.{Value}
 use Rattle.readers.specs.declared.line.Value.the-variants.{Is, Malformed}
 
@@ -72,3 +72,8 @@ ParsedAs (some n) part d v = (d ≡ part) × (v ≡ n)
 
 abbrev pub Parsed : Bool → List ℕ → List ℕ → ℕ → Type 0
 Parsed hex part d v = ParsedAs (numberOf hex part) part d v
+
+-- where the line after the remark at `at` begins, after so many others; 0 where it is not in order
+unfoldable pub afterRemark : List ℕ → ℕ → ℕ → ℕ
+unfolding lineLen fits
+afterRemark text at before = cond (isPassed before (firstLine (drop at text))) (at + lineLen (drop at text)) 0

@@ -1,18 +1,24 @@
 -- What the readers' code comes to, line by line.
-use Prim.Native.Nat.{ℕ, _+_}
+use Prim.Native.Nat.{ℕ, _+_, _≤_}
 use mathlib.Core.Path.{_≡_}
 use mathlib.Core.Bool.{cond}
 use mathlib.Core.List.{List}
 use lib.Dec.{eqb}
 use lib.ListN.{length, take, drop}
 use Rattle.model.specs.Outcome.{Outcome, good, refused, number, malformed, outOfRange, missing}
-use Rattle.forms.specs.Line.{lineValue}
-use Rattle.forms.specs.Form.{admitsOf}
-use Rattle.forms.specs.Read.{onValue}
+use Rattle.forms.specs.Line.{lines, lineValue}
+use Rattle.forms.specs.Form.{fieldOf, admitsOf, mostOf, Sound}
+use Rattle.forms.specs.Read.{walkLines, onValue}
+use Rattle.forms.specs.declared.form.Form.{Form}
 use Rattle.forms.specs.declared.form.Range.{Range}
+use Rattle.forms.specs.declared.form.Field.{Field}
+use Rattle.forms.specs.declared.form.Field.the-variants.{Line, End}
+use Rattle.lists.specs.declared.Answer.{Answer}
+use Rattle.lists.specs.declared.Answer.the-variants.{Done, Refused}
 use Rattle.readers.specs.Line.{lineLen, firstLine}
 use Rattle.readers.specs.declared.read.Taken.{Taken}
-use Rattle.readers.specs.declared.read.Taken.the-variants.{Number, Stop}
+use Rattle.readers.specs.declared.read.Taken.the-variants.{Number, Stop, Ended}
+use Rattle.readers.specs.declared.read.Stopped.{Stopped}
 
 -- what the line at `at` gives: "each for 3, then 1, then 2"
 unfoldable pub takenOf : ℕ → Range → List ℕ → ℕ → Taken
@@ -21,9 +27,39 @@ takenOf k r text at =
     (onValue (lineValue k r (firstLine (drop at text))) (Stop (number malformed)) (λ v.
     cond (admitsOf r v) (Number v (at + lineLen (drop at text))) (Stop (number outOfRange))))
 
-abbrev pub stopOf : Taken → ℕ
-stopOf (Number v next) = 0
-stopOf (Stop m) = m
+-- the same by what the form has there: where it ends, the text ends too, or a line is too many
+abbrev pub nextOf : Field → List ℕ → ℕ → Taken
+nextOf End text at = cond (eqb at (length text)) Ended (Stop (number missing))
+nextOf (Line k r) text at = takenOf k r text at
+
+-- the answer at a line that gives no number, after so many numbers
+abbrev pub answerOf : Taken → ℕ → ℕ → ℕ → Answer
+answerOf (Number v next) count line second = Done count
+answerOf (Stop m) count line second = Refused m line second
+answerOf Ended count line second = Done count
+
+abbrev pub NoNumber : Taken → Type 0
+NoNumber (Number v next) = ⊥
+NoNumber (Stop m) = Unit {0}
+NoNumber Ended = Unit {0}
+
+-- so many numbers of a list are read, and the line after them begins at `at`
+pub record Begun (form : Form) (text vals : List ℕ) (count at : ℕ) : Type 0 where
+  pub within : at ≤ length text
+  pub few : count ≤ mostOf form
+  pub sound : Sound form (take count vals)
+
+-- what a text is read as from there on, after so many remarks
+abbrev pub onward : Form → List ℕ → List ℕ → ℕ → ℕ → ℕ → Outcome (List ℕ)
+onward form text vals count at remarks = walkLines form (count + remarks + 1) remarks (take count vals) (lines (drop at text))
+
+-- lines are read on from there, up to the first that gives no number
+pub record ReadOn (form : Form) (text vals : List ℕ) (count at : ℕ) (after : List ℕ) (r : Stopped) : Type 0 where
+  pub begun : Begun form text after (r .count) (r .at)
+  pub later : at ≤ r .at
+  pub gives : nextOf (fieldOf form (take (r .count) after)) text (r .at) ≡ r .taken
+  pub stops : NoNumber (r .taken)
+  pub same : (remarks : ℕ) → onward form text vals count at remarks ≡ onward form text after (r .count) (r .at) remarks
 
 -- the numbers that were read stand first in a list
 abbrev pub Holds : Outcome (List ℕ) → List ℕ → Type 0

@@ -1,12 +1,17 @@
 // The line reader: the part of a line that is its value, and the number that the part is, in one pass over the digits.
 ghost use mathlib.Core.Path.{_≡_};
-ghost use Prim.Native.Nat.{_+_, _≤_};
-ghost use lib.Dec.{T};
-ghost use lib.ListN.{length, drop};
+ghost use Prim.Native.Nat.{_+_, _≤_, _<_};
+ghost use lib.Dec.{T, eqb};
+ghost use lib.ListN.{length, drop, getD};
 ghost use Rattle.forms.specs.Line.{valuePart, digitOf, decimalOf, hexOf};
 ghost use Rattle.forms.proofs.Keys.{no-feeds};
-ghost use Rattle.readers.specs.Line.{prefixed, digitTable, firstLine, valueAt, numberOf, valueOf, Leading, Parsed};
+ghost use Rattle.readers.specs.Line.{prefixed, digitTable, firstLine, valueAt, numberOf, valueOf, Leading, Parsed, afterRemark};
 use std::num;
+
+// The most remarks in a text, and the most bytes of one before its line feed.
+const REMARKS: usize = 32;
+
+const IN_REMARK: usize = 80;
 
 // What a value is: a number, with the place where its digits end.
 enum Value {
@@ -161,4 +166,39 @@ pub(crate) fn digits<'a>(
     } else {
         &text[..0]
     }
+}
+
+// Whether the line at `at` is a remark.
+pub(crate) fn is_remark(text: &[u8], at: usize) -> bool
+    ensures { λ r. ⌜ r ≡ eqb (getD (now (text .entry)) at 0) 35 ⌝ }
+{
+    if at < text.len() {
+        text[at] == b'#'
+    } else {
+        false
+    }
+}
+
+// Where the line after the remark at `at` begins; 0 where the remark is not in order: too many were passed over before, it is
+// too long, or the text stops inside it.
+pub(crate) fn after_remark(text: &[u8], at: usize, before: usize) -> usize
+    requires { ⌜ at < length (now text) ⌝ }
+    requires { ⌜ getD (now text) at 0 ≡ 35 ⌝ }
+    ensures { λ r. ⌜ r ≡ afterRemark (now (text .entry)) at before ⌝ }
+{
+    if REMARKS <= before {
+        return 0;
+    }
+    let mut n: usize = 1;
+    while n <= IN_REMARK {
+        let to = at + n;
+        if to == text.len() {
+            return 0;
+        }
+        if text[to] == b'\n' {
+            return to + 1;
+        }
+        n += 1;
+    }
+    0
 }

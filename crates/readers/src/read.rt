@@ -1,4 +1,4 @@
-// The readers: a text's lines, one after the other, each judged for 3, then 1, then 2; then, for a network, the sums.
+// The readers: a text's lines, one after the other, each a remark or judged for 3, then 1, then 2; then, for a network, the sums.
 ghost use mathlib.Core.Path.{_≡_};
 ghost use mathlib.Core.List.{_++_};
 ghost use Prim.Native.Nat.{_≤_};
@@ -8,7 +8,7 @@ ghost use Rattle.lists.specs.Answers.{done, withRoom, lent};
 ghost use Rattle.forms.specs.Slots.{keyBytes};
 ghost use Rattle.forms.specs.Form.{secondOf, mostOf};
 ghost use Rattle.forms.specs.Read.{readLines};
-ghost use Rattle.readers.specs.Read.{takenOf, stopOf, Holds};
+ghost use Rattle.readers.specs.Read.{takenOf, nextOf, answerOf, Begun, ReadOn, Holds};
 ghost use Rattle.forms.specs.Named.{readNetwork, readPlan};
 use crate::line;
 use forms::form;
@@ -25,10 +25,12 @@ const NETWORK_NUMBERS: usize = 6
     + 2 * Network::FLOWS as usize
     + 4 * Network::TUNNELS as usize;
 
-// What the next line gives: its number and where the line after it begins, or the number of its refusal.
+// What the next line gives: its number and where the line after it begins, or the number of its refusal; or the text ends
+// where the form does.
 pub(crate) enum Taken {
     Number(u64, usize),
     Stop(u64),
+    Ended,
 }
 
 // The line at `at`: judged for 3, then 1, then 2.
@@ -54,14 +56,19 @@ fn take_line(keys: &[u8], text: &[u8], at: usize, key: usize, range: Range) -> T
     }
 }
 
-// The number of a line's refusal; 0 where there is none.
-fn stop(taken: Taken) -> u64
-    ensures { λ r. ⌜ r ≡ stopOf taken ⌝ }
+// The line at `at`, by what the form has there.
+fn next_line(keys: &[u8], text: &[u8], at: usize, field: Field) -> Taken
+    requires { ⌜ now keys ≡ keyBytes ⌝ }
+    requires { ⌜ at ≤ length (now text) ⌝ }
+    ensures { λ r. ⌜ r ≡ nextOf field (now (text .entry)) at ⌝ }
 {
-    match taken {
-        Taken::Number(_, _) => 0,
-        Taken::Stop(number) => number,
-    }
+    let Field::Line(key, range) = field else {
+        if at == text.len() {
+            return Taken::Ended;
+        }
+        return Taken::Stop(3);
+    };
+    take_line(keys, text, at, key, range)
 }
 
 fn refusal(number: u64, line: u64, form: Form) -> Answer
@@ -74,32 +81,83 @@ fn refusal(number: u64, line: u64, form: Form) -> Answer
     }
 }
 
-// Reads the lines of a text into a list. Done carries how many numbers that is.
+// The answer where a line gives no number, after `count` numbers.
+fn answer(taken: Taken, count: usize, line: u64, form: Form) -> Answer
+    ensures { λ r. ⌜ r ≡ answerOf taken count line (secondOf form) ⌝ }
+{
+    match taken {
+        Taken::Number(_, _) => Answer::Done(count),
+        Taken::Stop(number) => refusal(number, line, form),
+        Taken::Ended => Answer::Done(count),
+    }
+}
+
+// Where the reading stops: how many numbers are read, where the line after them begins, and what that gives.
+struct Stopped {
+    count: usize,
+    at: usize,
+    taken: Taken,
+}
+
+// Reads lines into a list, after `count` numbers and from `from` on, up to the first line that gives no number. A remark has
+// none, so that no other line is asked whether it is one.
+fn read_on(
+    form: Form,
+    keys: &[u8],
+    text: &[u8],
+    count: usize,
+    from: usize,
+    vals: &mut [u64],
+) -> Stopped
+    requires { ⌜ now keys ≡ keyBytes ⌝ }
+    requires { ⌜ length (now vals) ≡ mostOf form ⌝ }
+    requires { ⌜ Begun form (now text) (now vals) count from ⌝ }
+    ensures { λ r. ⌜ ReadOn form (now (text .entry)) (now (vals .entry)) count from (now (vals .exit)) r ⌝ }
+{
+    let mut at = from;
+    let mut i = count;
+    loop {
+        let field = form::field_after(form, &vals[..i]);
+        let taken = next_line(keys, text, at, field);
+        let Taken::Number(v, next) = taken else {
+            return Stopped {
+                count: i,
+                at,
+                taken,
+            };
+        };
+        vals[i] = v;
+        i += 1;
+        at = next;
+    }
+}
+
+// Reads the real lines of a text into a list, and passes over its remarks. Done carries how many numbers that is.
 fn read(form: Form, keys: &[u8], text: &[u8], vals: &mut [u64]) -> Answer
     requires { ⌜ now keys ≡ keyBytes ⌝ }
     requires { ⌜ length (now vals) ≡ mostOf form ⌝ }
     ensures { λ r. ⌜ r ≡ done (readLines form (now (text .entry))) ⌝ }
     ensures { λ r. ⌜ Holds (readLines form (now (text .entry))) (now (vals .exit)) ⌝ }
 {
-    let mut line: u64 = 1;
+    let mut remarks: usize = 0;
     let mut at: usize = 0;
-    let mut i: usize = 0;
+    let mut count: usize = 0;
     loop {
-        let field = form::field_after(form, &vals[..i]);
-        let Field::Line(key, range) = field else {
-            if at == text.len() {
-                return Answer::Done(i);
+        let stopped = read_on(form, keys, text, count, at, vals);
+        at = stopped.at;
+        count = stopped.count;
+        let taken = stopped.taken;
+        let line = (count + remarks + 1) as u64;
+        if line::is_remark(text, at) {
+            let past = line::after_remark(text, at, remarks);
+            if past == 0 {
+                return refusal(1, line, form);
             }
-            return refusal(3, line, form);
-        };
-        let taken = take_line(keys, text, at, key, range);
-        let Taken::Number(v, next) = taken else {
-            return refusal(stop(taken), line, form);
-        };
-        vals[i] = v;
-        i += 1;
-        at = next;
-        line += 1;
+            remarks += 1;
+            at = past;
+        } else {
+            return answer(taken, count, line, form);
+        }
     }
 }
 

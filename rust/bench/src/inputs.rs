@@ -15,6 +15,8 @@ pub struct Input {
     pub network: Vec<u64>,
     pub plan: Vec<u64>,
     pub network_text: Vec<u8>,
+    /// The network's text with as many remarks as it may have, each as long as it may be.
+    pub remarked_text: Vec<u8>,
     pub plan_text: Vec<u8>,
     /// The network with link 63 (1 of the swap) cut down, so that no plan fits.
     pub stuck: Vec<u64>,
@@ -27,8 +29,10 @@ impl Input {
         let plan = second::make_plan(&network, ROOM).expect("a plan");
         let mut stuck = network.clone();
         stuck[6 + network[3] as usize - 1] = 0;
+        let network_text = second::write_network(&network, ROOM).expect("a valid network");
         Input {
-            network_text: second::write_network(&network, ROOM).expect("a valid network"),
+            remarked_text: remarked(&network_text),
+            network_text,
             plan_text: second::write_plan(&plan, ROOM).expect("a valid plan"),
             network,
             plan,
@@ -36,6 +40,18 @@ impl Input {
             tight,
         }
     }
+}
+
+/// A text with 32 remarks of 80 bytes, spread over its lines, the last after them.
+fn remarked(text: &[u8]) -> Vec<u8> {
+    let remark = [&b"#".repeat(80)[..], b"\n"].concat();
+    let lines: Vec<&[u8]> = text.split_inclusive(|&byte| byte == b'\n').collect();
+    let mut remarked = Vec::new();
+    for i in 0..32 {
+        let part = lines.len() * i / 32..lines.len() * (i + 1) / 32;
+        remarked.extend([&lines[part].concat()[..], &remark].concat());
+    }
+    remarked
 }
 
 /// So many networks of 64 links, 32 flows and 96 tunnels, each tunnel over so many links, for

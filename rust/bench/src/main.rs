@@ -74,11 +74,14 @@ fn rows(inputs: &[Input], repeat: usize) {
     // an operation from one slice to another, over a field of the inputs
     macro_rules! convert {
         ($name:expr, $operation:ident, $field:ident, $out:ident, $room:expr) => {
+            convert!($name, $operation, second::$operation, $field, $out, $room)
+        };
+        ($name:expr, $operation:ident, $second:expr, $field:ident, $out:ident, $room:expr) => {
             let room: fn(&Input) -> usize = $room;
             for input in inputs {
                 let room = room(input);
                 let answer = pavuneshil::$operation(&input.$field, &mut $out[..room]);
-                agree(answer, &$out, second::$operation(&input.$field, room));
+                agree(answer, &$out, $second(&input.$field, room));
             }
             row(
                 $name,
@@ -93,7 +96,7 @@ fn rows(inputs: &[Input], repeat: usize) {
                 },
                 &mut || {
                     for input in (0..repeat).flat_map(|_| inputs) {
-                        black_box(second::$operation(black_box(&input.$field), room(input))).ok();
+                        black_box($second(black_box(&input.$field), room(input))).ok();
                     }
                 },
             );
@@ -137,6 +140,14 @@ fn rows(inputs: &[Input], repeat: usize) {
     convert!("read_network", read_network, network_text, numbers, |_| {
         PLAN_NUMBERS
     });
+    convert!(
+        "read_network, 32 remarks of 80 bytes",
+        read_network,
+        |text: &[u8], room| second::read_network_by(&Rules::as_of(1), text, room),
+        remarked_text,
+        numbers,
+        |_| PLAN_NUMBERS
+    );
     convert!("read_plan", read_plan, plan_text, numbers, |_| PLAN_NUMBERS);
     convert!("write_network", write_network, network, text, |_| {
         TEXT_BYTES

@@ -3,10 +3,10 @@
 //! beyond it, and what lies around what was lent.
 
 use crate::Outcome;
-use compare::inputs;
+use compare::{inputs, LANDED};
 use pavuneshil::{Answer, Refusal, StepBound};
 use second::gen::Rng;
-use second::{Checked, Rules};
+use second::Checked;
 use std::fmt::Debug;
 
 /// So much of the buffer lies before and after what is lent.
@@ -150,7 +150,7 @@ pub fn read_network(rng: &mut Rng) -> Outcome {
         &text,
         number,
         pavuneshil::read_network,
-        |text, room| second::read_network_by(&Rules::base(), text, room),
+        |text, room| second::read_network_by(&LANDED, text, room),
         Answer::Done,
     )
 }
@@ -163,7 +163,7 @@ pub fn read_plan(rng: &mut Rng) -> Outcome {
         &text,
         number,
         pavuneshil::read_plan,
-        |text, room| second::read_plan_by(&Rules::base(), text, room),
+        |text, room| second::read_plan_by(&LANDED, text, room),
         Answer::Done,
     )
 }
@@ -176,7 +176,7 @@ pub fn write_network(rng: &mut Rng) -> Outcome {
         &list,
         byte,
         pavuneshil::write_network,
-        |list, room| second::write_network_by(&Rules::base(), list, room),
+        |list, room| second::write_network_by(&LANDED, list, room),
         Answer::Done,
     )
 }
@@ -202,7 +202,7 @@ pub fn make_plan(rng: &mut Rng) -> Outcome {
         &list,
         number,
         pavuneshil::make_plan,
-        |list, room| second::make_plan_by(&Rules::base(), list, room),
+        |list, room| second::make_plan_by(&LANDED, list, room),
         Answer::Plan,
     )
 }
@@ -211,7 +211,7 @@ pub fn check_plan(rng: &mut Rng) -> Outcome {
     let (network, plan) = inputs::pair(rng);
     let needed = network.get(5).map_or(0, |&tunnels| tunnels.min(96)) as usize;
     let room = room(rng, Some(needed), needed);
-    let (expected, written) = match second::check_plan_by(&Rules::base(), &network, &plan, room) {
+    let (expected, written) = match second::check_plan_by(&LANDED, &network, &plan, room) {
         Checked::Accepted { marks } => (Answer::Done(marks.len()), marks),
         Checked::Refused { refusal, marks } => {
             (Answer::Refused(told(refusal)), marks.unwrap_or_default())

@@ -5,16 +5,17 @@
 
 use crate::call::told;
 use crate::Outcome;
+use compare::LANDED;
 use pavuneshil::{check_plan, make_plan, step_bound, Answer, Refusal, StepBound, PLAN_NUMBERS};
 use second::gen::*;
-use second::{choice_overloads, even_plan, first_by_choices, keeps_scratch, Rules};
+use second::{choice_overloads, even_plan, first_by_choices, keeps_scratch};
 
 /// Longer plans are not held against every choice.
 const STEPS: u64 = 10;
 
 /// The first overload that some choice makes, as a refusal.
 fn by_choices(network: &[u64], plan: &[u64]) -> Option<Refusal> {
-    first_by_choices(&Rules::base(), network, plan, 1).map(told)
+    first_by_choices(&LANDED, network, plan, 1).map(told)
 }
 
 /// One tiny network, held against every choice: the checker with any plan, or the planner.

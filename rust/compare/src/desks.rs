@@ -1,12 +1,12 @@
 //! Calls of the eight desks, one after the other. After each, the answer and all that waits are held
-//! against the second implementation, by the rules as of request (x); or, from six parts of any
+//! against the second implementation; or, from six parts of any
 //! values, which the second implementation cannot be given, against a plain model of them.
 
 use crate::call::told;
 use crate::Outcome;
+use compare::LANDED;
 use pavuneshil::{Accepted, Desks, Handed, Refusal};
 use second::gen::{desk_calls, Call, Rng};
-use second::Rules;
 use std::collections::{BTreeSet, VecDeque};
 
 /// A job that waits: its number and its tag.
@@ -17,10 +17,6 @@ const LAST_NUMBER: u32 = 4_294_967_295;
 
 fn next_number(counter: u32) -> u32 {
     counter % LAST_NUMBER + 1
-}
-
-fn rules() -> Rules {
-    Rules::as_of(10)
 }
 
 /// What a call is answered where it is not refused.
@@ -233,7 +229,7 @@ pub fn from_empty(rng: &mut Rng) -> Outcome {
         return hold(
             "desks from the empty state",
             empty,
-            second::Desks::new(&rules()),
+            second::Desks::new(&LANDED),
             &calls,
         );
     }
@@ -244,7 +240,7 @@ pub fn from_empty(rng: &mut Rng) -> Outcome {
     hold(
         "desks from late numbers",
         Desks { counters, ..empty },
-        second::Desks::with_next(&rules(), counters.map(next_number)),
+        second::Desks::with_next(&LANDED, counters.map(next_number)),
         &calls,
     )
 }
@@ -376,7 +372,7 @@ mod tests {
         assert!(with(1, 7).is_err());
         assert!(with(0, 1).is_err());
         // one counter for all desks, as before request (x)
-        let shared = second::Desks::new(&Rules::as_of(9));
+        let shared = second::Desks::new(&second::Rules::as_of(9));
         assert!(hold("desks", start, shared, &calls).is_err());
     }
 
@@ -386,7 +382,7 @@ mod tests {
         let mut rng = Rng::new(404);
         for _ in 0..100 {
             let mut model = Model::of(&Desks::new());
-            let mut second = second::Desks::new(&rules());
+            let mut second = second::Desks::new(&LANDED);
             for call in desk_calls(&mut rng, 300) {
                 assert_eq!(model.call(call), Beside::call(&mut second, call));
                 for desk in 0..8 {

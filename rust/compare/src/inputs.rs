@@ -112,8 +112,22 @@ pub fn pair(rng: &mut Rng) -> (Vec<u64>, Vec<u64>) {
     }
 }
 
-/// The text of a network or a plan, or one damaged, cut anywhere, far too long, or of random bytes.
+/// What a text reader may meet: a text with remarks or without, then damaged, then with remarks that may be out of order.
 fn any_text(rng: &mut Rng, text: Vec<u8>, other: Vec<u8>) -> Vec<u8> {
+    let text = match rng.below(4) {
+        0 => remarked_text(rng, &text),
+        _ => text,
+    };
+    let text = damaged_text(rng, text, other);
+    match rng.below(8) {
+        0 => remarked_text(rng, &text),
+        1 => damaged_remarks(rng, &text),
+        _ => text,
+    }
+}
+
+/// The text of a network or a plan, or one damaged, cut anywhere, far too long, or of random bytes.
+fn damaged_text(rng: &mut Rng, text: Vec<u8>, other: Vec<u8>) -> Vec<u8> {
     if rng.below(500) == 0 {
         return too_long(rng, text);
     }
@@ -140,10 +154,12 @@ fn any_text(rng: &mut Rng, text: Vec<u8>, other: Vec<u8>) -> Vec<u8> {
 
 /// A text that goes on, in one line or in many, for more than 65,536 bytes.
 pub fn too_long(rng: &mut Rng, text: Vec<u8>) -> Vec<u8> {
-    let more = match rng.below(4) {
+    let more = match rng.below(6) {
         0 => b"9".repeat(70_000),
         1 => b"\n".repeat(70_000),
         2 => b"at=1\n".repeat(14_000),
+        3 => b"#\n".repeat(35_000),
+        4 => b"#".repeat(70_000),
         _ => b"cap=0\n".repeat(14_000),
     };
     let at = rng.below(text.len() as u64 + 1) as usize;

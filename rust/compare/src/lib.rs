@@ -1,5 +1,16 @@
-//! What the comparisons share: the inputs.
+//! What the comparisons share: the inputs, and which requests of the second paper have landed.
 
 #![forbid(unsafe_code)]
 
+use second::Rules;
+
 pub mod inputs;
+
+/// The rules that the second implementation goes by: what has landed and changes an answer to the
+/// same call, remarks (i), turns (ix) and a desk's own numbers (x).
+pub const LANDED: Rules = Rules {
+    remarks: true,
+    newest_edition: 1,
+    turns: true,
+    own_numbers: true,
+};

@@ -1,6 +1,5 @@
 //! Holds every operation of the static library against the second implementation, by the rules of
-//! the first paper, the sharing of a flow by request (xiv), and the eight desks by requests (iv),
-//! (ix) and (x).
+//! the first paper and of the second paper's requests that have landed.
 //!
 //!     compare [CASES [SEED [FIRST]]]
 //!

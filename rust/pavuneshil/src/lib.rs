@@ -6,6 +6,9 @@
 //! is lent holds what the operation promises. Where the answer is a refusal, everything lent is
 //! left as it was, except the marks after 7 and 8. Output beyond the written length stays untouched.
 //!
+//! A line of a text that begins with `#` is a remark, which the readers pass over: up to 80 bytes
+//! before its line feed, at most 32 in a text, anywhere. Lists and written texts have none.
+//!
 //! ```
 //! use pavuneshil::{make_plan, Answer};
 //! // one link of 15 Mbit/s, no flows, no tunnels
@@ -27,7 +30,7 @@ pub const NETWORK_NUMBERS: usize = 6 + 64 + 2 * 32 + 4 * 96;
 /// No valid plan's list has more numbers.
 pub const PLAN_NUMBERS: usize = 4 + 49 * 96;
 
-/// No valid text has more bytes.
+/// No valid text has more bytes, with all its remarks.
 pub const TEXT_BYTES: usize = 65_536;
 
 /// No network has more tunnels, so no check writes more marks.
@@ -45,8 +48,9 @@ pub struct Refusal {
     /// steps, 10 lent output too short, 12 no such desk, 13 four jobs of the desk wait already,
     /// 14 hand-out with nothing waiting, 21 count of services, rate or demand out of range.
     pub number: u64,
-    /// The line, flow, row or step; the length needed for 10; the desk for 12 and 13; 0 for 14; for
-    /// 21 the first service, counted from 1, whose demand is out of range, 0 for count and rate.
+    /// The line, in a text counted with the remarks; the flow, row or step; the length needed for 10;
+    /// the desk for 12 and 13; 0 for 14; for 21 the first service, counted from 1, whose demand is out
+    /// of range, 0 for count and rate.
     pub place: u64,
     /// 0 network and 1 plan for 1, 2, 3 and 5; 0 old and 1 new for 4; the flow for 6; the link
     /// for 7, 8 and 9; 0 for 10, 12, 13 and 14; 1 for a rate out of range in 21, else 0.
@@ -199,12 +203,14 @@ macro_rules! convert {
     }};
 }
 
-/// Reads a network text into a list of numbers, one for each line. Refusals 1 to 4 and 10.
+/// Reads a network text into a list of numbers, one for each line that is no remark. Refusals 1 to
+/// 4 and 10.
 pub fn read_network(text: &[u8], out: &mut [u64]) -> Answer {
     convert!(pavuneshil_read_network, text, out)
 }
 
-/// Reads a plan text into a list of numbers, one for each line. Refusals 1 to 3 and 10.
+/// Reads a plan text into a list of numbers, one for each line that is no remark. Refusals 1 to 3
+/// and 10.
 pub fn read_plan(text: &[u8], out: &mut [u64]) -> Answer {
     convert!(pavuneshil_read_plan, text, out)
 }

@@ -22,6 +22,14 @@ use std::process::{Command, Output, Stdio};
 const INPUTS: u64 = 150;
 const SEED: u64 = 20_131_009;
 
+/// What the second implementation's programs are told: the first request has landed, and none after
+/// it that changes what the programs print.
+const LANDED: &str = "1";
+
+fn argument(name: &str) -> Option<&str> {
+    name.starts_with("second-").then_some(LANDED)
+}
+
 /// The user and group `nobody`, for a file that cannot be read: root can read any.
 const NOBODY: u32 = 65_534;
 
@@ -71,6 +79,7 @@ impl Run {
 
     fn program(&self, name: &str) -> Command {
         let mut command = Command::new(self.room.join("bin").join(name));
+        command.args(argument(name));
         command.current_dir(self.room.join("case"));
         command.stdin(Stdio::null());
         command
@@ -106,9 +115,10 @@ impl Run {
 
     /// The program run by the shell, with its streams set as the shell says.
     fn program_of_shell(&self, name: &str, streams: &str) -> Command {
+        let told = argument(name).unwrap_or("");
         let mut command = Command::new("sh");
         command
-            .args(["-c", &format!("exec ../bin/{name} {streams}")])
+            .args(["-c", &format!("exec ../bin/{name} {told} {streams}")])
             .current_dir(self.room.join("case"));
         command
     }

@@ -1,0 +1,373 @@
+-- Laws of remarks: a text without them, the walk that passes over them, and how long they are.
+use mathlib.Core.Path.{_≡_, refl, sym, ap, _∙_}
+use mathlib.Core.Bool.{Bool, true, false, cond, not, _&&_}
+use mathlib.Core.List.{List, [], _∷_, _++_}
+use mathlib.Core.Option.{Option, none, some, Option·some-ne-none}
+use Prim.Native.Nat.{ℕ, zero, suc, _+_, _-_, _*_, _≤_, _<_}
+use native.Mathlib.Omega.{arith}
+use lib.Dec.{T, leb, ltb, leb→le, ltb→lt}
+use lib.ListN.{length, length-append}
+use borrow.Author.Tests.{lt-ltb, le-ltb}
+use Rattle.model.specs.Outcome.{Outcome, good, refused, Cause, malformed, outOfRange, missing}
+use Rattle.model.proofs.Searches.{both}
+use Rattle.forms.specs.Line.{lines, joined, beforeFeed, isRemark, isReal, fits, mostInRemark, mostRemarks, kept, remarks, realLines, plain, lineValue, isPassed}
+use Rattle.forms.specs.Form.{fieldOf, admitsOf, secondOf}
+use Rattle.forms.specs.Read.{walk, walkLines, readLines, onField, onValue, atEnd, atItem}
+use Rattle.forms.specs.Laws.{allFit, InOrder, numberIn, moved, firstBad, orEarlier, Remarked}
+use Rattle.forms.specs.declared.form.Form.{Form}
+use Rattle.forms.specs.declared.form.Range.{Range}
+use Rattle.forms.specs.declared.form.Field.{Field}
+use Rattle.forms.specs.declared.form.Field.the-variants.{Line, End}
+use Rattle.forms.proofs.Lines.{last-feed}
+use Rattle.forms.proofs.Texts.{lines-joined, lines-kept}
+
+-- ---- where there are no remarks
+
+pub lines-plain : (text : List ℕ) → lines (plain text) ≡ realLines text
+lines-plain text = lines-kept isReal text
+
+kept-none : (ls : List (List ℕ)) → kept isRemark (kept isReal ls) ≡ []
+unfolding kept
+kept-none [] = refl
+kept-none (l ∷ ls) = go (isRemark l) refl (kept-none ls)
+  where
+    go : (b : Bool) → isRemark l ≡ b → kept isRemark (kept isReal ls) ≡ []
+        → kept isRemark (cond (not b) (l ∷ kept isReal ls) (kept isReal ls)) ≡ []
+    go true e h = h
+    go false e h = rw e h
+
+pub plain-unremarked : (text : List ℕ) → remarks (plain text) ≡ []
+plain-unremarked text = rw (lines-plain text) (kept-none (lines text))
+
+-- the first of some lines is no remark where none is
+none-first : (l : List ℕ) (ls : List (List ℕ)) → kept isRemark (l ∷ ls) ≡ [] → (isRemark l ≡ false) × (kept isRemark ls ≡ [])
+unfolding kept
+none-first l ls e = go (isRemark l) e
+  where
+    go : (b : Bool) → cond b (l ∷ kept isRemark ls) (kept isRemark ls) ≡ [] → (b ≡ false) × (kept isRemark ls ≡ [])
+    go true e = let z : _≡_ {A = ℕ} 0 1 = cc in absurd (omega arith)
+    go false e = (refl, e)
+
+kept-all : (ls : List (List ℕ)) → kept isRemark ls ≡ [] → kept isReal ls ≡ ls
+unfolding kept
+kept-all [] e = refl
+kept-all (l ∷ ls) e = let p = none-first l ls e in rw (p .0, kept-all ls (p .1))
+
+number-same : (ls : List (List ℕ)) (n : ℕ) → kept isRemark ls ≡ [] → numberIn ls n ≡ n
+unfolding numberIn
+number-same [] n e = refl
+number-same (l ∷ ls) zero e = refl
+number-same (l ∷ ls) (suc n) e = let p = none-first l ls e in rw (p .0) (ap suc (number-same ls n (p .1)))
+
+pub plain-same : (text : List ℕ) → remarks text ≡ [] → plain text ≡ text
+plain-same text e = ap joined (kept-all (lines text) e) ∙ lines-joined text
+
+-- ---- the walk, line by line
+
+moved-good : (f : ℕ → ℕ) (o : Outcome (List ℕ)) (g : List ℕ) → moved f o ≡ good g → o ≡ good g
+moved-good f (good l) g e = e
+moved-good f (refused c a b) g e = let z : _≡_ {A = ℕ} 0 1 = cc in absurd (omega arith)
+
+moved-same : (f : ℕ → ℕ) → ((n : ℕ) → f n ≡ n) → (o : Outcome (List ℕ)) → moved f o ≡ o
+moved-same f h (good l) = refl
+moved-same f h (refused c a b) = rw (h a)
+
+number-first : (ls : List (List ℕ)) → numberIn ls 0 ≡ 0
+unfolding numberIn
+number-first [] = refl
+number-first (l ∷ ls) = refl
+
+-- no refusal of a walk is at a place before its first
+abbrev From : ℕ → Outcome (List ℕ) → Type 0
+From n (good l) = Unit {0}
+From n (refused c place second) = n ≤ place
+
+from-later : (n : ℕ) (o : Outcome (List ℕ)) → From (n + 1) o → From n o
+from-later n (good l) h = tt
+from-later n (refused c place second) h = omega arith
+
+from-end : (n : ℕ) (done : List ℕ) (s : ℕ) (d : Field) → From n (onField d (good done) (λ k r. refused missing n s))
+from-end n done s End = tt
+from-end n done s (Line k r) = omega arith
+
+from-item : (form : Form) (n : ℕ) (done : List ℕ) (value : ℕ → Range → Option ℕ) (next : List ℕ → Outcome (List ℕ)) → ((more : List ℕ) → From (n + 1) (next more))
+    → From n (atItem form n done value next)
+from-item form n done value next on = by-field (fieldOf form done)
+  where
+    by-range : (v : ℕ) (b : Bool) → From n (cond b (next (done ++ (v ∷ []))) (refused outOfRange n (secondOf form)))
+    by-range v true = from-later n (next (done ++ (v ∷ []))) (on (done ++ (v ∷ [])))
+    by-range v false = omega arith
+
+    by-value : (r : Range) (x : Option ℕ) → From n (onValue x (refused malformed n (secondOf form)) (λ v. cond (admitsOf r v) (next (done ++ (v ∷ []))) (refused outOfRange n (secondOf form))))
+    by-value r none = omega arith
+    by-value r (some v) = by-range v (admitsOf r v)
+
+    by-field : (d : Field)
+        → From n (onField d (refused missing n (secondOf form)) (λ k r. onValue (value k r) (refused malformed n (secondOf form)) (λ v. cond (admitsOf r v) (next (done ++ (v ∷ []))) (refused outOfRange n (secondOf form)))))
+    by-field End = omega arith
+    by-field (Line k r) = by-value r (value k r)
+
+walk-from : (form : Form) (n : ℕ) (done : List ℕ) (ls : List (List ℕ)) → From n (walk lineValue form n done ls)
+unfolding walk
+walk-from form n done [] = from-end n done (secondOf form) (fieldOf form done)
+walk-from form n done (l ∷ ls) = from-item form n done (λ k r. lineValue k r l) (λ more. walk lineValue form (n + 1) more ls) (λ more. walk-from form (n + 1) more ls)
+
+-- nor is a remark that is not in order
+abbrev BadFrom : ℕ → Option ℕ → Type 0
+BadFrom n none = Unit {0}
+BadFrom n (some b) = n ≤ b
+
+bad-later : (n : ℕ) (o : Option ℕ) → BadFrom (n + 1) o → BadFrom n o
+bad-later n none h = tt
+bad-later n (some b) h = omega arith
+
+bad-from : (n c : ℕ) (ls : List (List ℕ)) → BadFrom n (firstBad n c ls)
+unfolding firstBad
+bad-from n c [] = tt
+bad-from n c (l ∷ ls) = go (isRemark l) (isPassed c l) (bad-from (n + 1) (c + 1) ls) (bad-from (n + 1) c ls)
+  where
+    go : (a b : Bool) → BadFrom (n + 1) (firstBad (n + 1) (c + 1) ls) → BadFrom (n + 1) (firstBad (n + 1) c ls)
+        → BadFrom n (cond a (cond b (firstBad (n + 1) (c + 1) ls) (some n)) (firstBad (n + 1) c ls))
+    go true true p q = bad-later n (firstBad (n + 1) (c + 1) ls) p
+    go true false p q = omega arith
+    go false b p q = bad-later n (firstBad (n + 1) c ls) q
+
+-- a turn at the place n is one at m, seen through F
+module _ (form : Form) (n m : ℕ) (done : List ℕ) (F : Outcome (List ℕ) → Outcome (List ℕ)) (seen : (c : Cause) → F (refused c m (secondOf form)) ≡ refused c n (secondOf form)) where
+  end-seen : F (good done) ≡ good done → atEnd form n done ≡ F (atEnd form m done)
+  end-seen e = go (fieldOf form done)
+    where
+      go : (d : Field) → onField d (good done) (λ k r. refused missing n (secondOf form)) ≡ F (onField d (good done) (λ k r. refused missing m (secondOf form)))
+      go End = sym e
+      go (Line k r) = sym (seen missing)
+
+  pub item-seen : (value : ℕ → Range → Option ℕ) (next next′ : List ℕ → Outcome (List ℕ))
+      → ((k : ℕ) (r : Range) (v : ℕ) → fieldOf form done ≡ Line k r → value k r ≡ some v → admitsOf r v ≡ true → next (done ++ (v ∷ [])) ≡ F (next′ (done ++ (v ∷ []))))
+      → atItem form n done value next ≡ F (atItem form m done value next′)
+  item-seen value next next′ on = by-field (fieldOf form done) refl
+    where
+      by-range : (k : ℕ) (r : Range) (v : ℕ) → fieldOf form done ≡ Line k r → value k r ≡ some v → (b : Bool) → admitsOf r v ≡ b
+          → cond b (next (done ++ (v ∷ []))) (refused outOfRange n (secondOf form)) ≡ F (cond b (next′ (done ++ (v ∷ []))) (refused outOfRange m (secondOf form)))
+      by-range k r v f x true a = on k r v f x a
+      by-range k r v f x false a = sym (seen outOfRange)
+
+      by-value : (k : ℕ) (r : Range) → fieldOf form done ≡ Line k r → (x : Option ℕ) → value k r ≡ x
+          → onValue x (refused malformed n (secondOf form)) (λ v. cond (admitsOf r v) (next (done ++ (v ∷ []))) (refused outOfRange n (secondOf form)))
+          ≡ F (onValue x (refused malformed m (secondOf form)) (λ v. cond (admitsOf r v) (next′ (done ++ (v ∷ []))) (refused outOfRange m (secondOf form))))
+      by-value k r f none x = sym (seen malformed)
+      by-value k r f (some v) x = by-range k r v f x (admitsOf r v) refl
+
+      by-field : (d : Field) → fieldOf form done ≡ d
+          → onField d (refused missing n (secondOf form)) (λ k r. onValue (value k r) (refused malformed n (secondOf form)) (λ v. cond (admitsOf r v) (next (done ++ (v ∷ []))) (refused outOfRange n (secondOf form))))
+          ≡ F (onField d (refused missing m (secondOf form)) (λ k r. onValue (value k r) (refused malformed m (secondOf form)) (λ v. cond (admitsOf r v) (next′ (done ++ (v ∷ []))) (refused outOfRange m (secondOf form)))))
+      by-field End f = sym (seen missing)
+      by-field (Line k r) f = by-value k r f (value k r) refl
+
+-- the lines that are left, of which the first has the number n and the first real one is the real line m
+abbrev Numbered : (ℕ → ℕ) → ℕ → ℕ → List (List ℕ) → Type 0
+Numbered f n m ls = (j : ℕ) → f (m + j) + 1 ≡ n + numberIn ls (suc j)
+
+first-number : (f : ℕ → ℕ) (n m k : ℕ) → f (m + 0) + 1 ≡ n + suc k → k ≡ 0 → f m ≡ n
+first-number f n m k e z =
+    let o : m + 0 ≡ m = omega arith in
+    let w : f m + 1 ≡ n + suc k = rw o at e in
+    omega arith
+
+module _ (form : Form) (f : ℕ → ℕ) (n m c : ℕ) (done l : List ℕ) (ls : List (List ℕ)) (numbered : Numbered f n m (l ∷ ls)) where
+  abbrev s : ℕ
+  s = secondOf form
+
+  -- what the rest is read as is what its real lines are, seen through this
+  abbrev sight : ℕ → Outcome (List ℕ) → Outcome (List ℕ)
+  sight before o = orEarlier s (firstBad (n + 1) before ls) (moved f o)
+
+  turn-remark : isRemark l ≡ true → (b : Bool) → isPassed c l ≡ b
+      → (Numbered f (n + 1) m ls → walkLines form (n + 1) (c + 1) done ls ≡ sight (c + 1) (walk lineValue form m done (kept isReal ls)))
+      → walkLines form n c done (l ∷ ls) ≡ orEarlier s (firstBad n c (l ∷ ls)) (moved f (walk lineValue form m done (kept isReal (l ∷ ls))))
+  unfolding walkLines kept numberIn firstBad
+  turn-remark e true ok ih =
+      let k : Numbered f (n + 1) m ls = λ j. let x : f (m + j) + 1 ≡ n + suc (numberIn ls (suc j)) = rw e at (numbered j) in omega (arith, x) in
+      rw (e, ok) (ih k)
+  turn-remark e false ok ih = rw (e, ok) (go (walk lineValue form m done (kept isReal ls)) (walk-from form m done (kept isReal ls)))
+    where
+      go : (o : Outcome (List ℕ)) → From m o → refused malformed n s ≡ orEarlier s (some n) (moved f o)
+      go (good g) h = refl
+      go (refused k place second) h =
+          let p : m + (place - m) ≡ place = omega arith in
+          let x : f place + 1 ≡ n + suc (numberIn ls (suc (place - m))) = rw (e, p) at (numbered (place - m)) in
+          rw (le-ltb (f place) n (omega (arith, x)))
+
+  turn-real : isRemark l ≡ false
+      → ((more : List ℕ) → Numbered f (n + 1) (m + 1) ls → walkLines form (n + 1) c more ls ≡ sight c (walk lineValue form (m + 1) more (kept isReal ls)))
+      → walkLines form n c done (l ∷ ls) ≡ orEarlier s (firstBad n c (l ∷ ls)) (moved f (walk lineValue form m done (kept isReal (l ∷ ls))))
+  unfolding walkLines walk kept numberIn firstBad
+  turn-real e ih =
+      let k : Numbered f (n + 1) (m + 1) ls =
+      λ j. let x : f (m + suc j) + 1 ≡ n + suc (numberIn ls (suc j)) = rw e at (numbered (suc j)) in rw (next m j) (omega (arith, x)) in
+      let z : f (m + 0) + 1 ≡ n + suc (numberIn ls 0) = rw e at (numbered 0) in
+      let at : f m ≡ n = first-number f n m (numberIn ls 0) z (number-first ls) in
+      rw e
+      (item-seen form n m done (sight c) (λ k. rw at (go k (firstBad (n + 1) c ls) (bad-from (n + 1) c ls))) (λ k r. lineValue k r l)
+      (λ more. walkLines form (n + 1) c more ls) (λ more. walk lineValue form (m + 1) more (kept isReal ls)) (λ _ _ v _ _ _. ih (done ++ (v ∷ [])) k))
+    where
+      next : (m j : ℕ) → m + 1 + j ≡ m + suc j
+      next m j = omega arith
+
+      go : (k : Cause) (o : Option ℕ) → BadFrom (n + 1) o → orEarlier s o (refused k n s) ≡ refused k n s
+      go k none h = refl
+      go k (some b) h = rw (lt-ltb n b (omega arith))
+
+by-turns : (form : Form) (f : ℕ → ℕ) (n m c : ℕ) (done : List ℕ) (ls : List (List ℕ)) → Numbered f n m ls
+    → walkLines form n c done ls ≡ orEarlier (secondOf form) (firstBad n c ls) (moved f (walk lineValue form m done (kept isReal ls)))
+unfolding walkLines walk kept numberIn firstBad
+by-turns form f n m c done [] numbered =
+    let at : f m ≡ n = first-number f n m 0 (numbered 0) refl in
+    end-seen form n m done (moved f) (λ k. rw at) refl
+by-turns form f n m c done (l ∷ ls) numbered = go (isRemark l) refl (λ more. by-turns form f (n + 1) (m + 1) c more ls) (by-turns form f (n + 1) m (c + 1) done ls)
+  where
+    go : (b : Bool) → isRemark l ≡ b
+        → ((more : List ℕ) → Numbered f (n + 1) (m + 1) ls → walkLines form (n + 1) c more ls ≡ orEarlier (secondOf form) (firstBad (n + 1) c ls) (moved f (walk lineValue form (m + 1) more (kept isReal ls))))
+        → (Numbered f (n + 1) m ls → walkLines form (n + 1) (c + 1) done ls ≡ orEarlier (secondOf form) (firstBad (n + 1) (c + 1) ls) (moved f (walk lineValue form m done (kept isReal ls))))
+        → walkLines form n c done (l ∷ ls) ≡ orEarlier (secondOf form) (firstBad n c (l ∷ ls)) (moved f (walk lineValue form m done (kept isReal (l ∷ ls))))
+    go true e real remark = turn-remark form f n m c done l ls numbered e (isPassed c l) refl remark
+    go false e real remark = turn-real form f n m c done l ls numbered e real
+
+-- what a text is read as, by its real lines and the first remark that is not in order
+read-by-turns : (form : Form) (text : List ℕ)
+    → readLines form text ≡ orEarlier (secondOf form) (firstBad 1 0 (lines text)) (moved (numberIn (lines text)) (walk lineValue form 1 [] (realLines text)))
+unfolding readLines
+read-by-turns form text = by-turns form (numberIn (lines text)) 1 1 0 [] (lines text) (λ j. rw (one j) (omega arith))
+  where
+    one : (j : ℕ) → 1 + j ≡ suc j
+    one j = omega arith
+
+-- ---- remarks in order
+
+-- so many remarks were passed over, and these are left
+abbrev Ordered : ℕ → List (List ℕ) → Type 0
+Ordered c rs = (c + length rs ≤ mostRemarks) × T (allFit rs)
+
+is-true : (b : Bool) → T b → b ≡ true
+is-true true t = refl
+is-true false t = absurd t
+
+none-bad : (n c : ℕ) (ls : List (List ℕ)) → Ordered c (kept isRemark ls) → firstBad n c ls ≡ none
+unfolding kept firstBad
+none-bad n c [] o = refl
+none-bad n c (l ∷ ls) o = go (isRemark l) o (none-bad (n + 1) (c + 1) ls) (none-bad (n + 1) c ls)
+  where
+    go : (b : Bool) → Ordered c (cond b (l ∷ kept isRemark ls) (kept isRemark ls)) → (Ordered (c + 1) (kept isRemark ls) → firstBad (n + 1) (c + 1) ls ≡ none)
+        → (Ordered c (kept isRemark ls) → firstBad (n + 1) c ls ≡ none)
+        → cond b (cond (isPassed c l) (firstBad (n + 1) (c + 1) ls) (some n)) (firstBad (n + 1) c ls) ≡ none
+    go true o remark real =
+        let q = both (fits l) (allFit (kept isRemark ls)) (o .1) in
+        rw (lt-ltb c mostRemarks (omega (arith, o .0)), is-true (fits l) (q .0)) (remark (omega (arith, o .0), q .1))
+    go false o remark real = real o
+
+bad-none : (n c : ℕ) (ls : List (List ℕ)) → c ≤ mostRemarks → firstBad n c ls ≡ none → Ordered c (kept isRemark ls)
+unfolding kept firstBad
+bad-none n c [] h e = (omega arith, tt)
+bad-none n c (l ∷ ls) h e = go (isRemark l) (ltb c mostRemarks) (fits l) refl refl e (bad-none (n + 1) (c + 1) ls) (bad-none (n + 1) c ls h)
+  where
+    go : (b x y : Bool) → ltb c mostRemarks ≡ x → fits l ≡ y → cond b (cond (x && y) (firstBad (n + 1) (c + 1) ls) (some n)) (firstBad (n + 1) c ls) ≡ none
+        → (c + 1 ≤ mostRemarks → firstBad (n + 1) (c + 1) ls ≡ none → Ordered (c + 1) (kept isRemark ls))
+        → (firstBad (n + 1) c ls ≡ none → Ordered c (kept isRemark ls))
+        → Ordered c (cond b (l ∷ kept isRemark ls) (kept isRemark ls))
+    go true true true u w e remark real =
+        let k : c < mostRemarks = ltb→lt c mostRemarks (rw u tt) in
+        let p = remark (omega arith) e in
+        (omega (arith, p .0), rw w (p .1))
+    go true true false u w e remark real = absurd (Option·some-ne-none n e)
+    go true false y u w e remark real = absurd (Option·some-ne-none n e)
+    go false x y u w e remark real = real e
+
+module _ (text : List ℕ) where
+  order-none : InOrder text → firstBad 1 0 (lines text) ≡ none
+  order-none o = none-bad 1 0 (lines text) (omega (arith, o .few), o .fit)
+
+  none-order : firstBad 1 0 (lines text) ≡ none → InOrder text
+  none-order e = let p = bad-none 1 0 (lines text) (omega arith) e in record { few = omega (arith, p .0); fit = p .1 }
+
+-- the real lines of a text are read, and a refusal's place is moved
+pub read-passed : (form : Form) (text : List ℕ) → InOrder text → readLines form text ≡ moved (numberIn (lines text)) (walk lineValue form 1 [] (realLines text))
+read-passed form text o = read-by-turns form text ∙ rw (order-none text o)
+
+pub read-unremarked : (form : Form) (text : List ℕ) → remarks text ≡ [] → readLines form text ≡ walk lineValue form 1 [] (lines text)
+read-unremarked form text e =
+    read-passed form text (record { few = rw e (omega arith); fit = rw e tt })
+    ∙ moved-same (numberIn (lines text)) (λ n. number-same (lines text) n e) _
+    ∙ ap (walk lineValue form 1 []) (kept-all (lines text) e)
+
+-- a text that is read has its remarks in order, and its real lines are read
+or-good : (s : ℕ) (b : Option ℕ) (o : Outcome (List ℕ)) (g : List ℕ) → orEarlier s b o ≡ good g → (b ≡ none) × (o ≡ good g)
+or-good s none o g e = (refl, e)
+or-good s (some n) (good l) g e = let z : _≡_ {A = ℕ} 0 1 = cc in absurd (omega arith)
+or-good s (some n) (refused c place second) g e = go (ltb place n) e
+  where
+    go : (x : Bool) → cond x (refused c place second) (refused malformed n s) ≡ good g → (some n ≡ none) × (refused c place second ≡ good g)
+    go true e = let z : _≡_ {A = ℕ} 0 1 = cc in absurd (omega arith)
+    go false e = let z : _≡_ {A = ℕ} 0 1 = cc in absurd (omega arith)
+
+module _ (form : Form) (text g : List ℕ) (e : readLines form text ≡ good g) where
+  turns-good : (firstBad 1 0 (lines text) ≡ none) × (moved (numberIn (lines text)) (walk lineValue form 1 [] (realLines text)) ≡ good g)
+  turns-good = or-good (secondOf form) (firstBad 1 0 (lines text)) _ g (sym (read-by-turns form text) ∙ e)
+
+  pub read-ordered : InOrder text
+  read-ordered = none-order text (turns-good .0)
+
+  pub read-real : walk lineValue form 1 [] (realLines text) ≡ good g
+  read-real = moved-good (numberIn (lines text)) _ g (turns-good .1)
+
+plain-read : (form : Form) (text : List ℕ) → readLines form (plain text) ≡ walk lineValue form 1 [] (realLines text)
+plain-read form text = read-unremarked form (plain text) (plain-unremarked text) ∙ ap (walk lineValue form 1 []) (lines-plain text)
+
+pub remarked : (form : Form) → Remarked form
+remarked form =
+    record {
+      unremarked = λ text e. (plain-same text e, read-unremarked form text e);
+      plain-unremarked = plain-unremarked;
+      passed-over = λ text o. rw (plain-read form text) (read-passed form text o);
+      in-turn = λ text. rw (plain-read form text) (read-by-turns form text);
+      first-bad = λ text. (order-none text, none-order text);
+    }
+
+-- a line that does not fit is no remark in order, however many there were before
+pub unfit : (c : ℕ) (l : List ℕ) → fits l ≡ false → isPassed c l ≡ false
+unfit c l e = rw e (go (ltb c mostRemarks))
+  where
+    go : (b : Bool) → (b && false) ≡ false
+    go true = refl
+    go false = refl
+
+-- ---- how long remarks are
+
+pub fits-short : (l : List ℕ) → T (fits l) → length l ≤ mostInRemark + 1
+unfolding fits
+fits-short l t =
+    let p = both (leb 1 (length (beforeFeed l))) (leb (length (beforeFeed l)) mostInRemark) t in
+    let some : 1 ≤ length (beforeFeed l) = leb→le _ _ (p .0) in
+    let few : length (beforeFeed l) ≤ mostInRemark = leb→le _ _ (p .1) in
+    let n : length l ≡ length (beforeFeed l) + 1 = ap length (last-feed l (beforeFeed l) some refl) ∙ length-append (beforeFeed l) (10 ∷ []) in
+    omega arith
+
+remarks-short : (rs : List (List ℕ)) → T (allFit rs) → length (joined rs) ≤ length rs * (mostInRemark + 1)
+unfolding joined
+remarks-short [] t = omega arith
+remarks-short (l ∷ rs) t =
+    let p = both (fits l) (allFit rs) t in
+    omega (arith, length-append l (joined rs), fits-short l (p .0), remarks-short rs (p .1))
+
+parts-length : (ls : List (List ℕ)) → length (joined ls) ≡ length (joined (kept isReal ls)) + length (joined (kept isRemark ls))
+unfolding joined kept
+parts-length [] = refl
+parts-length (l ∷ ls) = go (isRemark l) (parts-length ls)
+  where
+    go : (b : Bool) → length (joined ls) ≡ length (joined (kept isReal ls)) + length (joined (kept isRemark ls))
+        → length (l ++ joined ls) ≡ length (joined (cond (not b) (l ∷ kept isReal ls) (kept isReal ls))) + length (joined (cond b (l ∷ kept isRemark ls) (kept isRemark ls)))
+    go true h = simp length-append (omega arith)
+    go false h = simp length-append (omega arith)
+
+-- a text is longer than its plain text by so much at most
+pub plain-longer : (text : List ℕ) → InOrder text → length text ≤ length (plain text) + mostRemarks * (mostInRemark + 1)
+plain-longer text o =
+    omega (arith, ap length (lines-joined text), parts-length (lines text), remarks-short (remarks text) (o .fit), o .few)

@@ -1,0 +1,86 @@
+-- Laws of the lines of a text: put together they are the text, and what is kept of them are the lines of what that is together.
+use mathlib.Core.Path.{_≡_, refl, ap, _∙_}
+use mathlib.Core.Logic.{_⊎_, inl, inr}
+use mathlib.Core.Bool.{Bool, true, false, cond, not, _&&_}
+use mathlib.Core.List.{List, [], _∷_, _++_, append-nil}
+use Prim.Native.Nat.{ℕ}
+use lib.Dec.{T, eqb}
+use borrow.Author.Tests.{eqb-true}
+use Rattle.forms.specs.Line.{lines, onFirst, joined, kept}
+use Rattle.forms.proofs.Keys.{no-feeds}
+
+joined-first : (b : ℕ) (ls : List (List ℕ)) → joined (onFirst b ls) ≡ b ∷ joined ls
+unfolding joined onFirst
+joined-first b [] = refl
+joined-first b (l ∷ ls) = refl
+
+pub lines-joined : (t : List ℕ) → joined (lines t) ≡ t
+unfolding lines joined
+lines-joined [] = refl
+lines-joined (b ∷ t) = go (eqb b 10) (lines-joined t)
+  where
+    go : (e : Bool) → joined (lines t) ≡ t → joined (cond e ((b ∷ []) ∷ lines t) (onFirst b (lines t))) ≡ b ∷ t
+    go true h = ap (λ (l : List ℕ). b ∷ l) h
+    go false h = joined-first b (lines t) ∙ ap (λ (l : List ℕ). b ∷ l) h
+
+pub lines-line : (x rest : List ℕ) → T (no-feeds x) → lines (x ++ (10 ∷ []) ++ rest) ≡ (x ++ (10 ∷ [])) ∷ lines rest
+unfolding lines onFirst
+lines-line [] rest h = refl
+lines-line (b ∷ x) rest h = go (eqb b 10) h (lines-line x rest)
+  where
+    go : (e : Bool) → T (not e && no-feeds x) → (T (no-feeds x) → lines (x ++ (10 ∷ []) ++ rest) ≡ (x ++ (10 ∷ [])) ∷ lines rest)
+        → cond e ((b ∷ []) ∷ lines (x ++ (10 ∷ []) ++ rest)) (onFirst b (lines (x ++ (10 ∷ []) ++ rest))) ≡ (b ∷ (x ++ (10 ∷ []))) ∷ lines rest
+    go true h f = absurd h
+    go false h f = rw (f h)
+
+-- ---- the lines that are kept are the lines of what they are together
+
+-- a line that ends with its only line feed
+record Fed (l : List ℕ) : Type 0 where
+  before : List ℕ
+  clean : T (no-feeds before)
+  is : l ≡ before ++ (10 ∷ [])
+
+-- lines as a text has them: the last may lack its line feed
+abbrev Lined : List (List ℕ) → Type 0
+Lined [] = Unit {0}
+Lined (l ∷ ls) = (Fed l × Lined ls) ⊎ ((lines l ≡ l ∷ []) × (ls ≡ []))
+
+lined-first : (b : ℕ) → eqb b 10 ≡ false → (ls : List (List ℕ)) → Lined ls → Lined (onFirst b ls)
+unfolding onFirst lines
+lined-first b e [] h = inr (rw e, refl)
+lined-first b e (l ∷ ls) (inl h) =
+    inl (record { before = b ∷ h .0 .before; clean = rw e (h .0 .clean); is = ap (λ (x : List ℕ). b ∷ x) (h .0 .is) }, h .1)
+lined-first b e (l ∷ ls) (inr h) = inr (rw (e, h .0), h .1)
+
+lined : (t : List ℕ) → Lined (lines t)
+unfolding lines
+lined [] = tt
+lined (b ∷ t) = go (eqb b 10) refl (lined t)
+  where
+    go : (e : Bool) → eqb b 10 ≡ e → Lined (lines t) → Lined (cond e ((b ∷ []) ∷ lines t) (onFirst b (lines t)))
+    go true e h = inl (record { before = []; clean = tt; is = rw (eqb-true b 10 e) }, h)
+    go false e h = lined-first b e (lines t) h
+
+lined-kept : (p : List ℕ → Bool) (ls : List (List ℕ)) → Lined ls → Lined (kept p ls)
+unfolding kept
+lined-kept p [] h = tt
+lined-kept p (l ∷ ls) (inl h) = go (p l) (lined-kept p ls (h .1))
+  where
+    go : (b : Bool) → Lined (kept p ls) → Lined (cond b (l ∷ kept p ls) (kept p ls))
+    go true k = inl (h .0, k)
+    go false k = k
+lined-kept p (l ∷ ls) (inr h) = go (p l)
+  where
+    go : (b : Bool) → Lined (cond b (l ∷ kept p ls) (kept p ls))
+    go true = inr (h .0, rw (h .1))
+    go false = rw (h .1) tt
+
+lined-lines : (ls : List (List ℕ)) → Lined ls → lines (joined ls) ≡ ls
+unfolding joined lines
+lined-lines [] h = refl
+lined-lines (l ∷ ls) (inl h) = rw (h .0 .is, lines-line (h .0 .before) (joined ls) (h .0 .clean), lined-lines ls (h .1))
+lined-lines (l ∷ ls) (inr h) = rw (h .1, append-nil) (h .0)
+
+pub lines-kept : (p : List ℕ → Bool) (text : List ℕ) → lines (joined (kept p (lines text))) ≡ kept p (lines text)
+lines-kept p text = lined-lines (kept p (lines text)) (lined-kept p (lines text) (lined text))
