@@ -7,17 +7,16 @@ use mathlib.Core.Option.{Option, none, some}
 use Prim.Native.Nat.{ℕ, _+_, _-_, _≤_, _<_}
 use native.Mathlib.Decide.{ℕ-discrete}
 use native.Mathlib.Omega.{arith}
-use native.Mathlib.Nat.{add-zero}
-use lib.Dec.{T, eqb, ltb}
-use lib.ListN.{length, getD, take, drop, length-drop, length-take}
-use lib.Seq.{drop-drop, drop-length, getD-take, getD-drop}
+use lib.Dec.{T, ltb}
+use lib.ListN.{length, take, drop, length-drop, length-take}
+use lib.Seq.{drop-drop, drop-length}
 use borrow.Author.Tests.{eq-eqb, ne-eqb, ltb-true}
 use denote.Enum.Declared.{tagOf}
 use Rattle.model.specs.Outcome.{Outcome, good, refused, missing, malformed, outOfRange}
 use Rattle.lists.specs.Lists.{at}
 use Rattle.lists.specs.Answers.{done}
 use Rattle.lists.specs.declared.Answer.the-variants.{Done, Refused}
-use Rattle.forms.specs.Line.{lines, lineValue, fits, mostRemarks, isPassed}
+use Rattle.forms.specs.Line.{lines, isRemark, fits, mostRemarks, isPassed, lineValue}
 use Rattle.forms.specs.Form.{fieldOf, admitsOf, allows, secondOf}
 use Rattle.forms.specs.Read.{walkLines, atEnd, atItem, onValue}
 use Rattle.forms.specs.declared.form.Form.{Form}
@@ -26,6 +25,7 @@ use Rattle.forms.specs.declared.form.Field.{Field}
 use Rattle.forms.specs.declared.form.Field.the-variants.{Line, End}
 use Rattle.forms.proofs.Values.{value-real-line}
 use Rattle.readers.specs.Line.{lineLen, firstLine, afterRemark}
+use Rattle.readers.specs.declared.line.Remark.the-variants.{Ends, OutOfOrder}
 use Rattle.readers.specs.Read.{takenOf, nextOf, answerOf, NoNumber, onward, Holds}
 use Rattle.readers.specs.declared.read.Taken.{Taken}
 use Rattle.readers.specs.declared.read.Taken.the-variants.{Number, Stop, Ended}
@@ -68,14 +68,14 @@ line-ends text at h =
     (omega arith, omega arith)
 
 -- a remark that is in order is passed over to where its line ends
-module _ (text : List ℕ) (at c next : ℕ) (is : afterRemark text at c ≡ next) (some : next ≡ 0 → ⊥) where
+module _ (text : List ℕ) (at c next : ℕ) (is : afterRemark text at c ≡ Ends next) where
   passes : (isPassed c (firstLine (drop at text)) ≡ true) × (at + lineLen (drop at text) ≡ next)
   unfolding afterRemark
   passes = go (isPassed c (firstLine (drop at text))) is
     where
-      go : (b : Bool) → cond b (at + lineLen (drop at text)) 0 ≡ next → (b ≡ true) × (at + lineLen (drop at text) ≡ next)
-      go true e = (refl, e)
-      go false e = absurd (some (sym e))
+      go : (b : Bool) → cond b (Ends (at + lineLen (drop at text))) OutOfOrder ≡ Ends next → (b ≡ true) × (at + lineLen (drop at text) ≡ next)
+      go true e = (refl, cc)
+      go false e = let z : _≡_ {A = ℕ} 0 1 = cc in absurd (omega arith)
 
   pub past-facts : at < length text → (at < next) × ((next ≤ length text) × (c < mostRemarks))
   past-facts h =
@@ -97,41 +97,37 @@ walk-none form n c done′ text at e = rw (e, drop-length text)
 lines-at : (text : List ℕ) (at : ℕ) → at < length text → lines (drop at text) ≡ firstLine (drop at text) ∷ lines (drop (at + lineLen (drop at text)) text)
 lines-at text at h = rw (← drop-drop (lineLen (drop at text)) at text) (lines-some (drop at text) (simp length-drop (omega arith)))
 
-first-at : (text : List ℕ) (at : ℕ) → at < length text → getD (firstLine (drop at text)) 0 0 ≡ getD text at 0
-first-at text at h =
-    getD-take (lineLen (drop at text)) (drop at text) 0 0 (line-some (drop at text) (simp length-drop (omega arith))) ∙ rw (getD-drop, add-zero)
-
 module _ (form : Form) (n c : ℕ) (done′ text : List ℕ) (at : ℕ) (h : at < length text) where
-  walk-first : (b : Bool) → eqb (getD text at 0) 35 ≡ b
+  walk-first : (b : Bool) → isRemark (firstLine (drop at text)) ≡ b
       → walkLines form n c done′ (lines (drop at text))
       ≡ cond b (cond (isPassed c (firstLine (drop at text))) (walkLines form (n + 1) (c + 1) done′ (lines (drop (at + lineLen (drop at text)) text))) (refused malformed n (secondOf form)))
       (atItem form n done′ (λ k r. lineValue k r (firstLine (drop at text))) (λ more. walkLines form (n + 1) c more (lines (drop (at + lineLen (drop at text)) text))))
   unfolding walkLines
-  walk-first b e = rw (lines-at text at h, first-at text at h, e)
+  walk-first b e = rw (lines-at text at h, e)
 
   -- a remark that is not in order, and one that is
-  module _ (hash : eqb (getD text at 0) 35 ≡ true) where
+  module _ (remark : isRemark (firstLine (drop at text)) ≡ true) where
     abbrev after : ℕ
     after = at + lineLen (drop at text)
 
-    pub walk-disorder : afterRemark text at c ≡ 0 → walkLines form n c done′ (lines (drop at text)) ≡ refused malformed n (secondOf form)
+    pub walk-disorder : afterRemark text at c ≡ OutOfOrder → walkLines form n c done′ (lines (drop at text)) ≡ refused malformed n (secondOf form)
     unfolding afterRemark
-    walk-disorder e = walk-first true hash ∙ go (isPassed c (firstLine (drop at text))) e
+    walk-disorder e = walk-first true remark ∙ go (isPassed c (firstLine (drop at text))) e
       where
-        go : (b : Bool) → cond b after 0 ≡ 0 → cond b (walkLines form (n + 1) (c + 1) done′ (lines (drop after text))) (refused malformed n (secondOf form)) ≡ refused malformed n (secondOf form)
-        go true e = absurd (omega (arith, line-ends text at h .0))
+        go : (b : Bool) → cond b (Ends after) OutOfOrder ≡ OutOfOrder
+            → cond b (walkLines form (n + 1) (c + 1) done′ (lines (drop after text))) (refused malformed n (secondOf form)) ≡ refused malformed n (secondOf form)
+        go true e = let z : _≡_ {A = ℕ} 0 1 = cc in absurd (omega arith)
         go false e = refl
 
-    pub walk-past : (next : ℕ) → afterRemark text at c ≡ next → (next ≡ 0 → ⊥)
-        → walkLines form n c done′ (lines (drop at text)) ≡ walkLines form (n + 1) (c + 1) done′ (lines (drop next text))
-    walk-past next is other = let p = passes text at c next is other in walk-first true hash ∙ rw (p .0, p .1)
+    pub walk-past : (next : ℕ) → afterRemark text at c ≡ Ends next → walkLines form n c done′ (lines (drop at text)) ≡ walkLines form (n + 1) (c + 1) done′ (lines (drop next text))
+    walk-past next is = let p = passes text at c next is in walk-first true remark ∙ rw (p .0, p .1)
 
 -- after a remark that is passed over the reading goes on
-pub onward-past : (form : Form) (text vals : List ℕ) (i at remarks next : ℕ) → at < length text → eqb (getD text at 0) 35 ≡ true → afterRemark text at remarks ≡ next → (next ≡ 0 → ⊥)
+pub onward-past : (form : Form) (text vals : List ℕ) (i at remarks next : ℕ) → at < length text → isRemark (firstLine (drop at text)) ≡ true → afterRemark text at remarks ≡ Ends next
     → onward form text vals i at remarks ≡ onward form text vals i next (remarks + 1)
-onward-past form text vals i at remarks next h hash is other =
+onward-past form text vals i at remarks next h remark is =
     let n : i + remarks + 1 + 1 ≡ i + (remarks + 1) + 1 = omega arith in
-    rw (← n) (walk-past form (i + remarks + 1) remarks (take i vals) text at h hash next is other)
+    rw (← n) (walk-past form (i + remarks + 1) remarks (take i vals) text at h remark next is)
 
 -- ---- the walk, by what the next line gives
 
@@ -154,7 +150,7 @@ module _ (form : Form) (n c : ℕ) (done′ text : List ℕ) where
   by-value next r (some v) = by-range next v (admitsOf r v)
 
   -- a real line, or the text's end
-  module _ (at : ℕ) (h : at ≤ length text) (real : eqb (getD text at 0) 35 ≡ false) where
+  module _ (at : ℕ) (h : at ≤ length text) (real : isRemark (firstLine (drop at text)) ≡ false) where
     walk-next : (d : Field) → fieldOf form done′ ≡ d → goOn (nextOf d text at) (walkLines form n c done′ (lines (drop at text)))
     unfolding takenOf
     walk-next d f = go (ℕ-discrete at (length text)) d f
@@ -178,7 +174,7 @@ pub record Given (d : Field) (text : List ℕ) (at v next : ℕ) : Type 0 where
   pub within : next ≤ length text
   pub allowed : T (allows d v)
   -- the line is no remark
-  pub real : eqb (getD text at 0) 35 ≡ false
+  pub real : isRemark (firstLine (drop at text)) ≡ false
 
 abbrev Facts : Field → List ℕ → ℕ → Taken → Type 0
 Facts d text at (Number v next) = Given d text at v next
@@ -193,7 +189,7 @@ line-facts k r text at h (some v) x = go (admitsOf r v) refl
     go : (b : Bool) → admitsOf r v ≡ b → Facts (Line k r) text at (cond b (Number v (at + lineLen (drop at text))) (Stop 2))
     go true a =
         let p = line-ends text at h in
-        record { later = p .0; within = p .1; allowed = rw a tt; real = ap (λ (b : ℕ). eqb b 35) (sym (first-at text at h)) ∙ value-real-line k r (firstLine (drop at text)) v x }
+        record { later = p .0; within = p .1; allowed = rw a tt; real = value-real-line k r (firstLine (drop at text)) v x }
     go false a = tt
 
 facts : (d : Field) (text : List ℕ) (at : ℕ) → at ≤ length text → Facts d text at (nextOf d text at)
@@ -238,7 +234,7 @@ answered form n c text vals i size (Number v next) k o g = absurd k
 answered form n c text vals i size (Stop m) k o g = (sym g, holds-refused o m n (secondOf form) vals g)
 answered form n c text vals i size Ended k o g = (sym (ap done g ∙ ap Done size), rw g (ap (λ (m : ℕ). take m vals) size))
 
-pub walk-answer : (form : Form) (n c : ℕ) (text vals : List ℕ) (at i : ℕ) → length (take i vals) ≡ i → at ≤ length text → eqb (getD text at 0) 35 ≡ false
+pub walk-answer : (form : Form) (n c : ℕ) (text vals : List ℕ) (at i : ℕ) → length (take i vals) ≡ i → at ≤ length text → isRemark (firstLine (drop at text)) ≡ false
     → (t : Taken) → nextOf (fieldOf form (take i vals)) text at ≡ t → NoNumber t
     → (answerOf t i n (secondOf form) ≡ done (walkLines form n c (take i vals) (lines (drop at text)))) × Holds (walkLines form n c (take i vals) (lines (drop at text))) vals
 walk-answer form n c text vals at i size h real t e k =

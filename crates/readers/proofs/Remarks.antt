@@ -1,28 +1,39 @@
 -- Laws of the remark at a place of a text: where the line after it begins, by the byte that is looked at.
-use mathlib.Core.Path.{_≡_, refl, ap, _∙_}
+use mathlib.Core.Path.{_≡_, refl, sym, ap, _∙_}
 use mathlib.Core.Bool.{Bool, true, false, _&&_}
 use mathlib.Core.List.{List, [], _∷_}
 use Prim.Native.Nat.{ℕ, _+_, _≤_, _<_}
 use native.Mathlib.Decide.{decLt}
 use native.Mathlib.Omega.{arith}
-use native.Mathlib.Nat.{add-assoc}
-use lib.Dec.{leb}
-use lib.ListN.{length, getD, drop, length-drop, length-append, List·getD-eq-default}
-use lib.Seq.{length-take-le}
+use native.Mathlib.Nat.{add-zero, add-assoc}
+use lib.Dec.{T, leb, eqb→eq}
+use lib.ListN.{length, getD, drop, length-drop, length-append, drop-of-length-le}
+use lib.Seq.{length-take-le, getD-take, getD-drop}
 use borrow.Author.Tests.{lt-ltb, le-ltb, le-leb, lt-leb}
-use Rattle.forms.specs.Line.{beforeFeed, fits, mostRemarks, mostInRemark}
+use Rattle.forms.specs.Line.{beforeFeed, isRemark, fits, mostRemarks, mostInRemark}
 use Rattle.forms.proofs.Remarks.{unfit}
 use Rattle.readers.specs.Line.{lineLen, firstLine, bytesBefore, unfed, afterRemark}
-use Rattle.readers.proofs.Lines.{line-within}
+use Rattle.readers.specs.declared.line.Remark.the-variants.{Ends, OutOfOrder}
+use Rattle.readers.proofs.Lines.{line-some, line-within}
 use Rattle.readers.proofs.Digits.{feed-none, feed-here, feed-later, feed-first, by-part, part-closed}
 
--- a `#` stands within the text
-pub hash-within : (text : List ℕ) (at : ℕ) → getD text at 0 ≡ 35 → at < length text
-hash-within text at e = go (decLt at (length text))
+-- ---- the byte that a line begins with
+
+pub first-at : (text : List ℕ) (at : ℕ) → at < length text → getD (firstLine (drop at text)) 0 0 ≡ getD text at 0
+first-at text at h =
+    getD-take (lineLen (drop at text)) (drop at text) 0 0 (line-some (drop at text) (simp length-drop (omega arith))) ∙ rw (getD-drop, add-zero)
+
+-- no remark begins where the text ends
+pub none-remark : (text : List ℕ) (at : ℕ) → length text ≤ at → isRemark (firstLine (drop at text)) ≡ false
+unfolding lineLen
+none-remark text at h = rw (drop-of-length-le text h)
+
+pub remark-within : (text : List ℕ) (at : ℕ) → T (isRemark (firstLine (drop at text))) → at < length text
+remark-within text at t = go (decLt at (length text))
   where
     go : Dec (at < length text) → at < length text
     go (yes h) = h
-    go (no h) = let z : getD text at 0 ≡ 0 = List·getD-eq-default text 0 (omega arith) in absurd (omega arith)
+    go (no h) = absurd (rw (none-remark text at (omega arith)) at t)
 
 -- the n bytes from `at` on stand in the text, and none of them is a line feed
 pub record Unfed (text : List ℕ) (at n : ℕ) : Type 0 where
@@ -33,8 +44,11 @@ module _ (text : List ℕ) (at : ℕ) where
   pub unfed-more : (n : ℕ) → Unfed text at n → at + n < length text → (getD text (at + n) 0 ≡ 10 → ⊥) → Unfed text at (n + 1)
   unfed-more n u h o = record { within = omega arith; before = rw (← add-assoc at n 1) (omega (arith, u .before, feed-later text (at + n) h o)) }
 
-  pub unfed-start : at < length text → getD text at 0 ≡ 35 → Unfed text at 1
-  unfed-start h e = record { within = omega arith; before = omega (arith, feed-later text at h (λ z. omega arith)) }
+  pub unfed-start : T (isRemark (firstLine (drop at text))) → Unfed text at 1
+  unfed-start t =
+      let h = remark-within text at t in
+      let e : getD text at 0 ≡ 35 = sym (first-at text at h) ∙ eqb→eq _ 35 t in
+      record { within = omega arith; before = omega (arith, feed-later text at h (λ z. omega arith)) }
 
 -- ---- a remark by what stands before its line feed
 
@@ -54,26 +68,27 @@ line-closed t h =
     omega (arith, e, length-take-le (lineLen t) t (line-within t), length-take-le (bytesBefore t) t (omega arith))
 
 module _ (text : List ℕ) (at before : ℕ) where
-  pub remark-many : mostRemarks ≤ before → afterRemark text at before ≡ 0
+  pub remark-many : mostRemarks ≤ before → afterRemark text at before ≡ OutOfOrder
   unfolding afterRemark
   remark-many h = rw (le-ltb before mostRemarks h)
 
-  pub remark-bad : fits (firstLine (drop at text)) ≡ false → afterRemark text at before ≡ 0
+  pub remark-bad : fits (firstLine (drop at text)) ≡ false → afterRemark text at before ≡ OutOfOrder
   unfolding afterRemark
   remark-bad e = rw (unfit before (firstLine (drop at text)) e)
 
   module _ (n : ℕ) (u : Unfed text at n) where
-    pub remark-cut : at + n ≡ length text → afterRemark text at before ≡ 0
+    pub remark-cut : at + n ≡ length text → afterRemark text at before ≡ OutOfOrder
     remark-cut e = remark-bad (fits-by (drop at text) (λ h. absurd (omega (arith, u .before, feed-none text (at + n) (omega arith), length-drop at text))))
 
-    pub remark-long : mostInRemark < n → afterRemark text at before ≡ 0
+    pub remark-long : mostInRemark < n → afterRemark text at before ≡ OutOfOrder
     remark-long h = remark-bad (fits-by (drop at text) (λ k. omega (arith, u .before)))
 
-    pub remark-fits : at + n < length text → getD text (at + n) 0 ≡ 10 → 1 ≤ n → n ≤ mostInRemark → before < mostRemarks → afterRemark text at before ≡ at + n + 1
+    pub remark-fits : at + n < length text → getD text (at + n) 0 ≡ 10 → 1 ≤ n → n ≤ mostInRemark → before < mostRemarks → afterRemark text at before ≡ Ends (at + n + 1)
     unfolding afterRemark fits
     remark-fits h e some few b =
         let t = drop at text in
         let size : bytesBefore t ≡ n = omega (arith, u .before, feed-here text (at + n) h e) in
         let k : bytesBefore t < length t = simp length-drop (omega arith) in
         let m : length (beforeFeed (firstLine t)) ≡ n = ap length (part-closed t k) ∙ length-take-le (bytesBefore t) t (omega arith) ∙ size in
-        rw (lt-ltb before mostRemarks b, m, le-leb 1 n some, le-leb n mostInRemark few) (omega (arith, line-closed t k))
+        let end : at + lineLen t ≡ at + n + 1 = omega (arith, line-closed t k) in
+        rw (lt-ltb before mostRemarks b, m, le-leb 1 n some, le-leb n mostInRemark few, end)

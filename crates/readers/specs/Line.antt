@@ -10,6 +10,8 @@ use lib.ListN.{length, getD, take, drop, replicate}
 use Rattle.forms.specs.Line.{beforeFeed, fits, isPassed, digitOf, numberFrom, decimalOf, hexOf}
 use Rattle.readers.specs.declared.line.Value.{Value}
 use Rattle.readers.specs.declared.line.Value.the-variants.{Is, Malformed}
+use Rattle.readers.specs.declared.line.Remark.{Remark}
+use Rattle.readers.specs.declared.line.Remark.the-variants.{Ends, OutOfOrder}
 
 -- how many bytes the first line has, with its line feed, and the line
 unfoldable pub lineLen : List ℕ → ℕ
@@ -73,7 +75,7 @@ ParsedAs (some n) part d v = (d ≡ part) × (v ≡ n)
 abbrev pub Parsed : Bool → List ℕ → List ℕ → ℕ → Type 0
 Parsed hex part d v = ParsedAs (numberOf hex part) part d v
 
--- where the line after the remark at `at` begins, after so many others; 0 where it is not in order
-unfoldable pub afterRemark : List ℕ → ℕ → ℕ → ℕ
+-- where the line after the remark at `at` begins, after so many others
+unfoldable pub afterRemark : List ℕ → ℕ → ℕ → Remark
 unfolding lineLen fits
-afterRemark text at before = cond (isPassed before (firstLine (drop at text))) (at + lineLen (drop at text)) 0
+afterRemark text at before = cond (isPassed before (firstLine (drop at text))) (Ends (at + lineLen (drop at text))) OutOfOrder

@@ -1,9 +1,9 @@
 // The line reader: the part of a line that is its value, and the number that the part is, in one pass over the digits.
 ghost use mathlib.Core.Path.{_≡_};
-ghost use Prim.Native.Nat.{_+_, _≤_, _<_};
-ghost use lib.Dec.{T, eqb};
-ghost use lib.ListN.{length, drop, getD};
-ghost use Rattle.forms.specs.Line.{valuePart, digitOf, decimalOf, hexOf};
+ghost use Prim.Native.Nat.{_+_, _≤_};
+ghost use lib.Dec.{T};
+ghost use lib.ListN.{length, drop};
+ghost use Rattle.forms.specs.Line.{isRemark, valuePart, digitOf, decimalOf, hexOf};
 ghost use Rattle.forms.proofs.Keys.{no-feeds};
 ghost use Rattle.readers.specs.Line.{prefixed, digitTable, firstLine, valueAt, numberOf, valueOf, Leading, Parsed, afterRemark};
 use std::num;
@@ -170,7 +170,7 @@ pub(crate) fn digits<'a>(
 
 // Whether the line at `at` is a remark.
 pub(crate) fn is_remark(text: &[u8], at: usize) -> bool
-    ensures { λ r. ⌜ r ≡ eqb (getD (now (text .entry)) at 0) 35 ⌝ }
+    ensures { λ r. ⌜ r ≡ isRemark (firstLine (drop at (now (text .entry)))) ⌝ }
 {
     if at < text.len() {
         text[at] == b'#'
@@ -179,26 +179,32 @@ pub(crate) fn is_remark(text: &[u8], at: usize) -> bool
     }
 }
 
-// Where the line after the remark at `at` begins; 0 where the remark is not in order: too many were passed over before, it is
-// too long, or the text stops inside it.
-pub(crate) fn after_remark(text: &[u8], at: usize, before: usize) -> usize
-    requires { ⌜ at < length (now text) ⌝ }
-    requires { ⌜ getD (now text) at 0 ≡ 35 ⌝ }
+// What a remark comes to: the place where the line after it begins.
+pub(crate) enum Remark {
+    Ends(usize),
+    OutOfOrder,
+}
+
+// The remark at `at`, after `before` others. It is out of order where these are too many, it is too long, or the text stops
+// inside it.
+pub(crate) fn after_remark(text: &[u8], at: usize, before: usize) -> Remark
+    requires { ⌜ T (isRemark (firstLine (drop at (now text)))) ⌝ }
     ensures { λ r. ⌜ r ≡ afterRemark (now (text .entry)) at before ⌝ }
 {
     if REMARKS <= before {
-        return 0;
+        return Remark::OutOfOrder;
     }
     let mut n: usize = 1;
     while n <= IN_REMARK {
         let to = at + n;
         if to == text.len() {
-            return 0;
+            return Remark::OutOfOrder;
         }
         if text[to] == b'\n' {
-            return to + 1;
+            let next = to + 1;
+            return Remark::Ends(next);
         }
         n += 1;
     }
-    0
+    Remark::OutOfOrder
 }

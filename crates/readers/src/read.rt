@@ -11,6 +11,7 @@ ghost use Rattle.forms.specs.Read.{readLines};
 ghost use Rattle.readers.specs.Read.{takenOf, nextOf, answerOf, Begun, ReadOn, Holds};
 ghost use Rattle.forms.specs.Named.{readNetwork, readPlan};
 use crate::line;
+use crate::line::Remark;
 use forms::form;
 use forms::form::Field;
 use forms::form::Form;
@@ -149,10 +150,9 @@ fn read(form: Form, keys: &[u8], text: &[u8], vals: &mut [u64]) -> Answer
         let taken = stopped.taken;
         let line = (count + remarks + 1) as u64;
         if line::is_remark(text, at) {
-            let past = line::after_remark(text, at, remarks);
-            if past == 0 {
+            let Remark::Ends(past) = line::after_remark(text, at, remarks) else {
                 return refusal(1, line, form);
-            }
+            };
             remarks += 1;
             at = past;
         } else {

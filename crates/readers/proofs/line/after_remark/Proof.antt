@@ -21,7 +21,7 @@ returns : tie.Need-returns Inv-loop μ-loop
 returns c = sym (remark-many _ _ _ (c .if1 .taken))
 
 loop-holds : tie.Need-loop-holds Inv-loop μ-loop
-loop-holds c = record { unfed = unfed-start _ _ (c .before .pre .0) (c .before .pre .1); some = omega arith; few = omega arith }
+loop-holds c = record { unfed = unfed-start _ _ (c .before .pre); some = omega arith; few = omega arith }
 
 add-to : tie.Need-add-to Inv-loop μ-loop
 add-to c = omega (arith, c .before .loop .inv .unfed .within)
@@ -32,8 +32,8 @@ returns-2 c = sym (remark-cut _ _ _ _ (c .before .before .loop .inv .unfed) (c .
 shared-slice-read-if3 : tie.Need-shared-slice-read-if3 Inv-loop μ-loop
 shared-slice-read-if3 c = within (c .before)
 
-add-result : tie.Need-add-result Inv-loop μ-loop
-add-result c = omega (arith, within (c .before .before))
+add-next : tie.Need-add-next Inv-loop μ-loop
+add-next c = omega (arith, within (c .before .before))
 
 returns-3 : tie.Need-returns-3 Inv-loop μ-loop
 returns-3 c =
@@ -71,7 +71,7 @@ after-remark-spec =
     add-to
     returns-2
     shared-slice-read-if3
-    add-result
+    add-next
     returns-3
     add-n
     loop-less

@@ -4,18 +4,18 @@ use mathlib.Core.Path.{_≡_, refl, sym, ap, _∙_}
 use mathlib.Core.Bool.{true, false}
 use mathlib.Core.List.{List}
 use native.Mathlib.Omega.{arith}
-use lib.Dec.{eqb}
-use lib.ListN.{length, getD}
+use lib.ListN.{length, drop}
 use lib.Seq.{length-take-le}
 use Rattle.lists.specs.Answers.{done}
-use Rattle.forms.specs.Line.{mostRemarks}
+use Rattle.forms.specs.Line.{isRemark, mostRemarks}
 use Rattle.forms.specs.Read.{readLines}
 use Rattle.forms.proofs.Forms.{sound-none, most-numbers}
+use Rattle.readers.specs.Line.{firstLine, afterRemark}
+use Rattle.readers.specs.declared.line.Remark.the-variants.{Ends}
 use Rattle.readers.specs.Read.{Begun, onward, ReadOn}
 use Rattle.readers.specs.declared.read.Stopped.{Stopped}
 use Rattle.readers.proofs.Reading.{walk-disorder, onward-past, past-facts, walk-answer, holds-refused}
-use Rattle.readers.proofs.Remarks.{hash-within}
-use borrow.Author.Tests.{eqb-true}
+use Rattle.readers.proofs.Remarks.{remark-within}
 use borrow.Author.Needs.{needs}
 use Rattle.readers.proofs.read.read.Statement.{statement}
 use Rattle.readers.proofs.read.read.Tie as tie
@@ -63,25 +63,25 @@ module _ (c : tie.Then1 Inv-loop μ-loop) where
   abbrev on : tie.After-slice-known2 Inv-loop μ-loop
   on = c .before .before
 
-  hash : eqb (getD (text on) (stop on .at) 0) 35 ≡ true
-  hash = sym (c .before .is-remark .ensures) ∙ c .if1 .taken
-
-  is-hash : getD (text on) (stop on .at) 0 ≡ 35
-  is-hash = eqb-true _ 35 hash
+  remark : isRemark (firstLine (drop (stop on .at) (text on))) ≡ true
+  remark = sym (c .before .is-remark .ensures) ∙ c .if1 .taken
 
   below : stop on .at < length (text on)
-  below = hash-within (text on) _ is-hash
+  below = remark-within (text on) _ (rw remark tt)
 
 -- and is passed over
-module _ (c : tie.Else2 Inv-loop μ-loop) where
-  abbrev remark : tie.Then1 Inv-loop μ-loop
-  remark = c .before .before
+module _ (c : tie.After-past Inv-loop μ-loop) where
+  abbrev from : tie.Then1 Inv-loop μ-loop
+  from = c .before .before .before
 
   abbrev past : ℕ
-  past = c .before .after-remark .result
+  past = c .past .given .0 .0
 
-  passed-over : (stop (on remark) .at < past) × ((past ≤ length (text (on remark))) × (head (on remark) .loop .remarks < mostRemarks))
-  passed-over = past-facts _ _ _ past (sym (c .before .after-remark .ensures)) (c .if2 .left) (below remark)
+  ends : afterRemark (text (on from)) (stop (on from) .at) (head (on from) .loop .remarks) ≡ Ends past
+  ends = sym (c .before .before .after-remark .ensures) ∙ c .past .given .1
+
+  passed-over : (stop (on from) .at < past) × ((past ≤ length (text (on from))) × (head (on from) .loop .remarks < mostRemarks))
+  passed-over = past-facts _ _ _ past ends (below from)
 
 loop-holds : tie.Need-loop-holds Inv-loop μ-loop
 unfolding readLines
@@ -100,35 +100,42 @@ is-remark-requires : tie.Need-is-remark-requires Inv-loop μ-loop
 is-remark-requires c κs = search needs
 
 after-remark-requires : tie.Need-after-remark-requires Inv-loop μ-loop
-after-remark-requires c κs = (below c, is-hash c)
+after-remark-requires c κs = rw (remark c) tt
+
+enum-known-past : tie.Need-enum-known-past Inv-loop μ-loop
+enum-known-past c = search needs
+
+enum-told : tie.Need-enum-told Inv-loop μ-loop
+enum-told c = search needs
 
 refusal-requires : tie.Need-refusal-requires Inv-loop μ-loop
 refusal-requires c κs = search needs
 
 same-length : tie.Need-same-length Inv-loop μ-loop
-same-length c = length-kept (on (c .before .before .before))
+same-length c = length-kept (on (c .before .before .before .before))
 
 returns : tie.Need-returns Inv-loop μ-loop
 returns c =
-    let a = c .before .before in
+    let a = c .before .before .before in
     let r = a .before in
-    let d = ap done (rest (on r) ∙ walk-disorder _ _ _ _ _ _ (below r) (hash r) (sym (a .after-remark .ensures) ∙ c .before .if2 .taken)) in
+    let d = ap done (rest (on r) ∙ walk-disorder _ _ _ _ _ _ (below r) (remark r) (sym (a .after-remark .ensures) ∙ c .before .enum-told .given .1)) in
     (c .refusal .ensures ∙ sym d, holds-refused (readLines (begin (on r) .args .form) (text (on r))) _ _ _ _ d)
 
 add-remarks : tie.Need-add-remarks Inv-loop μ-loop
-add-remarks c = omega (arith, passed-over c .1 .1)
+add-remarks c = omega (arith, passed-over (c .before) .1 .1)
 
 loop-less : tie.Need-loop-less Inv-loop μ-loop
-loop-less c = omega (arith, passed-over c .0, passed-over c .1 .0, read-on (on (remark c)) .later)
+loop-less c = let t = c .before in omega (arith, passed-over t .0, passed-over t .1 .0, read-on (on (from t)) .later)
 
 loop-again : tie.Need-loop-again Inv-loop μ-loop
 loop-again c =
-    let o = on (remark c) in
+    let t = c .before in
+    let o = on (from t) in
     record {
       length-kept = length-kept o;
-      begun = record { within = passed-over c .1 .0; few = read-on o .begun .few; sound = read-on o .begun .sound };
-      passed = omega (arith, passed-over c .1 .1);
-      rest = rest o ∙ onward-past _ _ _ _ _ _ _ (below (remark c)) (hash (remark c)) (sym (c .before .after-remark .ensures)) (c .if2 .left);
+      begun = record { within = passed-over t .1 .0; few = read-on o .begun .few; sound = read-on o .begun .sound };
+      passed = omega (arith, passed-over t .1 .1);
+      rest = rest o ∙ onward-past _ _ _ _ _ _ _ (below (from t)) (remark (from t)) (ends t);
     }
 
 answer-requires : tie.Need-answer-requires Inv-loop μ-loop
@@ -142,7 +149,7 @@ returns-2 c =
     let r = c .before .before in
     let o = r .before in
     let size = length-take-le (stop o .count) (vals o) (omega (arith, read-on o .begun .few, length-kept o, begin o .pre .1)) in
-    let real : eqb (getD (text o) (stop o .at) 0) 35 ≡ false = sym (r .is-remark .ensures) ∙ c .before .if1 .left in
+    let real : isRemark (firstLine (drop (stop o .at) (text o))) ≡ false = sym (r .is-remark .ensures) ∙ c .before .if1 .left in
     let p = walk-answer (begin o .args .form) (stop o .count + head o .loop .remarks + 1) (head o .loop .remarks) (text o) (vals o) (stop o .at) (stop o .count)
     size (read-on o .begun .within) real (stop o .taken) (read-on o .gives) (read-on o .stops) in
     (c .answer .ensures ∙ p .0 ∙ sym (ap done (rest o)), rw (rest o) (p .1))
@@ -159,6 +166,8 @@ read-spec =
     add-line-2
     is-remark-requires
     after-remark-requires
+    enum-known-past
+    enum-told
     refusal-requires
     same-length
     returns
