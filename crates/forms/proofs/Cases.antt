@@ -9,7 +9,7 @@ use Rattle.model.specs.Search.{onlyIf, orElse, first}
 use Rattle.model.specs.Rule as rule
 use Rattle.lists.specs.Lists.{networkOf}
 use Rattle.forms.specs.Bytes.{bytes}
-use Rattle.forms.specs.Line.{lines, onFirst, joined, fits, kept, plain, valuePart, beforeFeed, digitOf, numberFrom, decimalOf, hexOf}
+use Rattle.forms.specs.Line.{lines, onFirst, concat, fits, filter, plain, valuePart, beforeFeed, digitOf, numberFrom, decimalOf, hexOf}
 use Rattle.forms.specs.Form.{fieldOf, networkBody}
 use Rattle.forms.specs.Read.{walkLines, readLines, addUp}
 use Rattle.forms.specs.Write.{render, renderFrom, digitsIn, widthOf, widthFrom}
@@ -88,7 +88,7 @@ remark : ℕ → List ℕ
 remark n = 35 ∷ (replicate (n - 1) 46 ++ (10 ∷ []))
 
 many : ℕ → List ℕ
-many n = joined (replicate n (remark 1))
+many n = concat (replicate n (remark 1))
 
 -- texts, each with what it is read as, as a plan
 abbrev got : List (List ℕ × Outcome (List ℕ)) → List (Outcome (List ℕ))
@@ -112,7 +112,7 @@ in-order : Read (
     ∷ (short ++ remark 79, numbers)
     ∷ (many 16 ++ (short ++ many 16), numbers)
     ∷ [])
-unfolding short remark many readLines walkLines lines onFirst joined fits valuePart beforeFeed digitOf numberFrom decimalOf hexOf fieldOf addUp
+unfolding short remark many readLines walkLines lines onFirst concat fits valuePart beforeFeed digitOf numberFrom decimalOf hexOf fieldOf addUp
 in-order = refl
 
 -- one of 81 bytes, a 33rd and one that the text's end cuts meet 1 at their own line
@@ -123,7 +123,7 @@ out-of-order : Read (
     ∷ (many 16 ++ (short ++ many 17), refused malformed 37 1)
     ∷ (short ++ bytes "# why", refused malformed 5 1)
     ∷ [])
-unfolding short remark many readLines walkLines lines onFirst joined fits valuePart beforeFeed digitOf numberFrom decimalOf hexOf fieldOf
+unfolding short remark many readLines walkLines lines onFirst concat fits valuePart beforeFeed digitOf numberFrom decimalOf hexOf fieldOf
 out-of-order = refl
 
 -- the first line that is not in order is named, remark or not, by its number in the text
@@ -135,9 +135,9 @@ first-named : Read (
     ∷ (short ++ bytes "# why\nat=1\n", refused missing 6 1)
     ∷ (short ++ bytes " # why\n", refused missing 5 1)
     ∷ [])
-unfolding short remark many readLines walkLines lines onFirst joined fits valuePart beforeFeed digitOf numberFrom decimalOf hexOf fieldOf
+unfolding short remark many readLines walkLines lines onFirst concat fits valuePart beforeFeed digitOf numberFrom decimalOf hexOf fieldOf
 first-named = refl
 
 without : plain (bytes "# why\nplan=1\n#\nparts=1\nsteps=1\n# so\ntunnels=0\n# cut") ≡ short
-unfolding short lines onFirst kept joined
+unfolding short lines onFirst filter concat
 without = refl

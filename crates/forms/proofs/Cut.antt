@@ -2,14 +2,14 @@
 -- lies beyond, both have stopped before, or stop there alike.
 use mathlib.Core.Path.{_≡_, refl, sym, ap, _∙_}
 use mathlib.Core.Bool.{Bool, true, false, cond, _&&_}
-use mathlib.Core.List.{List, [], _∷_, _++_, append-nil, append-assoc}
+use mathlib.Core.List.{List, [], _∷_, _++_}
 use mathlib.Core.Option.{Option, none, some}
 use Prim.Native.Nat.{ℕ, zero, suc, _+_, _-_, _*_, _≤_, _<_}
 use native.Mathlib.Omega.{arith}
 use lib.Dec.{T, eqb, leb, ltb, ltb→lt}
 use borrow.Author.Tests.{le-leb, lt-leb}
 use native.Mathlib.Decide.{decLt}
-use lib.Seq.{append-snoc, getD-take, length-take-le}
+use lib.Seq.{getD-take, length-take-le}
 use lib.ListN.{length, take, length-append}
 use Rattle.model.specs.Outcome.{Outcome, refused, missing, malformed, outOfRange}
 use Rattle.forms.specs.Line.{lines, onFirst, isRemark, fits, mostInRemark, mostRemarks, lineValue, isPassed}
@@ -22,7 +22,7 @@ use Rattle.forms.specs.declared.form.Range.{Range}
 use Rattle.forms.specs.declared.form.Field.{Field}
 use Rattle.forms.specs.declared.form.Field.the-variants.{Line, End}
 use Rattle.forms.proofs.Forms.{sound-none, sound-more}
-use Rattle.forms.proofs.Rendering.{line-short, render-plain}
+use Rattle.forms.proofs.Rendering.{render-more, line-short, render-plain}
 use Rattle.forms.proofs.Values.{line-of-value}
 use Rattle.forms.proofs.Remarks.{item-seen, unfit, fits-short}
 use Rattle.forms.proofs.Walks.{allows-line}
@@ -74,7 +74,7 @@ lines-take (suc c) (b ∷ t) = go (eqb b 10) (lines-take c t)
     go true h = rw (cut-after (b ∷ []) (lines t) (suc c) (omega arith) c (omega arith), h)
     go false h = rw h (cut-first b c (lines t))
 
--- ---- a line that is too long for a value and for a remark, or is cut to be one, stops the reading
+-- ---- a line that is too long for a value and for a remark stops the reading, and so does what a cut leaves of it
 
 long-value : (k : ℕ) (r : Range) (l : List ℕ) → 27 < length l → lineValue k r l ≡ none
 long-value k r l h = go (lineValue k r l) refl
@@ -114,12 +114,6 @@ walk-long form n c done l ls h =
     (item-none form n done (λ k r. lineValue k r l) (λ more. walkLines form (n + 1) c more ls) (λ k r. long-value k r l (omega arith))))
 
 -- ---- the walk over the lines of the first bytes
-
-render-more : (form : Form) (d l : List ℕ) (v : ℕ) → renderFrom form d (l ++ (v ∷ [])) ≡ renderFrom form d l ++ lineOf (fieldOf form (d ++ l)) v
-unfolding renderFrom
-render-more form d [] v = rw (append-nil, append-nil)
-render-more form d (x ∷ l) v =
-    rw (render-more form (d ++ (x ∷ [])) l v, append-snoc d x l) (sym (append-assoc (lineOf (fieldOf form d) x) (renderFrom form (d ++ (x ∷ [])) l) _))
 
 -- one turn over the same line, where the rest comes to the same
 same-turn : (form : Form) (n c : ℕ) (done l : List ℕ) (xs ls : List (List ℕ))

@@ -10,7 +10,7 @@ use lib.ListN.{length, length-append}
 use borrow.Author.Tests.{lt-ltb, le-ltb}
 use Rattle.model.specs.Outcome.{Outcome, good, refused, Cause, malformed, outOfRange, missing}
 use Rattle.model.proofs.Searches.{both}
-use Rattle.forms.specs.Line.{lines, joined, beforeFeed, isRemark, isReal, fits, mostInRemark, mostRemarks, kept, remarks, realLines, plain, lineValue, isPassed}
+use Rattle.forms.specs.Line.{lines, concat, beforeFeed, isRemark, isReal, fits, mostInRemark, mostRemarks, filter, remarks, realLines, plain, lineValue, isPassed}
 use Rattle.forms.specs.Form.{fieldOf, admitsOf, secondOf}
 use Rattle.forms.specs.Read.{walk, walkLines, readLines, onField, onValue, atEnd, atItem}
 use Rattle.forms.specs.Laws.{allFit, InOrder, numberIn, moved, firstBad, orEarlier, Remarked}
@@ -19,48 +19,48 @@ use Rattle.forms.specs.declared.form.Range.{Range}
 use Rattle.forms.specs.declared.form.Field.{Field}
 use Rattle.forms.specs.declared.form.Field.the-variants.{Line, End}
 use Rattle.forms.proofs.Lines.{last-feed}
-use Rattle.forms.proofs.Texts.{lines-joined, lines-kept}
+use Rattle.forms.proofs.Texts.{lines-concat, lines-filter}
 
 -- ---- where there are no remarks
 
 pub lines-plain : (text : List ℕ) → lines (plain text) ≡ realLines text
-lines-plain text = lines-kept isReal text
+lines-plain text = lines-filter isReal text
 
-kept-none : (ls : List (List ℕ)) → kept isRemark (kept isReal ls) ≡ []
-unfolding kept
-kept-none [] = refl
-kept-none (l ∷ ls) = go (isRemark l) refl (kept-none ls)
+filter-none : (ls : List (List ℕ)) → filter isRemark (filter isReal ls) ≡ []
+unfolding filter
+filter-none [] = refl
+filter-none (l ∷ ls) = go (isRemark l) refl (filter-none ls)
   where
-    go : (b : Bool) → isRemark l ≡ b → kept isRemark (kept isReal ls) ≡ []
-        → kept isRemark (cond (not b) (l ∷ kept isReal ls) (kept isReal ls)) ≡ []
+    go : (b : Bool) → isRemark l ≡ b → filter isRemark (filter isReal ls) ≡ []
+        → filter isRemark (cond (not b) (l ∷ filter isReal ls) (filter isReal ls)) ≡ []
     go true e h = h
     go false e h = rw e h
 
 pub plain-unremarked : (text : List ℕ) → remarks (plain text) ≡ []
-plain-unremarked text = rw (lines-plain text) (kept-none (lines text))
+plain-unremarked text = rw (lines-plain text) (filter-none (lines text))
 
 -- the first of some lines is no remark where none is
-none-first : (l : List ℕ) (ls : List (List ℕ)) → kept isRemark (l ∷ ls) ≡ [] → (isRemark l ≡ false) × (kept isRemark ls ≡ [])
-unfolding kept
+none-first : (l : List ℕ) (ls : List (List ℕ)) → filter isRemark (l ∷ ls) ≡ [] → (isRemark l ≡ false) × (filter isRemark ls ≡ [])
+unfolding filter
 none-first l ls e = go (isRemark l) e
   where
-    go : (b : Bool) → cond b (l ∷ kept isRemark ls) (kept isRemark ls) ≡ [] → (b ≡ false) × (kept isRemark ls ≡ [])
+    go : (b : Bool) → cond b (l ∷ filter isRemark ls) (filter isRemark ls) ≡ [] → (b ≡ false) × (filter isRemark ls ≡ [])
     go true e = let z : _≡_ {A = ℕ} 0 1 = cc in absurd (omega arith)
     go false e = (refl, e)
 
-kept-all : (ls : List (List ℕ)) → kept isRemark ls ≡ [] → kept isReal ls ≡ ls
-unfolding kept
-kept-all [] e = refl
-kept-all (l ∷ ls) e = let p = none-first l ls e in rw (p .0, kept-all ls (p .1))
+filter-all : (ls : List (List ℕ)) → filter isRemark ls ≡ [] → filter isReal ls ≡ ls
+unfolding filter
+filter-all [] e = refl
+filter-all (l ∷ ls) e = let p = none-first l ls e in rw (p .0, filter-all ls (p .1))
 
-number-same : (ls : List (List ℕ)) (n : ℕ) → kept isRemark ls ≡ [] → numberIn ls n ≡ n
+number-same : (ls : List (List ℕ)) (n : ℕ) → filter isRemark ls ≡ [] → numberIn ls n ≡ n
 unfolding numberIn
 number-same [] n e = refl
 number-same (l ∷ ls) zero e = refl
 number-same (l ∷ ls) (suc n) e = let p = none-first l ls e in rw (p .0) (ap suc (number-same ls n (p .1)))
 
 pub plain-same : (text : List ℕ) → remarks text ≡ [] → plain text ≡ text
-plain-same text e = ap joined (kept-all (lines text) e) ∙ lines-joined text
+plain-same text e = ap concat (filter-all (lines text) e) ∙ lines-concat text
 
 -- ---- the walk, line by line
 
@@ -182,13 +182,13 @@ module _ (form : Form) (f : ℕ → ℕ) (n m c : ℕ) (done l : List ℕ) (ls :
   sight before o = orEarlier s (firstBad (n + 1) before ls) (moved f o)
 
   turn-remark : isRemark l ≡ true → (b : Bool) → isPassed c l ≡ b
-      → (Numbered f (n + 1) m ls → walkLines form (n + 1) (c + 1) done ls ≡ sight (c + 1) (walk lineValue form m done (kept isReal ls)))
-      → walkLines form n c done (l ∷ ls) ≡ orEarlier s (firstBad n c (l ∷ ls)) (moved f (walk lineValue form m done (kept isReal (l ∷ ls))))
-  unfolding walkLines kept numberIn firstBad
+      → (Numbered f (n + 1) m ls → walkLines form (n + 1) (c + 1) done ls ≡ sight (c + 1) (walk lineValue form m done (filter isReal ls)))
+      → walkLines form n c done (l ∷ ls) ≡ orEarlier s (firstBad n c (l ∷ ls)) (moved f (walk lineValue form m done (filter isReal (l ∷ ls))))
+  unfolding walkLines filter numberIn firstBad
   turn-remark e true ok ih =
       let k : Numbered f (n + 1) m ls = λ j. let x : f (m + j) + 1 ≡ n + suc (numberIn ls (suc j)) = rw e at (numbered j) in omega (arith, x) in
       rw (e, ok) (ih k)
-  turn-remark e false ok ih = rw (e, ok) (go (walk lineValue form m done (kept isReal ls)) (walk-from form m done (kept isReal ls)))
+  turn-remark e false ok ih = rw (e, ok) (go (walk lineValue form m done (filter isReal ls)) (walk-from form m done (filter isReal ls)))
     where
       go : (o : Outcome (List ℕ)) → From m o → refused malformed n s ≡ orEarlier s (some n) (moved f o)
       go (good g) h = refl
@@ -198,9 +198,9 @@ module _ (form : Form) (f : ℕ → ℕ) (n m c : ℕ) (done l : List ℕ) (ls :
           rw (le-ltb (f place) n (omega (arith, x)))
 
   turn-real : isRemark l ≡ false
-      → ((more : List ℕ) → Numbered f (n + 1) (m + 1) ls → walkLines form (n + 1) c more ls ≡ sight c (walk lineValue form (m + 1) more (kept isReal ls)))
-      → walkLines form n c done (l ∷ ls) ≡ orEarlier s (firstBad n c (l ∷ ls)) (moved f (walk lineValue form m done (kept isReal (l ∷ ls))))
-  unfolding walkLines walk kept numberIn firstBad
+      → ((more : List ℕ) → Numbered f (n + 1) (m + 1) ls → walkLines form (n + 1) c more ls ≡ sight c (walk lineValue form (m + 1) more (filter isReal ls)))
+      → walkLines form n c done (l ∷ ls) ≡ orEarlier s (firstBad n c (l ∷ ls)) (moved f (walk lineValue form m done (filter isReal (l ∷ ls))))
+  unfolding walkLines walk filter numberIn firstBad
   turn-real e ih =
       let k : Numbered f (n + 1) (m + 1) ls =
       λ j. let x : f (m + suc j) + 1 ≡ n + suc (numberIn ls (suc j)) = rw e at (numbered (suc j)) in rw (next m j) (omega (arith, x)) in
@@ -208,7 +208,7 @@ module _ (form : Form) (f : ℕ → ℕ) (n m c : ℕ) (done l : List ℕ) (ls :
       let at : f m ≡ n = first-number f n m (numberIn ls 0) z (number-first ls) in
       rw e
       (item-seen form n m done (sight c) (λ k. rw at (go k (firstBad (n + 1) c ls) (bad-from (n + 1) c ls))) (λ k r. lineValue k r l)
-      (λ more. walkLines form (n + 1) c more ls) (λ more. walk lineValue form (m + 1) more (kept isReal ls)) (λ _ _ v _ _ _. ih (done ++ (v ∷ [])) k))
+      (λ more. walkLines form (n + 1) c more ls) (λ more. walk lineValue form (m + 1) more (filter isReal ls)) (λ _ _ v _ _ _. ih (done ++ (v ∷ [])) k))
     where
       next : (m j : ℕ) → m + 1 + j ≡ m + suc j
       next m j = omega arith
@@ -218,17 +218,17 @@ module _ (form : Form) (f : ℕ → ℕ) (n m c : ℕ) (done l : List ℕ) (ls :
       go k (some b) h = rw (lt-ltb n b (omega arith))
 
 by-turns : (form : Form) (f : ℕ → ℕ) (n m c : ℕ) (done : List ℕ) (ls : List (List ℕ)) → Numbered f n m ls
-    → walkLines form n c done ls ≡ orEarlier (secondOf form) (firstBad n c ls) (moved f (walk lineValue form m done (kept isReal ls)))
-unfolding walkLines walk kept numberIn firstBad
+    → walkLines form n c done ls ≡ orEarlier (secondOf form) (firstBad n c ls) (moved f (walk lineValue form m done (filter isReal ls)))
+unfolding walkLines walk filter numberIn firstBad
 by-turns form f n m c done [] numbered =
     let at : f m ≡ n = first-number f n m 0 (numbered 0) refl in
     end-seen form n m done (moved f) (λ k. rw at) refl
 by-turns form f n m c done (l ∷ ls) numbered = go (isRemark l) refl (λ more. by-turns form f (n + 1) (m + 1) c more ls) (by-turns form f (n + 1) m (c + 1) done ls)
   where
     go : (b : Bool) → isRemark l ≡ b
-        → ((more : List ℕ) → Numbered f (n + 1) (m + 1) ls → walkLines form (n + 1) c more ls ≡ orEarlier (secondOf form) (firstBad (n + 1) c ls) (moved f (walk lineValue form (m + 1) more (kept isReal ls))))
-        → (Numbered f (n + 1) m ls → walkLines form (n + 1) (c + 1) done ls ≡ orEarlier (secondOf form) (firstBad (n + 1) (c + 1) ls) (moved f (walk lineValue form m done (kept isReal ls))))
-        → walkLines form n c done (l ∷ ls) ≡ orEarlier (secondOf form) (firstBad n c (l ∷ ls)) (moved f (walk lineValue form m done (kept isReal (l ∷ ls))))
+        → ((more : List ℕ) → Numbered f (n + 1) (m + 1) ls → walkLines form (n + 1) c more ls ≡ orEarlier (secondOf form) (firstBad (n + 1) c ls) (moved f (walk lineValue form (m + 1) more (filter isReal ls))))
+        → (Numbered f (n + 1) m ls → walkLines form (n + 1) (c + 1) done ls ≡ orEarlier (secondOf form) (firstBad (n + 1) (c + 1) ls) (moved f (walk lineValue form m done (filter isReal ls))))
+        → walkLines form n c done (l ∷ ls) ≡ orEarlier (secondOf form) (firstBad n c (l ∷ ls)) (moved f (walk lineValue form m done (filter isReal (l ∷ ls))))
     go true e real remark = turn-remark form f n m c done l ls numbered e (isPassed c l) refl remark
     go false e real remark = turn-real form f n m c done l ls numbered e real
 
@@ -251,28 +251,28 @@ is-true : (b : Bool) → T b → b ≡ true
 is-true true t = refl
 is-true false t = absurd t
 
-none-bad : (n c : ℕ) (ls : List (List ℕ)) → Ordered c (kept isRemark ls) → firstBad n c ls ≡ none
-unfolding kept firstBad
+none-bad : (n c : ℕ) (ls : List (List ℕ)) → Ordered c (filter isRemark ls) → firstBad n c ls ≡ none
+unfolding filter firstBad
 none-bad n c [] o = refl
 none-bad n c (l ∷ ls) o = go (isRemark l) o (none-bad (n + 1) (c + 1) ls) (none-bad (n + 1) c ls)
   where
-    go : (b : Bool) → Ordered c (cond b (l ∷ kept isRemark ls) (kept isRemark ls)) → (Ordered (c + 1) (kept isRemark ls) → firstBad (n + 1) (c + 1) ls ≡ none)
-        → (Ordered c (kept isRemark ls) → firstBad (n + 1) c ls ≡ none)
+    go : (b : Bool) → Ordered c (cond b (l ∷ filter isRemark ls) (filter isRemark ls)) → (Ordered (c + 1) (filter isRemark ls) → firstBad (n + 1) (c + 1) ls ≡ none)
+        → (Ordered c (filter isRemark ls) → firstBad (n + 1) c ls ≡ none)
         → cond b (cond (isPassed c l) (firstBad (n + 1) (c + 1) ls) (some n)) (firstBad (n + 1) c ls) ≡ none
     go true o remark real =
-        let q = both (fits l) (allFit (kept isRemark ls)) (o .1) in
+        let q = both (fits l) (allFit (filter isRemark ls)) (o .1) in
         rw (lt-ltb c mostRemarks (omega (arith, o .0)), is-true (fits l) (q .0)) (remark (omega (arith, o .0), q .1))
     go false o remark real = real o
 
-bad-none : (n c : ℕ) (ls : List (List ℕ)) → c ≤ mostRemarks → firstBad n c ls ≡ none → Ordered c (kept isRemark ls)
-unfolding kept firstBad
+bad-none : (n c : ℕ) (ls : List (List ℕ)) → c ≤ mostRemarks → firstBad n c ls ≡ none → Ordered c (filter isRemark ls)
+unfolding filter firstBad
 bad-none n c [] h e = (omega arith, tt)
 bad-none n c (l ∷ ls) h e = go (isRemark l) (ltb c mostRemarks) (fits l) refl refl e (bad-none (n + 1) (c + 1) ls) (bad-none (n + 1) c ls h)
   where
     go : (b x y : Bool) → ltb c mostRemarks ≡ x → fits l ≡ y → cond b (cond (x && y) (firstBad (n + 1) (c + 1) ls) (some n)) (firstBad (n + 1) c ls) ≡ none
-        → (c + 1 ≤ mostRemarks → firstBad (n + 1) (c + 1) ls ≡ none → Ordered (c + 1) (kept isRemark ls))
-        → (firstBad (n + 1) c ls ≡ none → Ordered c (kept isRemark ls))
-        → Ordered c (cond b (l ∷ kept isRemark ls) (kept isRemark ls))
+        → (c + 1 ≤ mostRemarks → firstBad (n + 1) (c + 1) ls ≡ none → Ordered (c + 1) (filter isRemark ls))
+        → (firstBad (n + 1) c ls ≡ none → Ordered c (filter isRemark ls))
+        → Ordered c (cond b (l ∷ filter isRemark ls) (filter isRemark ls))
     go true true true u w e remark real =
         let k : c < mostRemarks = ltb→lt c mostRemarks (rw u tt) in
         let p = remark (omega arith) e in
@@ -296,7 +296,7 @@ pub read-unremarked : (form : Form) (text : List ℕ) → remarks text ≡ [] �
 read-unremarked form text e =
     read-passed form text (record { few = rw e (omega arith); fit = rw e tt })
     ∙ moved-same (numberIn (lines text)) (λ n. number-same (lines text) n e) _
-    ∙ ap (walk lineValue form 1 []) (kept-all (lines text) e)
+    ∙ ap (walk lineValue form 1 []) (filter-all (lines text) e)
 
 -- a text that is read has its remarks in order, and its real lines are read
 or-good : (s : ℕ) (b : Option ℕ) (o : Outcome (List ℕ)) (g : List ℕ) → orEarlier s b o ≡ good g → (b ≡ none) × (o ≡ good g)
@@ -350,24 +350,24 @@ fits-short l t =
     let n : length l ≡ length (beforeFeed l) + 1 = ap length (last-feed l (beforeFeed l) some refl) ∙ length-append (beforeFeed l) (10 ∷ []) in
     omega arith
 
-remarks-short : (rs : List (List ℕ)) → T (allFit rs) → length (joined rs) ≤ length rs * (mostInRemark + 1)
-unfolding joined
+remarks-short : (rs : List (List ℕ)) → T (allFit rs) → length (concat rs) ≤ length rs * (mostInRemark + 1)
+unfolding concat
 remarks-short [] t = omega arith
 remarks-short (l ∷ rs) t =
     let p = both (fits l) (allFit rs) t in
-    omega (arith, length-append l (joined rs), fits-short l (p .0), remarks-short rs (p .1))
+    omega (arith, length-append l (concat rs), fits-short l (p .0), remarks-short rs (p .1))
 
-parts-length : (ls : List (List ℕ)) → length (joined ls) ≡ length (joined (kept isReal ls)) + length (joined (kept isRemark ls))
-unfolding joined kept
+parts-length : (ls : List (List ℕ)) → length (concat ls) ≡ length (concat (filter isReal ls)) + length (concat (filter isRemark ls))
+unfolding concat filter
 parts-length [] = refl
 parts-length (l ∷ ls) = go (isRemark l) (parts-length ls)
   where
-    go : (b : Bool) → length (joined ls) ≡ length (joined (kept isReal ls)) + length (joined (kept isRemark ls))
-        → length (l ++ joined ls) ≡ length (joined (cond (not b) (l ∷ kept isReal ls) (kept isReal ls))) + length (joined (cond b (l ∷ kept isRemark ls) (kept isRemark ls)))
+    go : (b : Bool) → length (concat ls) ≡ length (concat (filter isReal ls)) + length (concat (filter isRemark ls))
+        → length (l ++ concat ls) ≡ length (concat (cond (not b) (l ∷ filter isReal ls) (filter isReal ls))) + length (concat (cond b (l ∷ filter isRemark ls) (filter isRemark ls)))
     go true h = simp length-append (omega arith)
     go false h = simp length-append (omega arith)
 
 -- a text is longer than its plain text by so much at most
 pub plain-longer : (text : List ℕ) → InOrder text → length text ≤ length (plain text) + mostRemarks * (mostInRemark + 1)
 plain-longer text o =
-    omega (arith, ap length (lines-joined text), parts-length (lines text), remarks-short (remarks text) (o .fit), o .few)
+    omega (arith, ap length (lines-concat text), parts-length (lines text), remarks-short (remarks text) (o .fit), o .few)

@@ -1,7 +1,7 @@
 -- Laws of rendering: the lines of a list from an index on, and how long they are.
-use mathlib.Core.Path.{_≡_, ap, _∙_}
+use mathlib.Core.Path.{_≡_, sym, ap, _∙_}
 use mathlib.Core.Bool.{Bool, true, false, cond}
-use mathlib.Core.List.{List, [], _++_}
+use mathlib.Core.List.{List, [], _∷_, _++_, append-nil, append-assoc}
 use Prim.Native.Nat.{ℕ, zero, suc, _+_, _*_, _-_, _^_, _≤_, _<_}
 use native.Mathlib.Decide.{decLt}
 use native.Mathlib.Nat.{le-of-lt}
@@ -9,7 +9,7 @@ use native.Mathlib.Numerals.{add-one}
 use native.Mathlib.Omega.{arith}
 use lib.Dec.{T, ltb}
 use lib.ListN.{length, getD, take, drop, drop-of-length-le, length-append}
-use lib.Seq.{take-suc, length-take-le}
+use lib.Seq.{append-snoc, take-suc, length-take-le}
 use Rattle.model.specs.Limits.{mostAmount}
 use Rattle.lists.specs.Lists.{at}
 use Rattle.forms.specs.Keys.{prefixOf, keys, placeIn}
@@ -37,6 +37,13 @@ render-step form l i h = rw (step l i h, add-one, take-suc l i 0 h)
 pub render-end : (form : Form) (done l : List ℕ) (i : ℕ) → length l ≤ i → renderFrom form done (drop i l) ≡ []
 unfolding renderFrom
 render-end form done l i h = rw (drop-of-length-le l h)
+
+-- one number more, one line more
+pub render-more : (form : Form) (d l : List ℕ) (v : ℕ) → renderFrom form d (l ++ (v ∷ [])) ≡ renderFrom form d l ++ lineOf (fieldOf form (d ++ l)) v
+unfolding renderFrom
+render-more form d [] v = rw (append-nil, append-nil)
+render-more form d (x ∷ l) v =
+    rw (render-more form (d ++ (x ∷ [])) l v, append-snoc d x l) (sym (append-assoc (lineOf (fieldOf form d) x) (renderFrom form (d ++ (x ∷ [])) l) _))
 
 -- what a turn over a sound list knows at i
 module _ (form : Form) (l : List ℕ) (i : ℕ) (h : i < length l) (s : Sound form l) where

@@ -10,7 +10,7 @@ use lib.ListN.{length}
 use lib.Seq.{append-snoc}
 use Rattle.model.specs.Outcome.{Outcome, good, refused, andThen, Cause, malformed, outOfRange, missing}
 use Rattle.lists.specs.Answers.{withRoom}
-use Rattle.forms.specs.Line.{lines, joined, isRemark, kept, realLines, plain, lineValue}
+use Rattle.forms.specs.Line.{lines, concat, isRemark, filter, realLines, plain, lineValue}
 use Rattle.forms.specs.Form.{fieldOf, admitsOf, allows, secondOf, Sound}
 use Rattle.forms.specs.Read.{walk, itself, readLines, judgeNumbers, readText, judgeList, addUp, onField, onValue}
 use Rattle.forms.specs.Write.{lineOf, renderFrom, render, writeText}
@@ -66,13 +66,13 @@ again form n done (v ∷ l) g s e = again-field form n v done l g s (fieldOf for
 record Reads (form : Form) (n : ℕ) (done : List ℕ) (ls : List (List ℕ)) (g : List ℕ) : Type 0 where
   list : List ℕ
   same : g ≡ done ++ list
-  written : renderFrom form done list ≡ joined ls
-  real : kept isRemark ls ≡ []
+  written : renderFrom form done list ≡ concat ls
+  real : filter isRemark ls ≡ []
   accepted : walk itself form n done list ≡ good g
 
 module _ (form : Form) (n : ℕ) (done g : List ℕ) where
   reads-end : (f : Field) → fieldOf form done ≡ f → onField f (good done) (λ k r. refused missing n (secondOf form)) ≡ good g → Reads form n done [] g
-  unfolding walk renderFrom joined kept
+  unfolding walk renderFrom concat filter
   reads-end End f e = record { list = []; same = rw append-nil (let k : g ≡ done = cc in k); written = refl; real = refl; accepted = rw f e }
   reads-end (Line k r) f e = let z : _≡_ {A = ℕ} 0 1 = cc in absurd (omega arith)
 
@@ -82,7 +82,7 @@ module _ (form : Form) (n : ℕ) (done g : List ℕ) where
 
     reads-range : (k : ℕ) (r : Range) (v : ℕ) → fieldOf form done ≡ Line k r → lineValue k r x ≡ some v → (b : Bool) → admitsOf r v ≡ b → Rest
         → cond b (walk lineValue form (n + 1) (done ++ (v ∷ [])) xs) (refused outOfRange n (secondOf form)) ≡ good g → Reads form n done (x ∷ xs) g
-    unfolding walk renderFrom joined kept
+    unfolding walk renderFrom concat filter
     reads-range k r v f w true a ih e =
         let p = ih v e in
         record {

@@ -1,4 +1,4 @@
--- Laws of the lines of a text: put together they are the text, and what is kept of them are the lines of what that is together.
+-- Laws of the lines of a text: together they are the text, and those of them that pass a test are the lines of what these are together.
 use mathlib.Core.Path.{_≡_, refl, ap, _∙_}
 use mathlib.Core.Logic.{_⊎_, inl, inr}
 use mathlib.Core.Bool.{Bool, true, false, cond, not, _&&_}
@@ -6,22 +6,22 @@ use mathlib.Core.List.{List, [], _∷_, _++_, append-nil}
 use Prim.Native.Nat.{ℕ}
 use lib.Dec.{T, eqb}
 use borrow.Author.Tests.{eqb-true}
-use Rattle.forms.specs.Line.{lines, onFirst, joined, kept}
+use Rattle.forms.specs.Line.{lines, onFirst, concat, filter}
 use Rattle.forms.proofs.Keys.{no-feeds}
 
-joined-first : (b : ℕ) (ls : List (List ℕ)) → joined (onFirst b ls) ≡ b ∷ joined ls
-unfolding joined onFirst
-joined-first b [] = refl
-joined-first b (l ∷ ls) = refl
+concat-first : (b : ℕ) (ls : List (List ℕ)) → concat (onFirst b ls) ≡ b ∷ concat ls
+unfolding concat onFirst
+concat-first b [] = refl
+concat-first b (l ∷ ls) = refl
 
-pub lines-joined : (t : List ℕ) → joined (lines t) ≡ t
-unfolding lines joined
-lines-joined [] = refl
-lines-joined (b ∷ t) = go (eqb b 10) (lines-joined t)
+pub lines-concat : (t : List ℕ) → concat (lines t) ≡ t
+unfolding lines concat
+lines-concat [] = refl
+lines-concat (b ∷ t) = go (eqb b 10) (lines-concat t)
   where
-    go : (e : Bool) → joined (lines t) ≡ t → joined (cond e ((b ∷ []) ∷ lines t) (onFirst b (lines t))) ≡ b ∷ t
+    go : (e : Bool) → concat (lines t) ≡ t → concat (cond e ((b ∷ []) ∷ lines t) (onFirst b (lines t))) ≡ b ∷ t
     go true h = ap (λ (l : List ℕ). b ∷ l) h
-    go false h = joined-first b (lines t) ∙ ap (λ (l : List ℕ). b ∷ l) h
+    go false h = concat-first b (lines t) ∙ ap (λ (l : List ℕ). b ∷ l) h
 
 pub lines-line : (x rest : List ℕ) → T (no-feeds x) → lines (x ++ (10 ∷ []) ++ rest) ≡ (x ++ (10 ∷ [])) ∷ lines rest
 unfolding lines onFirst
@@ -33,7 +33,7 @@ lines-line (b ∷ x) rest h = go (eqb b 10) h (lines-line x rest)
     go true h f = absurd h
     go false h f = rw (f h)
 
--- ---- the lines that are kept are the lines of what they are together
+-- ---- the lines that pass a test are the lines of what they are together
 
 -- a line that ends with its only line feed
 record Fed (l : List ℕ) : Type 0 where
@@ -62,25 +62,25 @@ lined (b ∷ t) = go (eqb b 10) refl (lined t)
     go true e h = inl (record { before = []; clean = tt; is = rw (eqb-true b 10 e) }, h)
     go false e h = lined-first b e (lines t) h
 
-lined-kept : (p : List ℕ → Bool) (ls : List (List ℕ)) → Lined ls → Lined (kept p ls)
-unfolding kept
-lined-kept p [] h = tt
-lined-kept p (l ∷ ls) (inl h) = go (p l) (lined-kept p ls (h .1))
+lined-filter : (p : List ℕ → Bool) (ls : List (List ℕ)) → Lined ls → Lined (filter p ls)
+unfolding filter
+lined-filter p [] h = tt
+lined-filter p (l ∷ ls) (inl h) = go (p l) (lined-filter p ls (h .1))
   where
-    go : (b : Bool) → Lined (kept p ls) → Lined (cond b (l ∷ kept p ls) (kept p ls))
+    go : (b : Bool) → Lined (filter p ls) → Lined (cond b (l ∷ filter p ls) (filter p ls))
     go true k = inl (h .0, k)
     go false k = k
-lined-kept p (l ∷ ls) (inr h) = go (p l)
+lined-filter p (l ∷ ls) (inr h) = go (p l)
   where
-    go : (b : Bool) → Lined (cond b (l ∷ kept p ls) (kept p ls))
+    go : (b : Bool) → Lined (cond b (l ∷ filter p ls) (filter p ls))
     go true = inr (h .0, rw (h .1))
     go false = rw (h .1) tt
 
-lined-lines : (ls : List (List ℕ)) → Lined ls → lines (joined ls) ≡ ls
-unfolding joined lines
+lined-lines : (ls : List (List ℕ)) → Lined ls → lines (concat ls) ≡ ls
+unfolding concat lines
 lined-lines [] h = refl
-lined-lines (l ∷ ls) (inl h) = rw (h .0 .is, lines-line (h .0 .before) (joined ls) (h .0 .clean), lined-lines ls (h .1))
+lined-lines (l ∷ ls) (inl h) = rw (h .0 .is, lines-line (h .0 .before) (concat ls) (h .0 .clean), lined-lines ls (h .1))
 lined-lines (l ∷ ls) (inr h) = rw (h .1, append-nil) (h .0)
 
-pub lines-kept : (p : List ℕ → Bool) (text : List ℕ) → lines (joined (kept p (lines text))) ≡ kept p (lines text)
-lines-kept p text = lined-lines (kept p (lines text)) (lined-kept p (lines text) (lined text))
+pub lines-filter : (p : List ℕ → Bool) (text : List ℕ) → lines (concat (filter p (lines text))) ≡ filter p (lines text)
+lines-filter p text = lined-lines (filter p (lines text)) (lined-filter p (lines text) (lined text))

@@ -21,9 +21,9 @@ lines [] = []
 lines (b ∷ t) = cond (eqb b 10) ((b ∷ []) ∷ lines t) (onFirst b (lines t))
 
 -- lines put together again
-unfoldable pub joined : List (List ℕ) → List ℕ
-joined [] = []
-joined (l ∷ ls) = l ++ joined ls
+unfoldable pub concat : List (List ℕ) → List ℕ
+concat [] = []
+concat (l ∷ ls) = l ++ concat ls
 
 -- what stands before the line feed that ends a line; nothing where none does
 unfoldable pub beforeFeed : List ℕ → List ℕ
@@ -31,7 +31,7 @@ beforeFeed l = cond (eqb (getD l (length l - 1) 0) 10) (take (length l - 1) l) [
 
 -- ---- remarks
 
--- "A line of either text that begins with `#` is a remark"
+-- "A line of either text that begins with `#` is a remark": a comment line
 abbrev pub isRemark : List ℕ → Bool
 isRemark l = eqb (getD l 0 0) 35
 
@@ -54,19 +54,19 @@ abbrev pub isPassed : ℕ → List ℕ → Bool
 isPassed before l = ltb before mostRemarks && fits l
 
 -- the lines that pass a test: the remarks, and the real lines
-unfoldable pub kept : (List ℕ → Bool) → List (List ℕ) → List (List ℕ)
-kept p [] = []
-kept p (l ∷ ls) = cond (p l) (l ∷ kept p ls) (kept p ls)
+unfoldable pub filter : (List ℕ → Bool) → List (List ℕ) → List (List ℕ)
+filter p [] = []
+filter p (l ∷ ls) = cond (p l) (l ∷ filter p ls) (filter p ls)
 
 abbrev pub remarks : List ℕ → List (List ℕ)
-remarks text = kept isRemark (lines text)
+remarks text = filter isRemark (lines text)
 
 abbrev pub realLines : List ℕ → List (List ℕ)
-realLines text = kept isReal (lines text)
+realLines text = filter isReal (lines text)
 
 -- a text without its remarks
 abbrev pub plain : List ℕ → List ℕ
-plain text = joined (realLines text)
+plain text = concat (realLines text)
 
 -- ---- values
 

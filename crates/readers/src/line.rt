@@ -1,4 +1,5 @@
-// The line reader: the part of a line that is its value, and the number that the part is, in one pass over the digits.
+// The line reader: the part of a line that is its value, and the number that the part is, in one pass over the digits; and
+// where a remark ends.
 ghost use mathlib.Core.Path.{_≡_};
 ghost use Prim.Native.Nat.{_+_, _≤_};
 ghost use lib.Dec.{T};
@@ -168,7 +169,7 @@ pub(crate) fn digits<'a>(
     }
 }
 
-// Whether the line at `at` is a remark.
+// Whether the line at `at` is a remark, a comment line.
 pub(crate) fn is_remark(text: &[u8], at: usize) -> bool
     ensures { λ r. ⌜ r ≡ isRemark (firstLine (drop at (now (text .entry)))) ⌝ }
 {
