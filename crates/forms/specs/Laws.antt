@@ -95,7 +95,8 @@ pub record FileForm (form : Form) : Type 0 where
 
 -- the two round trips, over what the operations come to with the room that is lent to each
 pub record RoundTrip (form : Form) : Type 0 where
-  -- for every text that a reader takes, writing the list that it gives yields that text: "a text with remarks comes back without them"
+  -- for every text that a reader takes, writing the list that it gives yields that text: "a text with remarks comes back without
+  -- them, and others as today"
   pub text-again : (text l : List ℕ) (room space : ℕ) → withRoom room (readText form text) ≡ good l → length (plain text) ≤ space
       → withRoom space (writeText form l) ≡ good (plain text)
   -- for every good list with room, reading what the writer writes yields the list
