@@ -5,9 +5,10 @@ use mathlib.Core.List.{List, [], _∷_, _++_}
 use mathlib.Core.Option.{Option, none, some, Option·some-ne-none}
 use Prim.Native.Nat.{ℕ, zero, suc, _+_, _-_, _*_, _≤_, _<_}
 use native.Mathlib.Omega.{arith}
-use lib.Dec.{T, leb, ltb, leb→le, ltb→lt}
+use lib.Dec.{T, ltb, ltb→lt}
 use lib.ListN.{length, length-append}
-use borrow.Author.Tests.{lt-ltb, le-ltb}
+use native.Mathlib.Decide.{decLt}
+use borrow.Author.Tests.{lt-ltb, le-ltb, lt-leb}
 use Rattle.model.specs.Outcome.{Outcome, good, refused, Cause, malformed, outOfRange, missing}
 use Rattle.model.proofs.Searches.{both}
 use Rattle.forms.specs.Line.{lines, concat, beforeFeed, isRemark, isReal, fits, mostInRemark, mostRemarks, filter, remarks, realLines, plain, lineValue, isPassed}
@@ -331,24 +332,26 @@ remarked form =
       first-bad = λ text. (order-none text, none-order text);
     }
 
+pub and-false : (b : Bool) → (b && false) ≡ false
+and-false true = refl
+and-false false = refl
+
 -- a line that does not fit is no remark in order, however many there were before
 pub unfit : (c : ℕ) (l : List ℕ) → fits l ≡ false → isPassed c l ≡ false
-unfit c l e = rw e (go (ltb c mostRemarks))
-  where
-    go : (b : Bool) → (b && false) ≡ false
-    go true = refl
-    go false = refl
+unfit c l e = rw e (and-false (ltb c mostRemarks))
 
 -- ---- how long remarks are
 
 pub fits-short : (l : List ℕ) → T (fits l) → length l ≤ mostInRemark + 1
 unfolding fits
-fits-short l t =
-    let p = both (leb 1 (length (beforeFeed l))) (leb (length (beforeFeed l)) mostInRemark) t in
-    let some : 1 ≤ length (beforeFeed l) = leb→le _ _ (p .0) in
-    let few : length (beforeFeed l) ≤ mostInRemark = leb→le _ _ (p .1) in
-    let n : length l ≡ length (beforeFeed l) + 1 = ap length (last-feed l (beforeFeed l) some refl) ∙ length-append (beforeFeed l) (10 ∷ []) in
-    omega arith
+fits-short l t = go (beforeFeed l) refl (decLt mostInRemark (length (beforeFeed l)))
+  where
+    go : (d : List ℕ) → beforeFeed l ≡ d → Dec (mostInRemark < length (beforeFeed l)) → length l ≤ mostInRemark + 1
+    go d e (yes h) = absurd (rw (lt-leb (length (beforeFeed l)) mostInRemark h, and-false) at t)
+    go [] e (no h) = absurd (rw e at t)
+    go (x ∷ d) e (no h) =
+        let n : length l ≡ length (x ∷ d) + 1 = ap length (last-feed l (x ∷ d) (omega arith) e) ∙ length-append (x ∷ d) (10 ∷ []) in
+        omega (arith, ap length e)
 
 remarks-short : (rs : List (List ℕ)) → T (allFit rs) → length (concat rs) ≤ length rs * (mostInRemark + 1)
 unfolding concat

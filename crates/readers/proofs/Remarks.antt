@@ -1,6 +1,6 @@
 -- Laws of the remark at a place of a text: where the line after it begins, by the byte that is looked at.
 use mathlib.Core.Path.{_≡_, refl, sym, ap, _∙_}
-use mathlib.Core.Bool.{Bool, true, false, _&&_}
+use mathlib.Core.Bool.{false, _&&_}
 use mathlib.Core.List.{List, [], _∷_}
 use Prim.Native.Nat.{ℕ, _+_, _≤_, _<_}
 use native.Mathlib.Decide.{decLt}
@@ -11,7 +11,7 @@ use lib.ListN.{length, getD, drop, length-drop, length-append, drop-of-length-le
 use lib.Seq.{length-take-le, getD-take, getD-drop}
 use borrow.Author.Tests.{lt-ltb, le-ltb, le-leb, lt-leb}
 use Rattle.forms.specs.Line.{beforeFeed, isRemark, fits, mostRemarks, mostInRemark}
-use Rattle.forms.proofs.Remarks.{unfit}
+use Rattle.forms.proofs.Remarks.{and-false, unfit}
 use Rattle.readers.specs.Line.{lineLen, firstLine, bytesBefore, unfed, afterRemark}
 use Rattle.readers.specs.declared.line.Remark.the-variants.{Ends, OutOfOrder}
 use Rattle.readers.proofs.Lines.{line-some, line-within}
@@ -56,11 +56,7 @@ fits-by : (t : List ℕ) → (bytesBefore t < length t → mostInRemark < bytesB
 unfolding fits
 fits-by t f =
     by-part t (λ d. (leb 1 (length d) && leb (length d) mostInRemark) ≡ false) refl
-    (λ h s. rw (s, lt-leb (bytesBefore t) mostInRemark (f h)) (go (leb 1 (bytesBefore t))))
-  where
-    go : (b : Bool) → (b && false) ≡ false
-    go true = refl
-    go false = refl
+    (λ h s. rw (s, lt-leb (bytesBefore t) mostInRemark (f h)) (and-false (leb 1 (bytesBefore t))))
 
 line-closed : (t : List ℕ) → bytesBefore t < length t → lineLen t ≡ bytesBefore t + 1
 line-closed t h =
