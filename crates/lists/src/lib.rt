@@ -1,5 +1,5 @@
 // The types that all operations share: the network type, whose constants are the limits and whose value says where a
-// network's numbers stand in its list, and the answers.
+// network's numbers stand in its list, the type of rule tables, which does the same for theirs, and the answers.
 ghost use mathlib.Core.Path.{_≡_};
 ghost use Prim.Native.Nat.{_+_, _*_, _≤_};
 ghost use lib.ListN.{length};
@@ -55,6 +55,52 @@ impl Network {
         ensures { λ r. ⌜ r ≡ 6 + self .links + 2 * self .flows ⌝ }
     {
         6 + self.links + 2 * self.flows
+    }
+}
+
+// How many switches and tunnels rule tables have.
+pub struct RuleTables {
+    pub switches: usize,
+    pub tunnels: usize,
+}
+
+impl RuleTables {
+    pub const SWITCHES: u64 = 64;
+
+    pub const TUNNELS: u64 = 96;
+
+    // The most rules that a switch has room for.
+    pub const ROOM: u64 = 65_535;
+
+    // The least and the largest slack, in thousandths.
+    pub const SLACK_LOW: u64 = 20;
+
+    pub const SLACK_HIGH: u64 = 500;
+
+    // What becomes of a tunnel's rules.
+    pub const KEEP: u64 = 1;
+
+    pub const ADD: u64 = 2;
+
+    pub const REMOVE: u64 = 3;
+
+    // The sizes of the rule tables that a list holds.
+    pub fn of(list: &[u64]) -> RuleTables
+        requires { ⌜ 4 ≤ length (now list) ⌝ }
+        ensures { λ r. ⌜ (r .switches ≡ at (now (list .entry)) 2) × (r .tunnels ≡ at (now (list .entry)) 3) ⌝ }
+    {
+        RuleTables {
+            switches: list[2] as usize,
+            tunnels: list[3] as usize,
+        }
+    }
+
+    // Where the lines of tunnel 0 begin; each tunnel has 2.
+    pub fn tunnels_at(self) -> usize
+        requires { ⌜ self .switches ≤ 64 ⌝ }
+        ensures { λ r. ⌜ r ≡ 4 + self .switches ⌝ }
+    {
+        4 + self.switches
     }
 }
 

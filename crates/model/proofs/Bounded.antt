@@ -31,7 +31,7 @@ unfolding ceilDiv
 ceil-lt a b h = omega (arith, div-mul-le-self (a + (b - 1)) b)
 
 -- 1000 in pieces of 20 or more are at most 50 pieces
-ceil-most : (b : ℕ) → 20 ≤ b → ceilDiv 1000 b ≤ mostSteps
+pub ceil-most : (b : ℕ) → 20 ≤ b → ceilDiv 1000 b ≤ mostSteps
 ceil-most b h =
     let pos : 0 < b = omega arith in
     let n : ¬ (51 ≤ ceilDiv 1000 b) = λ g. omega (arith, mul-le-mul-right b g, ceil-lt 1000 b pos) in omega arith

@@ -2,6 +2,7 @@ pub mod Sums
 pub mod Searches
 pub mod Table
 pub mod Listed
+pub mod Sets
 pub mod Outcomes
 pub mod Scans
 pub mod Choices

@@ -2,6 +2,7 @@ pub mod Limits
 pub mod Sum
 pub mod Search
 pub mod Listed
+pub mod Sets
 pub mod Outcome
 pub mod Net
 pub mod Scan

@@ -22,3 +22,10 @@ leastShare = 20
 
 abbrev pub mostShare : ℕ
 mostShare = 500
+
+-- of rule tables, by the second paper: "`switches` 1..64"; "`room` 0..65,535"; `slack` is a share, and tunnels are as many as in a network
+abbrev pub mostSwitches : ℕ
+mostSwitches = 64
+
+abbrev pub mostRoom : ℕ
+mostRoom = 65535

@@ -4,7 +4,7 @@ use mathlib.Core.Option.{Option, none, some}
 
 -- the causes of "Turned down, and why", and from 12 on of the second paper, in the order of their numbers
 pub data Cause : Type 0 where
-  malformed outOfRange missing missedRate otherTunnels missedRow overProtected overTotal noEvenPlan noRoom noSuchDesk fourWait nothingWaits unshareable : Cause
+  malformed outOfRange missing missedRate otherTunnels missedRow overProtected overTotal noEvenPlan noRoom noSuchDesk fourWait nothingWaits unfit unshareable : Cause
 
 abbrev pub number : Cause → ℕ
 number malformed = 1
@@ -20,6 +20,7 @@ number noRoom = 10
 number noSuchDesk = 12
 number fourWait = 13
 number nothingWaits = 14
+number unfit = 18
 number unshareable = 21
 
 -- a refusal has its cause, place and second

@@ -1,4 +1,3 @@
-pub mod Digits
 pub mod Tables
 pub mod Good
 pub mod Searching

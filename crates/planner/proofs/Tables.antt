@@ -2,7 +2,7 @@
 use Prim.Native.Nat.{ℕ, suc, _+_, _-_, _*_, _/_, _^_, _≤_, _<_, max}
 use mathlib.Core.Path.{_≡_, refl, sym, ap, subst, _∙_}
 use mathlib.Core.Logic.{_≢_, ⊎-elim}
-use mathlib.Core.Bool.{Bool, true, false, cond, not, _&&_}
+use mathlib.Core.Bool.{Bool, true, false, cond, not}
 use mathlib.Core.List.{List}
 use native.Mathlib.Omega.{arith}
 use native.Mathlib.Decide.{decLt}
@@ -21,8 +21,9 @@ use Rattle.model.specs.Scan.{Bound}
 use Rattle.model.specs.Rule.{crosses, onLink, counts}
 use Rattle.model.proofs.Sums.{sum-zero, sum-take, sum-skip, sum-bound, sum-both}
 use Rattle.model.proofs.Searches.{bool-cases}
-use Rattle.planner.proofs.Digits.{digits-gone, none-left, next-from, next-set, next-below, next-left}
-use Rattle.planner.specs.Tables.{Part, tableSize, sumAt, amount, Room, Added, inSet, onPart, Table, unprotected, Loads, Joined, stepSum, endSum}
+use Rattle.model.specs.Sets.{inSet}
+use Rattle.model.proofs.Sets.{none-left, next-from, next-set, next-below, next-left, passed, passed-on, passed-none, passed-all}
+use Rattle.planner.specs.Tables.{Part, tableSize, sumAt, amount, Room, Added, onPart, Table, unprotected, Loads, Joined, stepSum, endSum}
 
 -- ---- one link
 
@@ -105,41 +106,6 @@ added-room c o n s s′ a r ho hn = record {
   size = a .size ∙ r .size;
   most = λ p l h. omega (arith, a .each p l h, r .most p l h, cond-most (c l) (amount o n p), amount-most o n ho hn p);
 }
-
--- the links of a set below a link
-abbrev passed : ℕ → ℕ → ℕ → Bool
-passed via link l = ltb l link && inSet via l
-
--- on from a link to the next in the set: those between are not in it
-passed-on : (via link z : ℕ) → link ≤ z → ((j : ℕ) → link ≤ j → j < z → inSet via j ≡ false) → inSet via z ≡ true
-    → (l x : ℕ) → cond (passed via link l) x 0 + cond (eqb l z) x 0 ≡ cond (passed via (z + 1) l) x 0
-passed-on via link z up none one l x =
-    elim (decLt l link) [
-      | yes h ↦ rw (lt-ltb l link h, ne-eqb l z (λ q. omega arith), lt-ltb l (z + 1) (omega arith)) (add-zero _)
-      | no h ↦ rw (le-ltb l link (omega arith)) (beyond (omega arith))
-    ]
-  where
-    beyond : link ≤ l → 0 + cond (eqb l z) x 0 ≡ cond (passed via (z + 1) l) x 0
-    beyond h =
-        elim (decLt l z) [
-          | yes k ↦ rw (ne-eqb l z (λ q. omega arith), lt-ltb l (z + 1) (omega arith), none l h k) refl
-          | no k ↦ elim (decLt z l) [
-            | yes j ↦ rw (ne-eqb l z (λ q. omega arith), le-ltb l (z + 1) (omega arith)) refl
-            | no j ↦ (let e : l ≡ z = omega arith in rw e (rw (eq-eqb z z refl, lt-ltb z (z + 1) (omega arith), one) (omega arith)))
-          ]
-        ]
-
-passed-none : (via l : ℕ) → false ≡ passed via 0 l
-passed-none via l = sym (ap (λ (b : Bool). b && inSet via l) (le-ltb l 0 (omega arith)))
-
--- where nothing of the set is left, all are passed
-passed-all : (via link : ℕ) → via / 2 ^ link ≡ 0 → (l : ℕ) → passed via link l ≡ inSet via l
-passed-all via link e l =
-    elim (decLt l link) [
-      | yes h ↦ ap (λ (b : Bool). b && inSet via l) (lt-ltb l link h)
-      | no h ↦ (let up : link ≤ l = omega arith in
-          ap (λ (b : Bool). b && inSet via l) (le-ltb l link up) ∙ sym (ap (λ (d : ℕ). eqb d 1) (digits-gone via link l e up)))
-    ]
 
 -- the table where the links of a set below a link are passed, and those from it on are left
 pub record Passing (via o n : ℕ) (s : List ℕ) (left : ℕ) (s′ : List ℕ) : Type 0 where

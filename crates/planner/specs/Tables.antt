@@ -1,9 +1,8 @@
 -- The tables in which the planner gathers a network's three sums, and what its functions say of them.
-use Prim.Native.Nat.{ℕ, suc, _+_, _-_, _*_, _/_, _%_, _^_, _≤_, _<_, max}
+use Prim.Native.Nat.{ℕ, suc, _+_, _-_, _*_, _≤_, _<_, max}
 use mathlib.Core.Path.{_≡_}
 use mathlib.Core.Bool.{Bool, cond, not}
 use mathlib.Core.List.{List}
-use lib.Dec.{eqb}
 use lib.ListN.{length}
 use Rattle.model.specs.Limits.{mostLinks, mostAmount}
 use Rattle.model.specs.Sum.{sumOver}
@@ -39,10 +38,6 @@ pub record Room (n : ℕ) (s : List ℕ) : Type 0 where
 pub record Added (c : ℕ → Bool) (o n : ℕ) (s s′ : List ℕ) : Type 0 where
   pub size : length s′ ≡ length s
   pub each : (p : Part) (l : ℕ) → l < mostLinks → sumAt s′ p l ≡ sumAt s p l + cond (c l) (amount o n p) 0
-
--- "bit l, of value 2^l, is set when the tunnel crosses link l"
-abbrev pub inSet : ℕ → ℕ → Bool
-inSet via l = eqb (via / 2 ^ l % 2) 1
 
 -- what a part counts of tunnel t on link l
 unfoldable pub onPart : Net → ℕ → Part → ℕ → ℕ

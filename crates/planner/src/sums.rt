@@ -6,8 +6,9 @@ ghost use lib.Dec.{eqb};
 ghost use lib.ListN.{length, getD, set, replicate};
 ghost use Rattle.model.specs.Limits.{mostAmount, mostLinks, mostTunnels};
 ghost use Rattle.model.specs.Scan.{Bound};
+ghost use Rattle.model.specs.Sets.{inSet};
 ghost use Rattle.lists.specs.Lists.{networkOf, GoodNetwork};
-ghost use Rattle.planner.specs.Tables.{tableSize, Room, Added, inSet, Table, unprotected, Loads, Ready, Joined};
+ghost use Rattle.planner.specs.Tables.{tableSize, Room, Added, Table, unprotected, Loads, Ready, Joined};
 use lists::Network;
 
 // Where a table's second part begins, and its third, and where it ends.

@@ -2,7 +2,7 @@
 use native.Mathlib.Omega.{arith}
 use lib.Count.{trailing-le}
 use borrow.Author.Needs.{needs}
-use Rattle.planner.proofs.Digits.{next-within, next-less}
+use Rattle.model.proofs.Sets.{next-within, next-less}
 use Rattle.planner.proofs.Tables.{added-room, Passing, passing-start, passing-on, passing-end}
 use Rattle.planner.proofs.sums.add_tunnel.Statement.{statement}
 use Rattle.planner.proofs.sums.add_tunnel.Tie as tie

@@ -1,20 +1,19 @@
--- The digits of a number up to its lowest set digit: what `trailing_zeros` and `n & (n - 1)` tell.
+-- Sets of links or switches, gone through from each set digit to the next: what `trailing_zeros` and `n & (n - 1)` tell.
 use Prim.Native.Nat.{ℕ, zero, suc, _+_, _-_, _*_, _/_, _%_, _^_, _≤_, _<_}
 use mathlib.Core.Path.{_≡_, refl, sym, ap, ap₂, _∙_}
 use mathlib.Core.Logic.{_≢_}
-use mathlib.Core.Bool.{true, false}
+use mathlib.Core.Bool.{Bool, true, false, cond, _&&_}
 use native.Mathlib.Omega.{arith}
+use native.Mathlib.Decide.{decLt}
 use native.Mathlib.Nat.{add-zero, mul-assoc, div-one, div-eq-of-lt, div-mul-le-self, div-add-mod', mod-lt, mod-self, zero-div, le-of-eq, lt-of-le-of-lt, lt-of-lt-of-le, lt-of-not-le}
 use native.Mathlib.Numerals.{add-one, one-add}
-use lib.Dec.{eqb}
+use lib.Dec.{eqb, ltb}
 use lib.Pow.{pow-pos, pow-mono, pow-lt, pow-add, shl-shr, shr-shr, shr-lt, split, mod-pow-add}
 use lib.Bits.{bitAnd, and-block, and-self, and-mask, and-le-r, shifted-even}
 use lib.Count.{trailingZeros, under}
-use borrow.Author.Tests.{eq-eqb}
-use Rattle.planner.specs.Tables.{inSet}
-
-le-of-not-lt : {a b : ℕ} → ¬ (b < a) → a ≤ b
-le-of-not-lt h = omega arith
+use borrow.Author.Tests.{eq-eqb, ne-eqb, lt-ltb, le-ltb}
+use Rattle.model.specs.Sets.{inSet}
+use Rattle.model.proofs.Searches.{le-of-not-lt}
 
 -- digit i + 1 of a number is digit i of its half
 digit-suc : (n i : ℕ) → n / 2 / 2 ^ i ≡ n / 2 ^ suc i
@@ -77,7 +76,7 @@ digits-gone n l j e h =
     ∙ ap (λ (m : ℕ). m / 2 ^ (j - l) % 2) e ∙ ap (λ (m : ℕ). m % 2) (zero-div (2 ^ (j - l)))
 
 -- a digit that is set is one of those that there are
-set-within : (n k j : ℕ) → n < 2 ^ k → n / 2 ^ j % 2 ≡ 1 → j < k
+pub set-within : (n k j : ℕ) → n < 2 ^ k → n / 2 ^ j % 2 ≡ 1 → j < k
 set-within n k j h e = lt-of-not-le (λ g. absurd (gone g))
   where
     gone : k ≤ j → ⊥
@@ -159,3 +158,40 @@ module _ (n l left : ℕ) (fits : n < 2 ^ 64) (e : left ≡ n / 2 ^ l * 2 ^ l) (
 
   pub next-less : bitAnd left (left - 1) < left
   next-less = omega (arith, and-le-r left (left - 1))
+
+-- ---- from each set digit to the next
+
+-- the links of a set below a link
+abbrev pub passed : ℕ → ℕ → ℕ → Bool
+passed via link l = ltb l link && inSet via l
+
+-- on from a link to the next in the set: those between are not in it
+pub passed-on : (via link z : ℕ) → link ≤ z → ((j : ℕ) → link ≤ j → j < z → inSet via j ≡ false) → inSet via z ≡ true
+    → (l x : ℕ) → cond (passed via link l) x 0 + cond (eqb l z) x 0 ≡ cond (passed via (z + 1) l) x 0
+passed-on via link z up none one l x =
+    elim (decLt l link) [
+      | yes h ↦ rw (lt-ltb l link h, ne-eqb l z (λ q. omega arith), lt-ltb l (z + 1) (omega arith)) (add-zero _)
+      | no h ↦ rw (le-ltb l link (omega arith)) (beyond (omega arith))
+    ]
+  where
+    beyond : link ≤ l → 0 + cond (eqb l z) x 0 ≡ cond (passed via (z + 1) l) x 0
+    beyond h =
+        elim (decLt l z) [
+          | yes k ↦ rw (ne-eqb l z (λ q. omega arith), lt-ltb l (z + 1) (omega arith), none l h k) refl
+          | no k ↦ elim (decLt z l) [
+            | yes j ↦ rw (ne-eqb l z (λ q. omega arith), le-ltb l (z + 1) (omega arith)) refl
+            | no j ↦ (let e : l ≡ z = omega arith in rw e (rw (eq-eqb z z refl, lt-ltb z (z + 1) (omega arith), one) (omega arith)))
+          ]
+        ]
+
+pub passed-none : (via l : ℕ) → false ≡ passed via 0 l
+passed-none via l = sym (ap (λ (b : Bool). b && inSet via l) (le-ltb l 0 (omega arith)))
+
+-- where nothing of the set is left, all are passed
+pub passed-all : (via link : ℕ) → via / 2 ^ link ≡ 0 → (l : ℕ) → passed via link l ≡ inSet via l
+passed-all via link e l =
+    elim (decLt l link) [
+      | yes h ↦ ap (λ (b : Bool). b && inSet via l) (lt-ltb l link h)
+      | no h ↦ (let up : link ≤ l = omega arith in
+          ap (λ (b : Bool). b && inSet via l) (le-ltb l link up) ∙ sym (ap (λ (d : ℕ). eqb d 1) (digits-gone via link l e up)))
+    ]

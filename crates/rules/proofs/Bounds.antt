@@ -1,0 +1,144 @@
+-- What bounds the counts: after stage i, those added are at most i parts of k of what is spare at a switch, and those that remain at most the other k - i.
+use Prim.Native.Nat.{ℕ, zero, suc, _+_, _-_, _*_, _≤_, _<_}
+use mathlib.Core.Path.{_≡_, refl, ap}
+use mathlib.Core.Logic.{_≢_, _⊎_, ⊎-elim}
+use mathlib.Core.Bool.{true, false, not}
+use native.Mathlib.Nat.{eq-or-lt-of-le, le-of-suc-le-suc, le-trans, mul-le-mul-left}
+use native.Mathlib.Omega.{arith}
+use borrow.Author.Tests.{not-false, eq-eqb, ne-eqb}
+use Rattle.model.specs.Sets.{inSet}
+use Rattle.model.specs.Even.{ceilDiv}
+use Rattle.model.proofs.Bounded.{ceil-ge, ceil-least}
+use Rattle.model.proofs.Searches.{bool-cases}
+use Rattle.rules.specs.Rules.{Rules, remove, isKind, rule, count, lastStage, spare}
+use Rattle.rules.specs.Stage.{Move, adds, removes, Stages, moved, waits, within, goes, given, turn, pass, stage, stages}
+use Rattle.rules.proofs.Counts.{within-at, count-who, count-moved, count-waits, count-kind}
+use Rattle.rules.proofs.Passes.{waits-is, moved-is, turn-cases, other-moved}
+
+-- ---- the last stage
+
+pub last-pos : (R : Rules) → (20 ≤ R .slack) × (R .slack ≤ 500) → 1 ≤ lastStage R
+unfolding lastStage
+last-pos R h = omega (arith, ceil-least (R .slack) (omega (arith, h .0)) (h .1))
+
+pub last-slack : (R : Rules) → (20 ≤ R .slack) × (R .slack ≤ 500) → 1000 ≤ suc (lastStage R) * R .slack
+unfolding lastStage
+last-slack R h =
+    let pos : 0 < R .slack = omega (arith, h .0) in
+    let e : suc (ceilDiv 1000 (R .slack) - 1) ≡ ceilDiv 1000 (R .slack) = omega (arith, ceil-least (R .slack) pos (h .1)) in
+    omega (arith, ceil-ge 1000 (R .slack) pos, ap (λ (n : ℕ). n * R .slack) e)
+
+-- ---- what a stage given changes
+
+pub given-at : (f : Stages) (t i u : ℕ) → u ≡ t → given true t i f u ≡ i
+unfolding given
+given-at f t i u e = rw (eq-eqb u t e)
+
+pub given-waits : (R : Rules) (m : Move) (f : Stages) (t i u : ℕ) → u ≢ t → waits R m (given true t i f) u ≡ true → waits R m f u ≡ true
+unfolding waits given
+given-waits R m f t i u h w = rw (ne-eqb u t h) at w
+
+-- one rule at a switch that is crossed, none at others
+pub rule-one : (R : Rules) (s t : ℕ) → inSet (R .via t) s ≡ true → rule R s t ≡ 1
+unfolding rule
+rule-one R s t e = rw e
+
+pub rule-none : (R : Rules) (s t : ℕ) → inSet (R .via t) s ≡ false → rule R s t ≡ 0
+unfolding rule
+rule-none R s t e = rw e
+
+module _ (R : Rules) (s : ℕ) (h : s < R .switches) where
+  abbrev k : ℕ
+  k = lastStage R
+
+  abbrev added : Stages → ℕ
+  added f = count R (moved R adds f) s
+
+  abbrev remaining : Stages → ℕ
+  remaining f = count R (waits R removes f) s
+
+  -- ---- adding
+
+  -- the test of a tunnel that goes in is that of the count with it
+  add-turn : (i : ℕ) (f : Stages) (t : ℕ) → t < R .tunnels → 1000 * k * added f ≤ suc i * spare R s
+      → 1000 * k * added (turn R adds (suc i) f t) ≤ suc i * spare R s
+  unfolding goes
+  add-turn i f t l b =
+      ⊎-elim
+      (λ c.
+      let more = count-moved R s adds f t i l (c .0) in
+      rw (c .2)
+      (⊎-elim
+      (λ (e : inSet (R .via t) s ≡ true).
+      let now : added (given true t (suc i) f) ≡ added f + 1 = omega (arith, more, rule-one R s t e) in
+      rw now (within-at R (suc i) (λ s. count R (moved R adds f) s + 1) t (c .1) s h e))
+      (λ (e : inSet (R .via t) s ≡ false).
+      let now : added (given true t (suc i) f) ≡ added f = omega (arith, more, rule-none R s t e) in
+      rw now b)
+      (bool-cases (inSet (R .via t) s))))
+      (λ c. rw (c .1) b)
+      (turn-cases R adds (suc i) f t)
+
+  add-pass : (i : ℕ) (f : Stages) (n : ℕ) → n ≤ R .tunnels → 1000 * k * added f ≤ suc i * spare R s
+      → 1000 * k * added (pass R adds (suc i) f n) ≤ suc i * spare R s
+  unfolding pass
+  add-pass i f zero l b = b
+  add-pass i f (suc n) l b = add-turn i (pass R adds (suc i) f n) n (omega (arith, l)) (add-pass i f n (omega (arith, l)) b)
+
+  pub added-most : (i : ℕ) → 1000 * k * added (stages R i) ≤ i * spare R s
+  unfolding stages stage
+  added-most zero = ⊎-elim (λ (e : added (stages R 0) ≡ 0). rw e (omega arith)) (λ r. absurd (moved-is R adds (stages R 0) (r .0) (r .2) refl)) (count-who R s (moved R adds (stages R 0)))
+  added-most (suc i) =
+      let f = stages R i in
+      let n = R .tunnels in
+      let before : 1000 * k * added f ≤ suc i * spare R s = omega (arith, added-most i) in
+      rw (other-moved R removes adds (suc i) (pass R adds (suc i) f n) n s (λ e. omega (arith, e))) (add-pass i f n (omega arith) before)
+
+  -- ---- removing
+
+  -- of the tunnels passed, one that still waits across the switch was tested when no fewer remained
+  stayed : (i d : ℕ) (f : Stages) (n : ℕ) → suc i + d ≡ k → n ≤ R .tunnels → (u : ℕ) → u < n → waits R removes (pass R removes (suc i) f n) u ≡ true → inSet (R .via u) s ≡ true
+      → 1000 * k * remaining (pass R removes (suc i) f n) ≤ d * spare R s
+  unfolding pass goes
+  stayed i d f zero q l u b w e = absurd (omega (arith, b))
+  stayed i d f (suc n) q l u b w e =
+      let g : Stages = pass R removes (suc i) f n in
+      let rest : (v : ℕ) → v < n → waits R removes g v ≡ true → inSet (R .via v) s ≡ true → 1000 * k * remaining g ≤ d * spare R s
+      = stayed i d f n q (omega (arith, l)) in
+      ⊎-elim
+      (λ c.
+      let less = count-waits R s removes g n i (omega (arith, l)) (c .0) in
+      let w' : waits R removes (given true n (suc i) g) u ≡ true = rw (c .2) at w in
+      let fewer : remaining (given true n (suc i) g) ≤ remaining g = omega (arith, less) in
+      rw (c .2)
+      (⊎-elim
+      (λ (z : u ≡ n). absurd (omega (arith, waits-is R removes (given true n (suc i) g) u w' .1, given-at g n (suc i) u z)))
+      (λ (z : u < n). le-trans (mul-le-mul-left (1000 * k) fewer) (rest u z (given-waits R removes g n (suc i) u (λ y. omega (arith, y, z)) w') e))
+      (eq-or-lt-of-le (le-of-suc-le-suc b))))
+      (λ c.
+      let w' : waits R removes g u ≡ true = rw (c .1) at w in
+      rw (c .1)
+      (⊎-elim
+      (λ (z : u ≡ n).
+      let here : waits R removes g n ≡ true = rw z at w' in
+      let stays : not (within R (k - suc i) (count R (waits R removes g)) n) ≡ false = rw here at (c .0) in
+      let m : k - suc i ≡ d = omega (arith, q) in
+      rw m at (within-at R (k - suc i) (count R (waits R removes g)) n (not-false _ stays) s h (rw z at e)))
+      (λ (z : u < n). rest u z w' e)
+      (eq-or-lt-of-le (le-of-suc-le-suc b))))
+      (turn-cases R removes (suc i) g n)
+
+  pub remaining-most : (i d : ℕ) → i + d ≡ k → 1000 * count R (isKind R remove) s ≤ spare R s → 1000 * k * remaining (stages R i) ≤ d * spare R s
+  unfolding stages stage
+  remaining-most zero d q fits =
+      let e : d ≡ k = omega (arith, q) in
+      let few : remaining (stages R 0) ≤ count R (isKind R remove) s = omega (arith, count-kind R s removes (stages R 0)) in
+      rw e (omega (arith, mul-le-mul-left k fits, mul-le-mul-left (1000 * k) few))
+  remaining-most (suc i) d q fits =
+      let n = R .tunnels in
+      let g : Stages = pass R adds (suc i) (stages R i) n in
+      let last : Stages = pass R removes (suc i) g n in
+      ⊎-elim
+      (λ (e : remaining last ≡ 0). rw e (omega arith))
+      (λ r. stayed i d g n q (omega arith) (r .0) (r .1) (r .2) (r .3))
+      (count-who R s (waits R removes last))

@@ -1,0 +1,6 @@
+pub mod Counts
+pub mod Passes
+pub mod Bounds
+pub mod Finish
+pub mod Main
+pub mod Cases

@@ -1,0 +1,262 @@
+-- The claim, proved.
+use Prim.Native.Nat.{ℕ, zero, suc, _+_, _-_, _*_, _≤_, _<_}
+use mathlib.Core.Path.{_≡_, refl, sym, ap, _∙_}
+use mathlib.Core.Logic.{_≢_, _⊎_, inl, inr, ⊎-elim}
+use mathlib.Core.Bool.{Bool, true, false, not, _&&_, _||_, true≢false}
+use mathlib.Core.List.{List}
+use mathlib.Core.Option.{Option, none, some}
+use native.Mathlib.Nat.{mul-le-mul-right, le-of-mul-le-mul-left}
+use native.Mathlib.Omega.{arith}
+use lib.Dec.{ltb, eqb}
+use lib.ListN.{length}
+use borrow.Author.Tests.{ltb-true, ltb-false, lt-ltb, le-ltb, eqb-true, eqb-false, eq-eqb, ne-eqb}
+use Rattle.model.specs.Search.{onlyIf, orElse, first}
+use Rattle.model.specs.Listed.{listed}
+use Rattle.model.specs.Outcome.{good, unless, unfit, Place}
+use Rattle.model.proofs.Searches.{bool-cases, and-true, not-true, first-none, none-first, or-none, only-none}
+use Rattle.model.proofs.Listed.{listed-length, listed-at}
+use Rattle.lists.specs.Lists.{at}
+use Rattle.rules.specs.Rules.{Rules, keep, add, remove, isKind, count, lastStage, usable, spare}
+use Rattle.rules.specs.Stage.{adds, removes, Stages, moved, waits, stages, tooMany, unfitAt, staged}
+use Rattle.rules.specs.Lists.{rulesOf, GoodRules}
+use Rattle.rules.specs.Claim.{Valid, isDone, holds, whole, nothing, sofar, Safe, Claim}
+use Rattle.rules.proofs.Counts.{count-three}
+use Rattle.rules.proofs.Passes.{kind-is, is-kind, not-kind, is-waiting, is-moved, stages-le, stages-kept, given-early, given-late}
+use Rattle.rules.proofs.Bounds.{last-pos, last-slack, added-most, remaining-most}
+use Rattle.rules.proofs.Finish.{Fits, all-in, all-out}
+
+-- ---- where no refusal is due
+
+-- a list that is given is that of all stages, and both sets fit
+pub staged-good : (R : Rules) (l : List ℕ) → staged R ≡ good l → (first (R .switches) (unfitAt R) ≡ none) × (l ≡ listed (R .tunnels) (stages R (lastStage R)))
+unfolding staged
+staged-good R l e = go (first (R .switches) (unfitAt R)) e
+  where
+    go : (o : Option Place) → unless unfit o (good (listed (R .tunnels) (stages R (lastStage R)))) ≡ good l → (o ≡ none) × (l ≡ listed (R .tunnels) (stages R (lastStage R)))
+    go none e = (refl, cc)
+    go (some p) e = let z : _≡_ {A = ℕ} 0 1 = cc in absurd (omega arith)
+
+pub fits-none : (R : Rules) → first (R .switches) (unfitAt R) ≡ none → (s : ℕ) → s < R .switches
+    → (1000 * (count R (isKind R keep) s + count R (isKind R remove) s) ≤ usable R s) × (1000 * (count R (isKind R keep) s + count R (isKind R add) s) ≤ usable R s)
+unfolding unfitAt tooMany
+fits-none R e s h =
+    let z = or-none _ _ (first-none (unfitAt R) (R .switches) e s h) in (ltb-false _ _ (only-none _ _ (z .0)), ltb-false _ _ (only-none _ _ (z .1)))
+
+pub fits : (R : Rules) → first (R .switches) (unfitAt R) ≡ none → Fits R
+unfolding spare
+fits R e = record { new = λ s h. omega (arith, fits-none R e s h .1); old = λ s h. omega (arith, fits-none R e s h .0) }
+
+-- ---- two sums
+
+-- i parts of what is spare, the other d parts, and the kept ones are all that may be used
+free-sum : (i d x kept a r u : ℕ) → 1 ≤ i + d → 1000 * kept + x ≡ u → 1000 * (i + d) * a ≤ i * x → 1000 * (i + d) * r ≤ d * x → 1000 * (kept + a + r) ≤ u
+free-sum i d x kept a r u pos e ha hr =
+    le-of-mul-le-mul-left {k = i + d} (omega (arith, ap (λ (n : ℕ). (i + d) * n) e)) pos
+
+-- one part more is no more than the slack
+room-sum : (i d x kept a r slack room : ℕ) → 1 ≤ i + d → slack ≤ 1000 → 1000 ≤ suc (i + d) * slack → 1000 * kept + x ≡ (1000 - slack) * room
+    → 1000 * (i + d) * a ≤ suc i * x → 1000 * (i + d) * r ≤ d * x → kept + a + r ≤ room
+room-sum i d x kept a r slack room pos most ceil e ha hr =
+    let free : ℕ = 1000 - slack in
+    let both : free + slack ≡ 1000 = omega (arith, most) in
+    let product : (free + slack) * room ≡ 1000 * room = ap (λ (n : ℕ). n * room) both in
+    let slacks : 1000 * room ≤ suc (i + d) * slack * room = mul-le-mul-right room ceil in
+    let eq : 1000 * kept + x ≡ free * room = e in
+    le-of-mul-le-mul-left {k = 1000 * (i + d)}
+    (omega (arith, ha, hr, eq, slacks, ap (λ (n : ℕ). suc (i + d) * n) product, ap (λ (n : ℕ). (i + d) * n) eq)) (omega (arith, pos))
+
+-- ---- what is done
+
+module _ (f : Stages) (i : ℕ) (c : ℕ → Bool) (t : ℕ) where
+  done-by : isDone f i c t ≡ true → f t ≤ i
+  unfolding isDone
+  done-by e = go (bool-cases (ltb (f t) i)) e
+    where
+      go : (ltb (f t) i ≡ true) ⊎ (ltb (f t) i ≡ false) → (ltb (f t) i || (eqb (f t) i && c t)) ≡ true → f t ≤ i
+      go (inl z) e = omega (arith, ltb-true (f t) i z)
+      go (inr z) e = let here : (eqb (f t) i && c t) ≡ true = rw z at e in omega (arith, eqb-true (f t) i (and-true (eqb (f t) i) (c t) here .0))
+
+  not-done : isDone f i c t ≡ false → i ≤ f t
+  unfolding isDone
+  not-done e =
+      ⊎-elim (λ (z : ltb (f t) i ≡ true). absurd (true≢false (rw z at e))) (λ z. ltb-false (f t) i z) (bool-cases (ltb (f t) i))
+
+  is-done : f t < i → isDone f i c t ≡ true
+  unfolding isDone
+  is-done h = rw (lt-ltb (f t) i h)
+
+  later : i < f t → isDone f i c t ≡ false
+  unfolding isDone
+  later h = rw (le-ltb (f t) i (omega (arith, h)), ne-eqb (f t) i (λ e. omega (arith, e, h)))
+
+-- a stage that is whole
+whole-done : (f : Stages) (i t : ℕ) → f t ≤ i → isDone f i whole t ≡ true
+unfolding isDone
+whole-done f i t h =
+    ⊎-elim
+    (λ (z : ltb (f t) i ≡ true). rw z)
+    (λ (z : ltb (f t) i ≡ false). rw (z, eq-eqb (f t) i (omega (arith, h, ltb-false (f t) i z))))
+    (bool-cases (ltb (f t) i))
+
+whole-not : (f : Stages) (i t : ℕ) → isDone f i whole t ≡ false → i < f t
+whole-not f i t e =
+    ⊎-elim (λ z. ltb-true i (f t) z) (λ z. absurd (true≢false (sym (whole-done f i t (ltb-false i (f t) z)) ∙ e))) (bool-cases (ltb i (f t)))
+
+-- nothing of a stage
+none-not : (f : Stages) (i t : ℕ) → i ≤ f t → isDone f i nothing t ≡ false
+unfolding isDone
+none-not f i t h = rw (le-ltb (f t) i h) (no (eqb (f t) i))
+  where
+    no : (b : Bool) → (b && false) ≡ false
+    no true = refl
+    no false = refl
+
+-- ---- what the switches hold
+
+module _ (R : Rules) (f : Stages) (i : ℕ) (c : ℕ → Bool) (t : ℕ) where
+  held : holds R f i c t ≡ true
+      → (isKind R keep t ≡ true) ⊎ (((R .kind t ≡ add) × (isDone f i c t ≡ true)) ⊎ ((R .kind t ≡ remove) × (isDone f i c t ≡ false)))
+  unfolding holds
+  held e = go (bool-cases (isKind R keep t)) (bool-cases (isKind R add t && isDone f i c t)) e
+    where
+      go : (isKind R keep t ≡ true) ⊎ (isKind R keep t ≡ false) → ((isKind R add t && isDone f i c t) ≡ true) ⊎ ((isKind R add t && isDone f i c t) ≡ false)
+          → (isKind R keep t || (isKind R add t && isDone f i c t) || (isKind R remove t && not (isDone f i c t))) ≡ true
+          → (isKind R keep t ≡ true) ⊎ (((R .kind t ≡ add) × (isDone f i c t ≡ true)) ⊎ ((R .kind t ≡ remove) × (isDone f i c t ≡ false)))
+      go (inl a) b e = inl a
+      go (inr a) (inl b) e = let s = and-true (isKind R add t) (isDone f i c t) b in inr (inl (kind-is R add t (s .0), s .1))
+      go (inr a) (inr b) e =
+          let last : (isKind R remove t && not (isDone f i c t)) ≡ true = rw (a, b) at e in
+          let s = and-true (isKind R remove t) (not (isDone f i c t)) last in
+          inr (inr (kind-is R remove t (s .0), not-true (isDone f i c t) (s .1)))
+
+  -- of a tunnel of each kind
+  holds-kept : R .kind t ≡ keep → holds R f i c t ≡ true
+  unfolding holds
+  holds-kept e = rw (is-kind R keep t e)
+
+  holds-add : R .kind t ≡ add → holds R f i c t ≡ isDone f i c t
+  unfolding holds
+  holds-add e =
+      rw (not-kind R keep t (λ z. omega (arith, z, e)), is-kind R add t e, not-kind R remove t (λ z. omega (arith, z, e))) (or-none' (isDone f i c t))
+    where
+      or-none' : (b : Bool) → (b || false) ≡ b
+      or-none' true = refl
+      or-none' false = refl
+
+  holds-remove : R .kind t ≡ remove → holds R f i c t ≡ not (isDone f i c t)
+  unfolding holds
+  holds-remove e = rw (not-kind R keep t (λ z. omega (arith, z, e)), not-kind R add t (λ z. omega (arith, z, e)), is-kind R remove t e)
+
+three : (n : ℕ) → (keep ≤ n) × (n ≤ remove) → (n ≡ keep) ⊎ ((n ≡ add) ⊎ (n ≡ remove))
+three n h =
+    ⊎-elim (λ e. inl (eqb-true n keep e))
+    (λ a.
+    ⊎-elim (λ e. inr (inl (eqb-true n add e))) (λ b. inr (inr (omega (arith, h, eqb-false n keep a, eqb-false n add b)))) (bool-cases (eqb n add)))
+    (bool-cases (eqb n keep))
+
+-- ---- the stages of a list that is given
+
+module _ (R : Rules) (l : List ℕ) (v : Valid R) (g : staged R ≡ good l) where
+  abbrev k : ℕ
+  k = lastStage R
+
+  fit : Fits R
+  fit = fits R (staged-good R l g .0)
+
+  told : (t : ℕ) → t < R .tunnels → at l t ≡ stages R k t
+  told t h = ap (λ (m : List ℕ). at m t) (staged-good R l g .1) ∙ listed-at (R .tunnels) (stages R k) t h
+
+  added-some : (t : ℕ) → t < R .tunnels → R .kind t ≡ add → at l t ≢ 0
+  added-some t h e z = all-in R v fit t h e (sym (told t h) ∙ z)
+
+  removed-some : (t : ℕ) → t < R .tunnels → R .kind t ≡ remove → at l t ≢ 0
+  removed-some t h e z = all-out R v fit t h e (sym (told t h) ∙ z)
+
+  last-le : (t : ℕ) → t < R .tunnels → at l t ≤ k
+  last-le t h = omega (arith, told t h, stages-le R k t)
+
+  kept-used : (s : ℕ) → s < R .switches → 1000 * count R (isKind R keep) s + spare R s ≡ usable R s
+  unfolding spare
+  kept-used s h = omega (arith, fits-none R (staged-good R l g .0) s h .0)
+
+  -- the switches hold those kept, those added by the end of stage i, and those that remained after stage j
+  holds-most : (i j s : ℕ) (c : ℕ → Bool) → i ≤ k → j ≤ k → ((t : ℕ) → t < R .tunnels → isDone (at l) i c t ≡ false → j < at l t)
+      → count R (holds R (at l) i c) s ≤ count R (isKind R keep) s + count R (moved R adds (stages R i)) s + count R (waits R removes (stages R j)) s
+  holds-most i j s c hi hj out =
+      count-three R s (holds R (at l) i c) (isKind R keep) (moved R adds (stages R i)) (waits R removes (stages R j))
+      (λ t h e.
+      ⊎-elim inl
+      (⊎-elim
+      (λ a.
+      let early : stages R k t ≤ i = omega (arith, done-by (at l) i c t (a .1), told t h) in
+      inr (inl (is-moved R adds (stages R i) t (a .0) (λ z. all-in R v fit t h (a .0) (sym (given-early R i k t hi early) ∙ z)))))
+      (λ a.
+      let late : j < stages R k t = omega (arith, out t h (a .1), told t h) in
+      inr (inr (is-waiting R removes (stages R j) t (a .0) (given-late R j k t hj late)))))
+      (held R (at l) i c t e))
+
+  free : (i s : ℕ) → 1 ≤ i → i ≤ k → s < R .switches → 1000 * count R (holds R (at l) i whole) s ≤ usable R s
+  free i s lo hi h =
+      let d : ℕ = k - i in
+      let e : i + d ≡ k = omega (arith, hi) in
+      let all = holds-most i i s whole hi hi (λ t _ n. whole-not (at l) i t n) in
+      let sum = free-sum i d (spare R s) (count R (isKind R keep) s) (count R (moved R adds (stages R i)) s) (count R (waits R removes (stages R i)) s) (usable R s) (omega (arith, lo)) (kept-used s h)
+      (rw e (added-most R s h i)) (rw e (remaining-most R s h i d e (fit .old s h))) in
+      omega (arith, all, sum)
+
+  within : (i s : ℕ) → 1 ≤ i → i ≤ k → s < R .switches → (c : ℕ → Bool) → count R (holds R (at l) i c) s ≤ R .room s
+  unfolding usable
+  within zero s lo hi h c = absurd (omega (arith, lo))
+  within (suc j) s lo hi h c =
+      let d : ℕ = k - j in
+      let e : j + d ≡ k = omega (arith, hi) in
+      let all = holds-most (suc j) j s c hi (omega (arith, hi)) (λ t _ n. not-done (at l) (suc j) c t n) in
+      let sum = room-sum j d (spare R s) (count R (isKind R keep) s) (count R (moved R adds (stages R (suc j))) s) (count R (waits R removes (stages R j)) s) (R .slack) (R .room s)
+      (rw e (last-pos R (v .slack))) (omega (arith, v .slack .1)) (rw e (last-slack R (v .slack))) (kept-used s h)
+      (rw e (added-most R s h (suc j))) (rw e (remaining-most R s h j d e (fit .old s h))) in
+      omega (arith, all, sum)
+
+  begins : (t : ℕ) → t < R .tunnels → holds R (at l) 1 nothing t ≡ not (isKind R add t)
+  begins t h =
+      ⊎-elim
+      (λ e. holds-kept R (at l) 1 nothing t e ∙ sym (ap not (not-kind R add t (λ z. omega (arith, z, e)))))
+      (⊎-elim
+      (λ e. holds-add R (at l) 1 nothing t e ∙ none-not (at l) 1 t (omega (arith, added-some t h e)) ∙ sym (ap not (is-kind R add t e)))
+      (λ e. holds-remove R (at l) 1 nothing t e ∙ ap not (none-not (at l) 1 t (omega (arith, removed-some t h e))) ∙ sym (ap not (not-kind R add t (λ z. omega (arith, z, e))))))
+      (three (R .kind t) (v .kind t h))
+
+  ends : (t : ℕ) → t < R .tunnels → holds R (at l) k whole t ≡ not (isKind R remove t)
+  ends t h =
+      ⊎-elim
+      (λ e. holds-kept R (at l) k whole t e ∙ sym (ap not (not-kind R remove t (λ z. omega (arith, z, e)))))
+      (⊎-elim
+      (λ e. holds-add R (at l) k whole t e ∙ whole-done (at l) k t (last-le t h) ∙ sym (ap not (not-kind R remove t (λ z. omega (arith, z, e)))))
+      (λ e. holds-remove R (at l) k whole t e ∙ ap not (whole-done (at l) k t (last-le t h)) ∙ sym (ap not (is-kind R remove t e))))
+      (three (R .kind t) (v .kind t h))
+
+  safe : Safe R l
+  safe = record {
+    size = ap length (staged-good R l g .1) ∙ listed-length (R .tunnels) (stages R k);
+    kept = λ t h e. told t h ∙ stages-kept R k t e;
+    moved =
+        λ t h n.
+        let some : at l t ≢ 0 = ⊎-elim (λ e. absurd (n e)) (⊎-elim (added-some t h) (removed-some t h)) (three (R .kind t) (v .kind t h)) in (omega (arith, some), last-le t h);
+    begins = begins;
+    ends = ends;
+    free = free;
+    within = within;
+    moments = λ i s lo hi h m n. within i s lo hi h (sofar R m n);
+  }
+
+good-valid : (l : List ℕ) → GoodRules l → Valid (rulesOf l)
+unfolding rulesOf
+good-valid l g = record { slack = g .slack; via = g .via; kind = g .kind }
+
+given : (R : Rules) → ((s : ℕ) → s < R .switches → (tooMany R remove s ≡ false) × (tooMany R add s ≡ false)) → (l : List ℕ) × (staged R ≡ good l)
+unfolding staged unfitAt onlyIf orElse
+given R h =
+    let fit : first (R .switches) (unfitAt R) ≡ none = none-first (unfitAt R) (R .switches) (λ s l. rw (h s l .0, h s l .1)) in
+    (listed (R .tunnels) (stages R (lastStage R)), rw fit)
+
+pub claim : Claim
+claim = record { safe = safe; lists = λ input l g e. safe (rulesOf input) l (good-valid input g) e; given = given }

@@ -1,0 +1,4 @@
+pub mod Rules
+pub mod Stage
+pub mod Lists
+pub mod Claim

@@ -1,0 +1,111 @@
+-- Laws of the answer: where it starts from, what is refused, and what is answered and left.
+use Prim.Native.Nat.{ℕ, zero, suc, _≤_, _<_}
+use mathlib.Core.Path.{_≡_, refl, sym, ap, fun-ext, _∙_}
+use mathlib.Core.Logic.{⊎-elim}
+use mathlib.Core.Option.{Option, none, some}
+use mathlib.Core.List.{List, _++_}
+use native.Mathlib.Omega.{arith}
+use lib.ListN.{length, drop, replicate, length-replicate}
+use Rattle.model.specs.Limits.{mostTunnels}
+use Rattle.model.specs.Listed.{listed}
+use Rattle.model.specs.Outcome.{good, Place, unless, unfit}
+use Rattle.model.specs.Search.{first}
+use Rattle.model.proofs.Listed.{listed-length}
+use Rattle.lists.specs.Lists.{at}
+use Rattle.lists.specs.Answers.{done, withRoom, lent}
+use Rattle.lists.specs.declared.Answer.{Answer}
+use Rattle.lists.specs.declared.Answer.the-variants.{Done, Refused}
+use Rattle.lists.proofs.Rooms.{give-none, give-all}
+use Rattle.forms.proofs.Answers.{NotDone}
+use Rattle.rules.specs.Rules.{Rules, remove, isKind, count, lastStage}
+use Rattle.rules.specs.Stage.{Move, adds, removes, Stages, moved, stages, unfitAt, staged}
+use Rattle.rules.specs.Lists.{rulesOf}
+use Rattle.model.specs.Limits.{mostSwitches}
+use Rattle.staging.specs.Inner.{Counted, counts, StagedTo, told}
+use Rattle.rules.proofs.Counts.{count-who, count-kind}
+use Rattle.rules.proofs.Passes.{moved-is}
+
+-- ---- where the stages start from
+
+zeros : (n u : ℕ) → at (replicate n 0) u ≡ 0
+zeros zero u = refl
+zeros (suc n) zero = refl
+zeros (suc n) (suc u) = zeros n u
+
+module _ (l r a o : List ℕ) (ea : a ≡ replicate mostSwitches 0) (eo : o ≡ replicate mostTunnels 0)
+    (C : Counted (rulesOf l) (rulesOf l .tunnels) (isKind (rulesOf l) remove) r) where
+  abbrev R : Rules
+  R = rulesOf l
+
+  none-yet : (u : ℕ) → at o u ≡ 0
+  none-yet u = ap (λ (k : List ℕ). at k u) eo ∙ zeros mostTunnels u
+
+  none-moved : (m : Move) (s : ℕ) → count R (moved R m (at o)) s ≡ 0
+  none-moved m s = ⊎-elim (λ e. e) (λ w. absurd (moved-is R m (at o) (w .0) (w .2) (none-yet (w .0)))) (count-who R s (moved R m (at o)))
+
+  pub staged-none : StagedTo l 0 a r o
+  unfolding counts stages count
+  staged-none = record {
+    added = record {
+      size = ap length ea ∙ length-replicate {A = ℕ} mostSwitches 0;
+      each = λ s h. ap (λ (k : List ℕ). at k s) ea ∙ zeros mostSwitches s ∙ sym (none-moved adds s);
+    };
+    remaining = record { size = C .size; each = λ s h. omega (arith, C .each s h, count-kind R s removes (at o), none-moved removes s) };
+    size = ap length eo ∙ length-replicate {A = ℕ} mostTunnels 0;
+    stages = fun-ext none-yet;
+  }
+
+-- ---- what is answered, and what is left in the output
+
+told-none : (o : Option Place) (a : Answer) (n : ℕ) → a ≡ told o → a ≡ Done n → o ≡ none
+told-none none a n e d = refl
+told-none (some p) a n e d = let z : _≡_ {A = ℕ} 0 1 = cc in absurd (omega arith)
+
+module _ (l out : List ℕ) where
+  abbrev bad : Option Place
+  bad = first (rulesOf l .switches) (unfitAt (rulesOf l))
+
+  abbrev answer : Answer
+  answer = done (withRoom (length out) (staged (rulesOf l)))
+
+  abbrev after : List ℕ
+  after = lent (withRoom (length out) (staged (rulesOf l))) out
+
+  pub fits-done : (a : Answer) (n : ℕ) → a ≡ told bad → a ≡ Done n → bad ≡ none
+  fits-done a n e d = told-none bad a n e d
+
+  pub stage-refused : (a : Answer) → a ≡ told bad → NotDone a → (a ≡ answer) × (out ≡ after)
+  unfolding staged
+  stage-refused a e t = go bad e
+    where
+      go : (o : Option Place) → a ≡ told o
+          → let s = unless unfit o (good (listed (rulesOf l .tunnels) (stages (rulesOf l) (lastStage (rulesOf l))))) in
+          (a ≡ done (withRoom (length out) s)) × (out ≡ lent (withRoom (length out) s) out)
+      go none e = absurd (not-done a 0 e t)
+        where
+          not-done : (a : Answer) (n : ℕ) → a ≡ Done n → NotDone a → ⊥
+          not-done a n e t = ⊎-elim (λ k. omega arith) (λ k. omega arith) (rw e at t)
+      go (some p) e = (e, refl)
+
+  abbrev all : List ℕ
+  all = listed (rulesOf l .tunnels) (stages (rulesOf l) (lastStage (rulesOf l)))
+
+  all-length : length all ≡ at l 3
+  unfolding rulesOf
+  all-length = listed-length (at l 3) _
+
+  pub stage-none : bad ≡ none → length out < at l 3 → (Refused 10 (at l 3) 0 ≡ answer) × (out ≡ after)
+  unfolding staged
+  stage-none e h =
+      let g = give-none all out (rw all-length h) in
+      rw e (ap (λ (n : ℕ). Refused 10 n 0) (sym all-length) ∙ sym (g .0), sym (g .1))
+
+  pub stage-all : bad ≡ none → at l 3 ≤ length out → (f : Stages) → f ≡ stages (rulesOf l) (lastStage (rulesOf l))
+      → (Done (at l 3) ≡ answer) × (listed (at l 3) f ++ drop (at l 3) out ≡ after)
+  unfolding staged rulesOf
+  stage-all e h f q =
+      let g = give-all all out (rw all-length h) in
+      rw e (
+        ap Done (sym all-length) ∙ sym (g .0),
+        ap (λ (k : Stages). listed (at l 3) k ++ drop (at l 3) out) q ∙ ap (λ (n : ℕ). all ++ drop n out) (sym all-length) ∙ sym (g .1),
+      )

@@ -1,0 +1,182 @@
+-- `staging::room::judge` meets its contract: the switches passed are not too full, and what is spare at each is in its table. Assumes nothing.
+use Prim.Native.Nat.{_+_, _-_, _*_, _≤_, _<_}
+use native.Mathlib.Omega.{arith}
+use borrow.Author.Needs.{needs}
+use Rattle.lists.specs.Lists.{at}
+use Rattle.rules.specs.Rules.{count, usable}
+use Rattle.rules.specs.Lists.{rulesOf}
+use Rattle.staging.proofs.Fitting.{Judging, judging-start, judging-old, judging-new, judging-on, judging-end, usable-most, counts-most}
+use Rattle.staging.proofs.room.judge.Statement.{statement}
+use Rattle.staging.proofs.room.judge.Tie as tie
+
+abbrev Inv-loop : tie.InvT-loop
+Inv-loop list kept adding removing spares₀ free switches s₀ spares s = record { low : s ≤ switches; judging : Judging (rulesOf list) s spares }
+
+abbrev μ-loop : tie.MeasureT-loop
+μ-loop list kept adding removing spares₀ free switches s₀ spares s = switches - s
+
+shared-slice-read-free : tie.Need-shared-slice-read-free Inv-loop μ-loop
+shared-slice-read-free c = search needs
+
+sub-free : tie.Need-sub-free Inv-loop μ-loop
+sub-free c = search needs
+
+shared-slice-read-switches : tie.Need-shared-slice-read-switches Inv-loop μ-loop
+shared-slice-read-switches c = search needs
+
+loop-holds : tie.Need-loop-holds Inv-loop μ-loop
+loop-holds c = record { low = omega arith; judging = judging-start _ _ (c .before .before .pre .1) }
+
+-- what may be used of this switch, and its counts
+usable-here : (c : tie.In-loop Inv-loop μ-loop)
+    → let l = c .before .before .before .before .args .list .now in
+    (1000 - at l 1) * at l (4 + c .before .loop .s) ≤ 65535000
+unfolding usable rulesOf count
+usable-here c = usable-most _ (c .before .before .before .before .pre .0 .0) (c .before .loop .s) (c .loop-test .taken)
+
+counts-here : (c : tie.In-loop Inv-loop μ-loop)
+    → let a = c .before .before .before .before .args in
+    let t = c .before .loop .s in
+    (at (a .kept .now) t ≤ 96) × (at (a .adding .now) t ≤ 96) × (at (a .removing .now) t ≤ 96)
+counts-here c = let p = c .before .before .before .before .pre .0 in counts-most _ _ _ _ (p .0) (p .1) (c .before .loop .s) (c .loop-test .taken)
+
+add-usable : tie.Need-add-usable Inv-loop μ-loop
+add-usable c = search needs
+
+mul-usable : tie.Need-mul-usable Inv-loop μ-loop
+mul-usable c = search needs
+
+shared-slice-read-usable : tie.Need-shared-slice-read-usable Inv-loop μ-loop
+shared-slice-read-usable c = search needs
+
+mul-usable-2 : tie.Need-mul-usable-2 Inv-loop μ-loop
+mul-usable-2 c = record { fits = omega (arith, usable-here (c .before)) }
+
+mul-used : tie.Need-mul-used Inv-loop μ-loop
+mul-used c = search needs
+
+shared-slice-read-used : tie.Need-shared-slice-read-used Inv-loop μ-loop
+shared-slice-read-used c = search needs
+
+mul-used-2 : tie.Need-mul-used-2 Inv-loop μ-loop
+mul-used-2 c = record { fits = omega (arith, counts-here (c .before .before)) }
+
+mul-if1 : tie.Need-mul-if1 Inv-loop μ-loop
+mul-if1 c = search needs
+
+shared-slice-read-if1 : tie.Need-shared-slice-read-if1 Inv-loop μ-loop
+shared-slice-read-if1 c = search needs
+
+mul-if1-2 : tie.Need-mul-if1-2 Inv-loop μ-loop
+mul-if1-2 c = record { fits = omega (arith, counts-here (c .before .before .before)) }
+
+add-if1 : tie.Need-add-if1 Inv-loop μ-loop
+add-if1 c = record { fits = omega (arith, counts-here (c .before .before .before)) }
+
+same-length : tie.Need-same-length Inv-loop μ-loop
+same-length c = search needs
+
+returns : tie.Need-returns Inv-loop μ-loop
+unfolding usable rulesOf count
+returns c =
+    let l = c .before .before .before .before .before in
+    let s = l .before .before .before in
+    let k = s .pre .0 .1 in
+    let low : l .loop .s < 64 = omega (arith, c .before .before .before .before .loop-test .taken, s .pre .0 .0 .switches .1) in
+    judging-old _ _ _ _ _ _ (l .loop .inv .judging) (c .before .before .before .before .loop-test .taken) (k .keeps .each _ low) (k .leaves .each _ low) (k .enters .each _ low) (c .if1 .taken)
+
+mul-if2 : tie.Need-mul-if2 Inv-loop μ-loop
+mul-if2 c = search needs
+
+shared-slice-read-if2 : tie.Need-shared-slice-read-if2 Inv-loop μ-loop
+shared-slice-read-if2 c = search needs
+
+mul-if2-2 : tie.Need-mul-if2-2 Inv-loop μ-loop
+mul-if2-2 c = record { fits = omega (arith, counts-here (c .before .before .before .before .before)) }
+
+add-if2 : tie.Need-add-if2 Inv-loop μ-loop
+add-if2 c = record { fits = omega (arith, counts-here (c .before .before .before .before .before)) }
+
+same-length-2 : tie.Need-same-length-2 Inv-loop μ-loop
+same-length-2 c = search needs
+
+returns-2 : tie.Need-returns-2 Inv-loop μ-loop
+unfolding usable rulesOf count
+returns-2 c =
+    let l = c .before .before .before .before .before .before .before in
+    let s = l .before .before .before in
+    let k = s .pre .0 .1 in
+    let low : l .loop .s < 64 = omega (arith, c .before .before .before .before .before .before .loop-test .taken, s .pre .0 .0 .switches .1) in
+    judging-new _ _ _ _ _ _ (l .loop .inv .judging) (c .before .before .before .before .before .before .loop-test .taken) (k .keeps .each _ low) (k .leaves .each _ low) (k .enters .each _ low) (c .before .before .if1 .left) (c .if2 .taken)
+
+sub-spares : tie.Need-sub-spares Inv-loop μ-loop
+sub-spares c = search needs
+
+mul-spares : tie.Need-mul-spares Inv-loop μ-loop
+mul-spares c = search needs
+
+slice-write-spares : tie.Need-slice-write-spares Inv-loop μ-loop
+slice-write-spares c = search needs
+
+add-s : tie.Need-add-s Inv-loop μ-loop
+add-s c = search needs
+
+loop-less : tie.Need-loop-less Inv-loop μ-loop
+loop-less c = search needs
+
+loop-again : tie.Need-loop-again Inv-loop μ-loop
+unfolding usable rulesOf count
+loop-again c =
+    let l = c .before .before .before .before .before .before .before in
+    let s = l .before .before .before in
+    let k = s .pre .0 .1 in
+    let low : l .loop .s < 64 = omega (arith, c .before .before .before .before .before .before .loop-test .taken, s .pre .0 .0 .switches .1) in
+    record {
+      low = omega (arith, c .before .before .before .before .before .before .loop-test .taken);
+      judging = judging-on _ _ _ _ _ _ (l .loop .inv .judging) (c .before .before .before .before .before .before .loop-test .taken) (k .keeps .each _ low) (k .leaves .each _ low) (k .enters .each _ low) (c .before .before .if1 .left) (s .pre .0 .0 .switches .1) (usable-here (c .before .before .before .before .before .before)) (c .if2 .left);
+    }
+
+same-length-3 : tie.Need-same-length-3 Inv-loop μ-loop
+same-length-3 c = search needs
+
+returns-3 : tie.Need-returns-3 Inv-loop μ-loop
+unfolding usable rulesOf count
+returns-3 c = judging-end _ _ _ (c .before .loop .inv .judging) (omega (arith, c .loop-test .left, c .before .loop .inv .low))
+
+pub judge-spec : {M : Type 1} → statement M
+judge-spec =
+    tie.close
+    (tie.spec
+    Inv-loop
+    μ-loop
+    shared-slice-read-free
+    sub-free
+    shared-slice-read-switches
+    loop-holds
+    add-usable
+    mul-usable
+    shared-slice-read-usable
+    mul-usable-2
+    mul-used
+    shared-slice-read-used
+    mul-used-2
+    mul-if1
+    shared-slice-read-if1
+    mul-if1-2
+    add-if1
+    same-length
+    returns
+    mul-if2
+    shared-slice-read-if2
+    mul-if2-2
+    add-if2
+    same-length-2
+    returns-2
+    sub-spares
+    mul-spares
+    slice-write-spares
+    add-s
+    loop-less
+    loop-again
+    same-length-3
+    returns-3)

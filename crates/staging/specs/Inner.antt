@@ -1,0 +1,109 @@
+-- What the inner functions of the code ask for and give.
+use Prim.Native.Nat.{ℕ, _+_, _-_, _*_, _≤_, _<_}
+use mathlib.Core.Path.{_≡_}
+use mathlib.Core.Bool.{Bool, true, cond, not, _||_}
+use mathlib.Core.List.{List}
+use mathlib.Core.Option.{Option, none, some}
+use lib.Dec.{leb, eqb}
+use lib.ListN.{length}
+use Rattle.model.specs.Limits.{mostTunnels}
+use Rattle.model.specs.Sum.{sumOver}
+use Rattle.model.specs.Sets.{inSet}
+use Rattle.model.specs.Outcome.{Place, number, unfit}
+use Rattle.lists.specs.Lists.{at}
+use Rattle.lists.specs.declared.Answer.{Answer}
+use Rattle.lists.specs.declared.Answer.the-variants.{Done, Refused}
+use Rattle.rules.specs.Rules.{Rules, keep, add, remove, isKind, rule, lastStage, spare}
+use Rattle.rules.specs.Stage.{Move, adds, removes, kindOf, Stages, moved, waits, every, stages}
+use Rattle.rules.specs.Lists.{rulesOf, GoodRules}
+use Rattle.model.specs.Limits.{mostSwitches, mostRoom}
+
+-- ---- a number for each switch that there can be
+
+pub record Table (b : ℕ) (c : List ℕ) : Type 0 where
+  pub size : length c ≡ mostSwitches
+  pub most : (s : ℕ) → s < mostSwitches → at c s ≤ b
+
+-- the counts of those of the first n tunnels that a test picks
+pub record Counted (R : Rules) (n : ℕ) (p : ℕ → Bool) (c : List ℕ) : Type 0 where
+  pub size : length c ≡ mostSwitches
+  pub each : (s : ℕ) → s < mostSwitches → at c s ≡ sumOver n p (rule R s)
+
+-- the table c′ is c with `more` added and `less` taken off at the switches of a set
+pub record Shifted (via more less : ℕ) (c c′ : List ℕ) : Type 0 where
+  pub size : length c′ ≡ length c
+  pub each : (s : ℕ) → s < mostSwitches → at c′ s + cond (inSet via s) less 0 ≡ at c s + cond (inSet via s) more 0
+
+-- what a table of counts that is shifted must have room for
+pub record Shiftable (via more less : ℕ) (c : List ℕ) : Type 0 where
+  pub table : Table mostTunnels c
+  pub small : more ≤ 1
+  pub enough : (s : ℕ) → s < mostSwitches → inSet via s ≡ true → less ≤ at c s + more
+
+-- the spare of each switch
+pub record Spares (R : Rules) (x : List ℕ) : Type 0 where
+  pub table : Table (1000 * mostRoom) x
+  pub each : (s : ℕ) → s < R .switches → at x s ≡ spare R s
+
+-- ---- a pass
+
+-- the move of a kind
+unfoldable pub moveOf : ℕ → Move
+moveOf kind = cond (eqb kind add) adds removes
+
+-- those that a move's test counts: "added so far", "remaining"
+unfoldable pub counts : Rules → Move → Stages → ℕ → Bool
+counts R adds f = moved R adds f
+counts R removes f = waits R removes f
+
+-- how often X its bound is: "i × X", "(k - i) × X"
+unfoldable pub timesOf : Rules → Move → ℕ → ℕ
+timesOf R adds i = i
+timesOf R removes i = lastStage R - i
+
+pub record IsPass (R : Rules) (kind stage times unit : ℕ) : Type 0 where
+  pub moves : kind ≡ kindOf (moveOf kind)
+  pub inside : (1 ≤ stage) × (stage ≤ lastStage R)
+  pub bound : times ≡ timesOf R (moveOf kind) stage
+  pub scale : unit ≡ 1000 * lastStage R
+
+-- at each switch of a set, `unit` times the count, with `more`, is at most `times` what is spare
+unfoldable pub fitsAll : ℕ → ℕ → ℕ → ℕ → List ℕ → List ℕ → Bool
+fitsAll via unit more times c x = every mostSwitches (λ s. not (inSet via s) || leb (unit * (at c s + more)) (times * at x s))
+
+-- a tunnel to add goes where there is room, one to remove where there is not
+unfoldable pub goesBy : ℕ → Bool → Bool
+goesBy kind b = cond (eqb kind add) b (not b)
+
+-- what a turn and a pass start from: good tables, the spares, the stages so far in o, and the counts of the kind that moves in c
+pub record Ready (l x : List ℕ) (kind stage times unit : ℕ) (c o : List ℕ) : Type 0 where
+  pub good : GoodRules l
+  pub spares : Spares (rulesOf l) x
+  pub pass : IsPass (rulesOf l) kind stage times unit
+  pub counted : Counted (rulesOf l) (rulesOf l .tunnels) (counts (rulesOf l) (moveOf kind) (at o)) c
+  pub size : length o ≡ mostTunnels
+
+-- the stages g, in o, with their counts in c
+pub record Reached (l : List ℕ) (m : Move) (g : Stages) (c o : List ℕ) : Type 0 where
+  pub counted : Counted (rulesOf l) (rulesOf l .tunnels) (counts (rulesOf l) m (at o)) c
+  pub size : length o ≡ mostTunnels
+  pub stages : at o ≡ g
+
+-- the stages 1 to i are in o, with the counts of those added in a and of those remaining in r
+pub record StagedTo (l : List ℕ) (i : ℕ) (a r o : List ℕ) : Type 0 where
+  pub added : Counted (rulesOf l) (rulesOf l .tunnels) (counts (rulesOf l) adds (at o)) a
+  pub remaining : Counted (rulesOf l) (rulesOf l .tunnels) (counts (rulesOf l) removes (at o)) r
+  pub size : length o ≡ mostTunnels
+  pub stages : at o ≡ stages (rulesOf l) i
+
+-- the counts of each kind
+pub record Kinds (l kept adding removing : List ℕ) : Type 0 where
+  pub keeps : Counted (rulesOf l) (rulesOf l .tunnels) (isKind (rulesOf l) keep) kept
+  pub enters : Counted (rulesOf l) (rulesOf l .tunnels) (isKind (rulesOf l) add) adding
+  pub leaves : Counted (rulesOf l) (rulesOf l .tunnels) (isKind (rulesOf l) remove) removing
+
+-- ---- refusal 18
+
+abbrev pub told : Option Place → Answer
+told none = Done 0
+told (some p) = Refused (number unfit) (p .place) (p .second)
