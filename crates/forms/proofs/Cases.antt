@@ -10,11 +10,11 @@ use Rattle.model.specs.Rule as rule
 use Rattle.lists.specs.Lists.{networkOf}
 use Rattle.forms.specs.Bytes.{bytes}
 use Rattle.forms.specs.Line.{lines, onFirst, concat, fits, filter, plain, valuePart, beforeFeed, digitOf, numberFrom, decimalOf, hexOf}
-use Rattle.forms.specs.Form.{fieldOf, networkBody}
+use Rattle.forms.specs.Form.{fieldOf, networkBody, rulesBody}
 use Rattle.forms.specs.Read.{walkLines, readLines, addUp}
 use Rattle.forms.specs.Write.{render, renderFrom, digitsIn, widthOf, widthFrom}
-use Rattle.forms.specs.declared.form.Form.the-variants.{Network}
-use Rattle.forms.specs.Named.{readNetwork, readPlan}
+use Rattle.forms.specs.declared.form.Form.the-variants.{Network, Plan, Rules}
+use Rattle.forms.specs.Named.{readNetwork, readPlan, readRules}
 
 -- "One session in full"
 abbrev head : List ℕ
@@ -90,23 +90,23 @@ remark n = 35 ∷ (replicate (n - 1) 46 ++ (10 ∷ []))
 many : ℕ → List ℕ
 many n = concat (replicate n (remark 1))
 
--- texts, each with what it is read as, as a plan
-abbrev got : List (List ℕ × Outcome (List ℕ)) → List (Outcome (List ℕ))
-got [] = []
-got (c ∷ cs) = readPlan (c .0) ∷ got cs
+-- texts, each with what it is read as
+abbrev got : (List ℕ → Outcome (List ℕ)) → List (List ℕ × Outcome (List ℕ)) → List (Outcome (List ℕ))
+got read [] = []
+got read (c ∷ cs) = read (c .0) ∷ got read cs
 
 abbrev said : List (List ℕ × Outcome (List ℕ)) → List (Outcome (List ℕ))
 said [] = []
 said (c ∷ cs) = c .1 ∷ said cs
 
-abbrev Read : List (List ℕ × Outcome (List ℕ)) → Type 0
-Read cases = got cases ≡ said cases
+abbrev Read : (List ℕ → Outcome (List ℕ)) → List (List ℕ × Outcome (List ℕ)) → Type 0
+Read read cases = got read cases ≡ said cases
 
 abbrev numbers : Outcome (List ℕ)
 numbers = good (1 ∷ 1 ∷ 1 ∷ 0 ∷ [])
 
 -- remarks in order: first, between and last; of up to 80 bytes; up to 32 of them, and any byte but the line feed
-in-order : Read (
+in-order : Read readPlan (
     (remark 80 ++ short, numbers)
     ∷ (bytes "plan=1\n#\nparts=1\n#=1\n# why\nsteps=1\ntunnels=0\n", numbers)
     ∷ (short ++ remark 79, numbers)
@@ -116,7 +116,7 @@ unfolding short remark many readLines walkLines lines onFirst concat fits valueP
 in-order = refl
 
 -- one of 81 bytes, a 33rd and one that the text's end cuts meet 1 at their own line
-out-of-order : Read (
+out-of-order : Read readPlan (
     (remark 81 ++ short, refused malformed 1 1)
     ∷ (short ++ remark 81, refused malformed 5 1)
     ∷ (many 33 ++ short, refused malformed 33 1)
@@ -127,7 +127,7 @@ unfolding short remark many readLines walkLines lines onFirst concat fits valueP
 out-of-order = refl
 
 -- the first line that is not in order is named, remark or not, by its number in the text
-first-named : Read (
+first-named : Read readPlan (
     (remark 1, refused missing 2 1)
     ∷ (bytes "# why\nplan=1\nparts=01\n" ++ remark 81, refused malformed 3 1)
     ∷ (bytes "# why\nplan=1\nparts=51\n" ++ remark 81, refused outOfRange 3 1)
@@ -138,6 +138,32 @@ first-named : Read (
 unfolding short remark many readLines walkLines lines onFirst concat fits valuePart beforeFeed digitOf numberFrom decimalOf hexOf fieldOf
 first-named = refl
 
-without : plain (bytes "# why\nplan=1\n#\nparts=1\nsteps=1\n# so\ntunnels=0\n# cut") ≡ short
+without : plain Plan (bytes "# why\nplan=1\n#\nparts=1\nsteps=1\n# so\ntunnels=0\n# cut") ≡ short
 unfolding short lines onFirst filter concat
 without = refl
+
+-- ---- rule tables
+
+tables : List ℕ
+tables = bytes "rules=1\nslack=500\nswitches=2\ntunnels=1\nroom=65535\nroom=0\n"
+
+rules : List ℕ
+rules = 1 ∷ 500 ∷ 2 ∷ 1 ∷ 65535 ∷ 0 ∷ 3 ∷ 2 ∷ []
+
+rules-written : render Rules rules ≡ tables ++ bytes "via=0000000000000003\nkind=2\n"
+unfolding rules tables render renderFrom digitsIn widthOf widthFrom fieldOf rulesBody
+rules-written = refl
+
+-- there are no remarks: a line that begins with `#` is not in its form, or one too many
+rules-read : Read readRules (
+    (tables ++ bytes "via=0000000000000003\nkind=2\n", good rules)
+    ∷ ([], refused missing 1 2)
+    ∷ (bytes "# why\nrules=1\n", refused malformed 1 2)
+    ∷ (tables ++ bytes "via=0000000000000003\nkind=2\n#\n", refused missing 9 2)
+    ∷ (tables ++ bytes "via=3\nkind=2\n", refused malformed 7 2)
+    ∷ (tables ++ bytes "via=0000000000000004\nkind=2\n", refused outOfRange 7 2)
+    ∷ (tables ++ bytes "via=0000000000000003\nkind=4\n", refused outOfRange 8 2)
+    ∷ (tables ++ bytes "via=0000000000000003\nkind=2", refused malformed 8 2)
+    ∷ [])
+unfolding rules tables readLines walkLines lines onFirst fits valuePart beforeFeed digitOf numberFrom decimalOf hexOf fieldOf rulesBody addUp
+rules-read = refl

@@ -106,11 +106,11 @@ item-none form n done value next f = go (fieldOf form done)
     go End = refl
     go (Line k r) = rw (f k r)
 
-walk-long : (form : Form) (n c : ℕ) (done l : List ℕ) (ls : List (List ℕ)) → mostInRemark + 1 < length l → walkLines form n c done (l ∷ ls) ≡ stopped form n done (isRemark l)
+walk-long : (form : Form) (n c : ℕ) (done l : List ℕ) (ls : List (List ℕ)) → mostInRemark + 1 < length l → walkLines form n c done (l ∷ ls) ≡ stopped form n done (isRemark form l)
 unfolding walkLines stopped
 walk-long form n c done l ls h =
     rw (unfit c l (long-remark l h))
-    (ap (λ (o : Outcome (List ℕ)). cond (isRemark l) (refused malformed n (secondOf form)) o)
+    (ap (λ (o : Outcome (List ℕ)). cond (isRemark form l) (refused malformed n (secondOf form)) o)
     (item-none form n done (λ k r. lineValue k r l) (λ more. walkLines form (n + 1) c more ls) (λ k r. long-value k r l (omega arith))))
 
 -- ---- the walk over the lines of the first bytes
@@ -122,7 +122,7 @@ same-turn : (form : Form) (n c : ℕ) (done l : List ℕ) (xs ls : List (List �
     → walkLines form (n + 1) c (done ++ (v ∷ [])) xs ≡ walkLines form (n + 1) c (done ++ (v ∷ [])) ls)
     → walkLines form n c done (l ∷ xs) ≡ walkLines form n c done (l ∷ ls)
 unfolding walkLines
-same-turn form n c done l xs ls remark real = go (isRemark l)
+same-turn form n c done l xs ls remark real = go (isRemark form l)
   where
     passed : (a b : Bool) → ltb c mostRemarks ≡ a → fits l ≡ b
         → cond (a && b) (walkLines form (n + 1) (c + 1) done xs) (refused malformed n (secondOf form)) ≡ cond (a && b) (walkLines form (n + 1) (c + 1) done ls) (refused malformed n (secondOf form))
@@ -158,7 +158,7 @@ cut-walk form n c done (l ∷ ls) left s few h = go (decLt left (length l)) (λ 
     enough : mostInRemark + 1 < left
     enough = omega (arith, h, render-plain form done s, few)
 
-    first : isRemark (take left l) ≡ isRemark l
+    first : isRemark form (take left l) ≡ isRemark form l
     first = rw (getD-take left l 0 0 (omega (arith, enough)))
 
     go : Dec (left < length l)

@@ -12,11 +12,11 @@ use lib.ListN.{length, getD, take, length-append, List·getD-append}
 use lib.Seq.{take-take, getD-take, length-take-le, take-append-le, take-append-seam, getD-append-seam}
 use borrow.Author.Tests.{ne-eqb, lt-ltb, le-ltb, le-leb}
 use Rattle.model.proofs.Searches.{both}
-use Rattle.model.specs.Limits.{mostLinks, mostFlows, mostTunnels, mostSteps, mostAmount}
+use Rattle.model.specs.Limits.{mostLinks, mostFlows, mostTunnels, mostSteps, mostAmount, mostSwitches, mostRoom}
 use Rattle.lists.specs.Lists.{at}
-use Rattle.forms.specs.Form.{line, planBody, isHex, admitsOf, Sound, allows, fieldOf, networkLines, flowLines, tunnelLines, planLines, networkBody, mostNumbers, mostOf}
+use Rattle.forms.specs.Form.{line, planBody, isHex, admitsOf, Sound, allows, fieldOf, networkLines, flowLines, tunnelLines, planLines, rulesLines, ruleLines, networkBody, rulesBody, mostNumbers, mostOf}
 use Rattle.forms.specs.declared.form.Form.{Form}
-use Rattle.forms.specs.declared.form.Form.the-variants.{Network, Plan}
+use Rattle.forms.specs.declared.form.Form.the-variants.{Network, Plan, Rules}
 use Rattle.forms.specs.declared.form.Range.{Range}
 use Rattle.forms.specs.declared.form.Range.the-variants.{Between, ZeroOr, Below, Set}
 use Rattle.forms.specs.declared.form.Field.{Field}
@@ -131,6 +131,17 @@ module _ (l : List ℕ) (i : ℕ) (h : i ≤ length l) where
       let d : i - 4 ≡ n = omega arith in
       rw (length-take-le i l h, le-ltb i 4 k, getD-take i l 1 0 (omega arith), getD-take i l 2 0 (omega arith), getD-take i l 3 0 (omega arith), d)
 
+  pub rules-head-field : i < 4 → fieldOf Rules (take i l) ≡ getD rulesLines i End
+  unfolding fieldOf
+  rules-head-field k = rw (length-take-le i l h, lt-ltb i 4 k)
+
+  pub rules-body-field : (n : ℕ) → i ≡ 4 + n → fieldOf Rules (take i l) ≡ rulesBody (at l 2) (at l 3) n
+  unfolding fieldOf
+  rules-body-field n e =
+      let k : 4 ≤ i = omega arith in
+      let d : i - 4 ≡ n = omega arith in
+      rw (length-take-le i l h, le-ltb i 4 k, getD-take i l 2 0 (omega arith), getD-take i l 3 0 (omega arith), d)
+
 -- a sound network's number in the head, and after it
 module _ (l : List ℕ) (s : Sound Network l) where
   pub network-head-at : (i : ℕ) → i < length l → i < 6 → T (allows (getD networkLines i End) (at l i))
@@ -178,6 +189,46 @@ head-of-plan l s h =
       tunnels = between 0 mostTunnels (at l 3) (plan-head-at l s 3 (omega arith) (omega arith)) .1;
     }
 
+-- ---- the rule tables' fields
+
+module _ (switches tunnels : ℕ) where
+  pub body-room : (k : ℕ) → k < switches → rulesBody switches tunnels k ≡ line "room=" (Between 0 mostRoom)
+  unfolding rulesBody
+  body-room k h = rw (lt-ltb k switches h)
+
+  pub body-rule : (t j : ℕ) → t < tunnels → j < 2 → rulesBody switches tunnels (switches + 2 * t + j) ≡ getD (ruleLines switches) j End
+  unfolding rulesBody
+  body-rule t j h k =
+      let x : switches ≤ switches + 2 * t + j = omega arith in
+      let y : (switches + 2 * t + j - switches) / 2 < tunnels = omega arith in
+      let z : (switches + 2 * t + j - switches) % 2 ≡ j = omega arith in
+      rw (le-ltb (switches + 2 * t + j) switches x, lt-ltb ((switches + 2 * t + j - switches) / 2) tunnels y, z)
+
+  pub rules-end : (n : ℕ) → switches + 2 * tunnels ≤ n → rulesBody switches tunnels n ≡ End
+  unfolding rulesBody
+  rules-end n h =
+      let x : switches ≤ n = omega arith in
+      let y : tunnels ≤ (n - switches) / 2 = omega arith in
+      rw (le-ltb n switches x, le-ltb ((n - switches) / 2) tunnels y)
+
+module _ (l : List ℕ) (s : Sound Rules l) where
+  pub rules-head-at : (i : ℕ) → i < length l → i < 4 → T (allows (getD rulesLines i End) (at l i))
+  rules-head-at i h k = rw (rules-head-field l i (le-of-lt h) k) at (sound-at Rules l i h s)
+
+  pub rules-body-at : (n : ℕ) → 4 + n < length l → T (allows (rulesBody (at l 2) (at l 3) n) (at l (4 + n)))
+  rules-body-at n h = rw (rules-body-field l (4 + n) (le-of-lt h) n refl) at (sound-at Rules l (4 + n) h s)
+
+pub record RulesHead (l : List ℕ) : Type 0 where
+  pub switches : (1 ≤ at l 2) × (at l 2 ≤ mostSwitches)
+  pub tunnels : at l 3 ≤ mostTunnels
+
+pub head-of-rules : (l : List ℕ) → Sound Rules l → 4 ≤ length l → RulesHead l
+head-of-rules l s h =
+    record {
+      switches = between 1 mostSwitches (at l 2) (rules-head-at l s 2 (omega arith) (omega arith));
+      tunnels = between 0 mostTunnels (at l 3) (rules-head-at l s 3 (omega arith) (omega arith)) .1;
+    }
+
 -- ---- no list of a form is longer than the most numbers of the form
 
 full : (form : Form) (l : List ℕ) → Sound form l → mostOf form ≤ length l → fieldOf form l ≡ End
@@ -193,6 +244,10 @@ full Plan l s h =
     let x : (at l 2 - 1) * at l 3 ≤ length l - 4 = omega arith in
     let w : 4 ≤ length l = omega arith in
     simp (le-ltb (length l) 4 w, le-ltb (length l - 4) ((at l 2 - 1) * at l 3) x)
+full Rules l s h =
+    let b = head-of-rules l s (omega arith) in
+    let w : 4 ≤ length l = omega arith in
+    rw (le-ltb (length l) 4 w) (rules-end (at l 2) (at l 3) (length l - 4) (omega arith))
 
 pub room : (form : Form) (l : List ℕ) (v : ℕ) → Sound form l → T (allows (fieldOf form l) v) → length l < mostOf form
 room form l v s t = go (decLt (length l) (mostOf form))
@@ -206,6 +261,7 @@ room form l v s t = go (decLt (length l) (mostOf form))
 pub most-numbers : (form : Form) → mostOf form ≤ mostNumbers
 most-numbers Network = omega arith
 most-numbers Plan = omega arith
+most-numbers Rules = omega arith
 
 pub room-in-all : (form : Form) (l : List ℕ) (v : ℕ) → Sound form l → T (allows (fieldOf form l) v) → length l < mostNumbers
 room-in-all form l v s t = omega (arith, room form l v s t, most-numbers form)
@@ -244,6 +300,13 @@ low-body links flows tunnels n hl h =
     (low-cond (ltb ((m - 2 * flows) / 4) tunnels) (getD (tunnelLines links flows) ((m - 2 * flows) % 4) End) End
     (low-at (tunnelLines links flows) ((m - 2 * flows) % 4) (omega arith, (hl, (lit mostAmount tt, (lit mostAmount tt, tt))))) tt))
 
+low-rules : (switches tunnels n : ℕ) → switches ≤ mostSwitches → Low (rulesBody switches tunnels n)
+unfolding rulesBody
+low-rules switches tunnels n h =
+    let m : ℕ = n - switches in
+    low-cond (ltb n switches) (line "room=" (Between 0 mostRoom)) _ (lit mostRoom tt)
+    (low-cond (ltb (m / 2) tunnels) (getD (ruleLines switches) (m % 2) End) End (low-at (ruleLines switches) (m % 2) (h, (lit 3 tt, tt))) tt)
+
 low-field : (form : Form) (l : List ℕ) → Sound form l → Low (fieldOf form l)
 unfolding fieldOf
 low-field Network l s = go (decLt (length l) 6)
@@ -262,6 +325,13 @@ low-field Plan l s = go (decLt (length l) 4)
         let k : 4 ≤ length l = omega arith in
         let b = head-of-plan l s k in
         rw (le-ltb (length l) 4 k) (low-cond (ltb (length l - 4) (rowLines l)) (line "at=" (Between 0 (mostAmount * at l 1))) End (omega (arith, b .parts .1)) tt)
+low-field Rules l s = go (decLt (length l) 4)
+  where
+    go : Dec (length l < 4) → Low (fieldOf Rules l)
+    go (yes h) = rw (lt-ltb (length l) 4 h) (low-at rulesLines (length l) (lit 1 tt, (lit 500 tt, (lit 64 tt, (lit 96 tt, tt)))))
+    go (no h) =
+        let k : 4 ≤ length l = omega arith in
+        rw (le-ltb (length l) 4 k) (low-rules (at l 2) (at l 3) (length l - 4) (head-of-rules l s k .switches .1))
 
 -- no number that is written in decimal has more than 10 digits, and none in hexadecimal more than 16
 pub zero-or : (low high v : ℕ) → T (eqb v 0 || (leb low v && leb v high)) → v ≤ high

@@ -7,7 +7,7 @@ use lib.ListN.{length, getD}
 use Prim.Native.String.{String}
 use Rattle.forms.specs.Bytes.{bytes}
 use Rattle.forms.specs.Keys.{keys, prefixOf}
-use Rattle.forms.specs.Line.{isReal}
+use Rattle.forms.specs.Line.{hashed}
 use Rattle.model.proofs.Searches.{both}
 
 abbrev pub no-feeds : List ℕ → Bool
@@ -15,7 +15,7 @@ no-feeds [] = true
 no-feeds (b ∷ l) = not (eqb b 10) && no-feeds l
 
 abbrev plain : List ℕ → Bool
-plain k = leb (length k) 9 && (no-feeds k && isReal k)
+plain k = leb (length k) 9 && (no-feeds k && not (hashed k))
 
 abbrev all-plain : List String → Bool
 all-plain [] = true
@@ -27,14 +27,14 @@ plain-at (k ∷ ks) zero t = both (plain (bytes k)) (all-plain ks) t .0
 plain-at (k ∷ ks) (suc n) t = plain-at ks n (both (plain (bytes k)) (all-plain ks) t .1)
 
 module _ (k : ℕ) where
-  plain-key : T (leb (length (prefixOf k)) 9) × T (no-feeds (prefixOf k) && isReal (prefixOf k))
-  plain-key = both (leb (length (prefixOf k)) 9) (no-feeds (prefixOf k) && isReal (prefixOf k)) (plain-at keys k tt)
+  plain-key : T (leb (length (prefixOf k)) 9) × T (no-feeds (prefixOf k) && not (hashed (prefixOf k)))
+  plain-key = both (leb (length (prefixOf k)) 9) (no-feeds (prefixOf k) && not (hashed (prefixOf k))) (plain-at keys k tt)
 
   pub key-length : length (prefixOf k) ≤ 9
   key-length = leb→le _ _ (plain-key .0)
 
   pub key-no-feed : T (no-feeds (prefixOf k))
-  key-no-feed = both (no-feeds (prefixOf k)) (isReal (prefixOf k)) (plain-key .1) .0
+  key-no-feed = both (no-feeds (prefixOf k)) (not (hashed (prefixOf k))) (plain-key .1) .0
 
-  pub key-real : T (isReal (prefixOf k))
-  key-real = both (no-feeds (prefixOf k)) (isReal (prefixOf k)) (plain-key .1) .1
+  pub key-real : T (not (hashed (prefixOf k)))
+  key-real = both (no-feeds (prefixOf k)) (not (hashed (prefixOf k))) (plain-key .1) .1

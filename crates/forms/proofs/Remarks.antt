@@ -21,47 +21,48 @@ use Rattle.forms.specs.declared.form.Field.{Field}
 use Rattle.forms.specs.declared.form.Field.the-variants.{Line, End}
 use Rattle.forms.proofs.Lines.{last-feed}
 use Rattle.forms.proofs.Texts.{lines-concat, lines-filter}
+use Rattle.forms.proofs.Values.{and-false}
 
 -- ---- where there are no remarks
 
-pub lines-plain : (text : List ℕ) → lines (plain text) ≡ realLines text
-lines-plain text = lines-filter isReal text
+pub lines-plain : (form : Form) (text : List ℕ) → lines (plain form text) ≡ realLines form text
+lines-plain form text = lines-filter (isReal form) text
 
-filter-none : (ls : List (List ℕ)) → filter isRemark (filter isReal ls) ≡ []
+filter-none : (form : Form) (ls : List (List ℕ)) → filter (isRemark form) (filter (isReal form) ls) ≡ []
 unfolding filter
-filter-none [] = refl
-filter-none (l ∷ ls) = go (isRemark l) refl (filter-none ls)
+filter-none form [] = refl
+filter-none form (l ∷ ls) = go (isRemark form l) refl (filter-none form ls)
   where
-    go : (b : Bool) → isRemark l ≡ b → filter isRemark (filter isReal ls) ≡ []
-        → filter isRemark (cond (not b) (l ∷ filter isReal ls) (filter isReal ls)) ≡ []
+    go : (b : Bool) → isRemark form l ≡ b → filter (isRemark form) (filter (isReal form) ls) ≡ []
+        → filter (isRemark form) (cond (not b) (l ∷ filter (isReal form) ls) (filter (isReal form) ls)) ≡ []
     go true e h = h
     go false e h = rw e h
 
-pub plain-unremarked : (text : List ℕ) → remarks (plain text) ≡ []
-plain-unremarked text = rw (lines-plain text) (filter-none (lines text))
+pub plain-unremarked : (form : Form) (text : List ℕ) → remarks form (plain form text) ≡ []
+plain-unremarked form text = rw (lines-plain form text) (filter-none form (lines text))
 
 -- the first of some lines is no remark where none is
-none-first : (l : List ℕ) (ls : List (List ℕ)) → filter isRemark (l ∷ ls) ≡ [] → (isRemark l ≡ false) × (filter isRemark ls ≡ [])
+none-first : (form : Form) (l : List ℕ) (ls : List (List ℕ)) → filter (isRemark form) (l ∷ ls) ≡ [] → (isRemark form l ≡ false) × (filter (isRemark form) ls ≡ [])
 unfolding filter
-none-first l ls e = go (isRemark l) e
+none-first form l ls e = go (isRemark form l) e
   where
-    go : (b : Bool) → cond b (l ∷ filter isRemark ls) (filter isRemark ls) ≡ [] → (b ≡ false) × (filter isRemark ls ≡ [])
+    go : (b : Bool) → cond b (l ∷ filter (isRemark form) ls) (filter (isRemark form) ls) ≡ [] → (b ≡ false) × (filter (isRemark form) ls ≡ [])
     go true e = let z : _≡_ {A = ℕ} 0 1 = cc in absurd (omega arith)
     go false e = (refl, e)
 
-filter-all : (ls : List (List ℕ)) → filter isRemark ls ≡ [] → filter isReal ls ≡ ls
+filter-all : (form : Form) (ls : List (List ℕ)) → filter (isRemark form) ls ≡ [] → filter (isReal form) ls ≡ ls
 unfolding filter
-filter-all [] e = refl
-filter-all (l ∷ ls) e = let p = none-first l ls e in rw (p .0, filter-all ls (p .1))
+filter-all form [] e = refl
+filter-all form (l ∷ ls) e = let p = none-first form l ls e in rw (p .0, filter-all form ls (p .1))
 
-number-same : (ls : List (List ℕ)) (n : ℕ) → filter isRemark ls ≡ [] → numberIn ls n ≡ n
+number-same : (form : Form) (ls : List (List ℕ)) (n : ℕ) → filter (isRemark form) ls ≡ [] → numberIn form ls n ≡ n
 unfolding numberIn
-number-same [] n e = refl
-number-same (l ∷ ls) zero e = refl
-number-same (l ∷ ls) (suc n) e = let p = none-first l ls e in rw (p .0) (ap suc (number-same ls n (p .1)))
+number-same form [] n e = refl
+number-same form (l ∷ ls) zero e = refl
+number-same form (l ∷ ls) (suc n) e = let p = none-first form l ls e in rw (p .0) (ap suc (number-same form ls n (p .1)))
 
-pub plain-same : (text : List ℕ) → remarks text ≡ [] → plain text ≡ text
-plain-same text e = ap concat (filter-all (lines text) e) ∙ lines-concat text
+pub plain-same : (form : Form) (text : List ℕ) → remarks form text ≡ [] → plain form text ≡ text
+plain-same form text e = ap concat (filter-all form (lines text) e) ∙ lines-concat text
 
 -- ---- the walk, line by line
 
@@ -73,10 +74,10 @@ moved-same : (f : ℕ → ℕ) → ((n : ℕ) → f n ≡ n) → (o : Outcome (L
 moved-same f h (good l) = refl
 moved-same f h (refused c a b) = rw (h a)
 
-number-first : (ls : List (List ℕ)) → numberIn ls 0 ≡ 0
+number-first : (form : Form) (ls : List (List ℕ)) → numberIn form ls 0 ≡ 0
 unfolding numberIn
-number-first [] = refl
-number-first (l ∷ ls) = refl
+number-first form [] = refl
+number-first form (l ∷ ls) = refl
 
 -- no refusal of a walk is at a place before its first
 abbrev From : ℕ → Outcome (List ℕ) → Type 0
@@ -122,16 +123,16 @@ bad-later : (n : ℕ) (o : Option ℕ) → BadFrom (n + 1) o → BadFrom n o
 bad-later n none h = tt
 bad-later n (some b) h = omega arith
 
-bad-from : (n c : ℕ) (ls : List (List ℕ)) → BadFrom n (firstBad n c ls)
+bad-from : (form : Form) (n c : ℕ) (ls : List (List ℕ)) → BadFrom n (firstBad form n c ls)
 unfolding firstBad
-bad-from n c [] = tt
-bad-from n c (l ∷ ls) = go (isRemark l) (isPassed c l) (bad-from (n + 1) (c + 1) ls) (bad-from (n + 1) c ls)
+bad-from form n c [] = tt
+bad-from form n c (l ∷ ls) = go (isRemark form l) (isPassed c l) (bad-from form (n + 1) (c + 1) ls) (bad-from form (n + 1) c ls)
   where
-    go : (a b : Bool) → BadFrom (n + 1) (firstBad (n + 1) (c + 1) ls) → BadFrom (n + 1) (firstBad (n + 1) c ls)
-        → BadFrom n (cond a (cond b (firstBad (n + 1) (c + 1) ls) (some n)) (firstBad (n + 1) c ls))
-    go true true p q = bad-later n (firstBad (n + 1) (c + 1) ls) p
+    go : (a b : Bool) → BadFrom (n + 1) (firstBad form (n + 1) (c + 1) ls) → BadFrom (n + 1) (firstBad form (n + 1) c ls)
+        → BadFrom n (cond a (cond b (firstBad form (n + 1) (c + 1) ls) (some n)) (firstBad form (n + 1) c ls))
+    go true true p q = bad-later n (firstBad form (n + 1) (c + 1) ls) p
     go true false p q = omega arith
-    go false b p q = bad-later n (firstBad (n + 1) c ls) q
+    go false b p q = bad-later n (firstBad form (n + 1) c ls) q
 
 -- a turn at the place n is one at m, seen through F
 module _ (form : Form) (n m : ℕ) (done : List ℕ) (F : Outcome (List ℕ) → Outcome (List ℕ)) (seen : (c : Cause) → F (refused c m (secondOf form)) ≡ refused c n (secondOf form)) where
@@ -165,8 +166,8 @@ module _ (form : Form) (n m : ℕ) (done : List ℕ) (F : Outcome (List ℕ) →
       by-field (Line k r) f = by-value k r f (value k r) refl
 
 -- the lines that are left, of which the first has the number n and the first real one is the real line m
-abbrev Numbered : (ℕ → ℕ) → ℕ → ℕ → List (List ℕ) → Type 0
-Numbered f n m ls = (j : ℕ) → f (m + j) + 1 ≡ n + numberIn ls (suc j)
+abbrev Numbered : Form → (ℕ → ℕ) → ℕ → ℕ → List (List ℕ) → Type 0
+Numbered form f n m ls = (j : ℕ) → f (m + j) + 1 ≡ n + numberIn form ls (suc j)
 
 first-number : (f : ℕ → ℕ) (n m k : ℕ) → f (m + 0) + 1 ≡ n + suc k → k ≡ 0 → f m ≡ n
 first-number f n m k e z =
@@ -174,42 +175,42 @@ first-number f n m k e z =
     let w : f m + 1 ≡ n + suc k = rw o at e in
     omega arith
 
-module _ (form : Form) (f : ℕ → ℕ) (n m c : ℕ) (done l : List ℕ) (ls : List (List ℕ)) (numbered : Numbered f n m (l ∷ ls)) where
+module _ (form : Form) (f : ℕ → ℕ) (n m c : ℕ) (done l : List ℕ) (ls : List (List ℕ)) (numbered : Numbered form f n m (l ∷ ls)) where
   abbrev s : ℕ
   s = secondOf form
 
   -- what the rest is read as is what its real lines are, seen through this
   abbrev sight : ℕ → Outcome (List ℕ) → Outcome (List ℕ)
-  sight before o = orEarlier s (firstBad (n + 1) before ls) (moved f o)
+  sight before o = orEarlier s (firstBad form (n + 1) before ls) (moved f o)
 
-  turn-remark : isRemark l ≡ true → (b : Bool) → isPassed c l ≡ b
-      → (Numbered f (n + 1) m ls → walkLines form (n + 1) (c + 1) done ls ≡ sight (c + 1) (walk lineValue form m done (filter isReal ls)))
-      → walkLines form n c done (l ∷ ls) ≡ orEarlier s (firstBad n c (l ∷ ls)) (moved f (walk lineValue form m done (filter isReal (l ∷ ls))))
+  turn-remark : isRemark form l ≡ true → (b : Bool) → isPassed c l ≡ b
+      → (Numbered form f (n + 1) m ls → walkLines form (n + 1) (c + 1) done ls ≡ sight (c + 1) (walk lineValue form m done (filter (isReal form) ls)))
+      → walkLines form n c done (l ∷ ls) ≡ orEarlier s (firstBad form n c (l ∷ ls)) (moved f (walk lineValue form m done (filter (isReal form) (l ∷ ls))))
   unfolding walkLines filter numberIn firstBad
   turn-remark e true ok ih =
-      let k : Numbered f (n + 1) m ls = λ j. let x : f (m + j) + 1 ≡ n + suc (numberIn ls (suc j)) = rw e at (numbered j) in omega (arith, x) in
+      let k : Numbered form f (n + 1) m ls = λ j. let x : f (m + j) + 1 ≡ n + suc (numberIn form ls (suc j)) = rw e at (numbered j) in omega (arith, x) in
       rw (e, ok) (ih k)
-  turn-remark e false ok ih = rw (e, ok) (go (walk lineValue form m done (filter isReal ls)) (walk-from form m done (filter isReal ls)))
+  turn-remark e false ok ih = rw (e, ok) (go (walk lineValue form m done (filter (isReal form) ls)) (walk-from form m done (filter (isReal form) ls)))
     where
       go : (o : Outcome (List ℕ)) → From m o → refused malformed n s ≡ orEarlier s (some n) (moved f o)
       go (good g) h = refl
       go (refused k place second) h =
           let p : m + (place - m) ≡ place = omega arith in
-          let x : f place + 1 ≡ n + suc (numberIn ls (suc (place - m))) = rw (e, p) at (numbered (place - m)) in
+          let x : f place + 1 ≡ n + suc (numberIn form ls (suc (place - m))) = rw (e, p) at (numbered (place - m)) in
           rw (le-ltb (f place) n (omega (arith, x)))
 
-  turn-real : isRemark l ≡ false
-      → ((more : List ℕ) → Numbered f (n + 1) (m + 1) ls → walkLines form (n + 1) c more ls ≡ sight c (walk lineValue form (m + 1) more (filter isReal ls)))
-      → walkLines form n c done (l ∷ ls) ≡ orEarlier s (firstBad n c (l ∷ ls)) (moved f (walk lineValue form m done (filter isReal (l ∷ ls))))
+  turn-real : isRemark form l ≡ false
+      → ((more : List ℕ) → Numbered form f (n + 1) (m + 1) ls → walkLines form (n + 1) c more ls ≡ sight c (walk lineValue form (m + 1) more (filter (isReal form) ls)))
+      → walkLines form n c done (l ∷ ls) ≡ orEarlier s (firstBad form n c (l ∷ ls)) (moved f (walk lineValue form m done (filter (isReal form) (l ∷ ls))))
   unfolding walkLines walk filter numberIn firstBad
   turn-real e ih =
-      let k : Numbered f (n + 1) (m + 1) ls =
-      λ j. let x : f (m + suc j) + 1 ≡ n + suc (numberIn ls (suc j)) = rw e at (numbered (suc j)) in rw (next m j) (omega (arith, x)) in
-      let z : f (m + 0) + 1 ≡ n + suc (numberIn ls 0) = rw e at (numbered 0) in
-      let at : f m ≡ n = first-number f n m (numberIn ls 0) z (number-first ls) in
+      let k : Numbered form f (n + 1) (m + 1) ls =
+      λ j. let x : f (m + suc j) + 1 ≡ n + suc (numberIn form ls (suc j)) = rw e at (numbered (suc j)) in rw (next m j) (omega (arith, x)) in
+      let z : f (m + 0) + 1 ≡ n + suc (numberIn form ls 0) = rw e at (numbered 0) in
+      let at : f m ≡ n = first-number f n m (numberIn form ls 0) z (number-first form ls) in
       rw e
-      (item-seen form n m done (sight c) (λ k. rw at (go k (firstBad (n + 1) c ls) (bad-from (n + 1) c ls))) (λ k r. lineValue k r l)
-      (λ more. walkLines form (n + 1) c more ls) (λ more. walk lineValue form (m + 1) more (filter isReal ls)) (λ _ _ v _ _ _. ih (done ++ (v ∷ [])) k))
+      (item-seen form n m done (sight c) (λ k. rw at (go k (firstBad form (n + 1) c ls) (bad-from form (n + 1) c ls))) (λ k r. lineValue k r l)
+      (λ more. walkLines form (n + 1) c more ls) (λ more. walk lineValue form (m + 1) more (filter (isReal form) ls)) (λ _ _ v _ _ _. ih (done ++ (v ∷ [])) k))
     where
       next : (m j : ℕ) → m + 1 + j ≡ m + suc j
       next m j = omega arith
@@ -218,26 +219,26 @@ module _ (form : Form) (f : ℕ → ℕ) (n m c : ℕ) (done l : List ℕ) (ls :
       go k none h = refl
       go k (some b) h = rw (lt-ltb n b (omega arith))
 
-by-turns : (form : Form) (f : ℕ → ℕ) (n m c : ℕ) (done : List ℕ) (ls : List (List ℕ)) → Numbered f n m ls
-    → walkLines form n c done ls ≡ orEarlier (secondOf form) (firstBad n c ls) (moved f (walk lineValue form m done (filter isReal ls)))
+by-turns : (form : Form) (f : ℕ → ℕ) (n m c : ℕ) (done : List ℕ) (ls : List (List ℕ)) → Numbered form f n m ls
+    → walkLines form n c done ls ≡ orEarlier (secondOf form) (firstBad form n c ls) (moved f (walk lineValue form m done (filter (isReal form) ls)))
 unfolding walkLines walk filter numberIn firstBad
 by-turns form f n m c done [] numbered =
     let at : f m ≡ n = first-number f n m 0 (numbered 0) refl in
     end-seen form n m done (moved f) (λ k. rw at) refl
-by-turns form f n m c done (l ∷ ls) numbered = go (isRemark l) refl (λ more. by-turns form f (n + 1) (m + 1) c more ls) (by-turns form f (n + 1) m (c + 1) done ls)
+by-turns form f n m c done (l ∷ ls) numbered = go (isRemark form l) refl (λ more. by-turns form f (n + 1) (m + 1) c more ls) (by-turns form f (n + 1) m (c + 1) done ls)
   where
-    go : (b : Bool) → isRemark l ≡ b
-        → ((more : List ℕ) → Numbered f (n + 1) (m + 1) ls → walkLines form (n + 1) c more ls ≡ orEarlier (secondOf form) (firstBad (n + 1) c ls) (moved f (walk lineValue form (m + 1) more (filter isReal ls))))
-        → (Numbered f (n + 1) m ls → walkLines form (n + 1) (c + 1) done ls ≡ orEarlier (secondOf form) (firstBad (n + 1) (c + 1) ls) (moved f (walk lineValue form m done (filter isReal ls))))
-        → walkLines form n c done (l ∷ ls) ≡ orEarlier (secondOf form) (firstBad n c (l ∷ ls)) (moved f (walk lineValue form m done (filter isReal (l ∷ ls))))
+    go : (b : Bool) → isRemark form l ≡ b
+        → ((more : List ℕ) → Numbered form f (n + 1) (m + 1) ls → walkLines form (n + 1) c more ls ≡ orEarlier (secondOf form) (firstBad form (n + 1) c ls) (moved f (walk lineValue form (m + 1) more (filter (isReal form) ls))))
+        → (Numbered form f (n + 1) m ls → walkLines form (n + 1) (c + 1) done ls ≡ orEarlier (secondOf form) (firstBad form (n + 1) (c + 1) ls) (moved f (walk lineValue form m done (filter (isReal form) ls))))
+        → walkLines form n c done (l ∷ ls) ≡ orEarlier (secondOf form) (firstBad form n c (l ∷ ls)) (moved f (walk lineValue form m done (filter (isReal form) (l ∷ ls))))
     go true e real remark = turn-remark form f n m c done l ls numbered e (isPassed c l) refl remark
     go false e real remark = turn-real form f n m c done l ls numbered e real
 
 -- what a text is read as, by its real lines and the first remark that is not in order
 read-by-turns : (form : Form) (text : List ℕ)
-    → readLines form text ≡ orEarlier (secondOf form) (firstBad 1 0 (lines text)) (moved (numberIn (lines text)) (walk lineValue form 1 [] (realLines text)))
+    → readLines form text ≡ orEarlier (secondOf form) (firstBad form 1 0 (lines text)) (moved (numberIn form (lines text)) (walk lineValue form 1 [] (realLines form text)))
 unfolding readLines
-read-by-turns form text = by-turns form (numberIn (lines text)) 1 1 0 [] (lines text) (λ j. rw (one j) (omega arith))
+read-by-turns form text = by-turns form (numberIn form (lines text)) 1 1 0 [] (lines text) (λ j. rw (one j) (omega arith))
   where
     one : (j : ℕ) → 1 + j ≡ suc j
     one j = omega arith
@@ -252,28 +253,28 @@ is-true : (b : Bool) → T b → b ≡ true
 is-true true t = refl
 is-true false t = absurd t
 
-none-bad : (n c : ℕ) (ls : List (List ℕ)) → Ordered c (filter isRemark ls) → firstBad n c ls ≡ none
+none-bad : (form : Form) (n c : ℕ) (ls : List (List ℕ)) → Ordered c (filter (isRemark form) ls) → firstBad form n c ls ≡ none
 unfolding filter firstBad
-none-bad n c [] o = refl
-none-bad n c (l ∷ ls) o = go (isRemark l) o (none-bad (n + 1) (c + 1) ls) (none-bad (n + 1) c ls)
+none-bad form n c [] o = refl
+none-bad form n c (l ∷ ls) o = go (isRemark form l) o (none-bad form (n + 1) (c + 1) ls) (none-bad form (n + 1) c ls)
   where
-    go : (b : Bool) → Ordered c (cond b (l ∷ filter isRemark ls) (filter isRemark ls)) → (Ordered (c + 1) (filter isRemark ls) → firstBad (n + 1) (c + 1) ls ≡ none)
-        → (Ordered c (filter isRemark ls) → firstBad (n + 1) c ls ≡ none)
-        → cond b (cond (isPassed c l) (firstBad (n + 1) (c + 1) ls) (some n)) (firstBad (n + 1) c ls) ≡ none
+    go : (b : Bool) → Ordered c (cond b (l ∷ filter (isRemark form) ls) (filter (isRemark form) ls)) → (Ordered (c + 1) (filter (isRemark form) ls) → firstBad form (n + 1) (c + 1) ls ≡ none)
+        → (Ordered c (filter (isRemark form) ls) → firstBad form (n + 1) c ls ≡ none)
+        → cond b (cond (isPassed c l) (firstBad form (n + 1) (c + 1) ls) (some n)) (firstBad form (n + 1) c ls) ≡ none
     go true o remark real =
-        let q = both (fits l) (allFit (filter isRemark ls)) (o .1) in
+        let q = both (fits l) (allFit (filter (isRemark form) ls)) (o .1) in
         rw (lt-ltb c mostRemarks (omega (arith, o .0)), is-true (fits l) (q .0)) (remark (omega (arith, o .0), q .1))
     go false o remark real = real o
 
-bad-none : (n c : ℕ) (ls : List (List ℕ)) → c ≤ mostRemarks → firstBad n c ls ≡ none → Ordered c (filter isRemark ls)
+bad-none : (form : Form) (n c : ℕ) (ls : List (List ℕ)) → c ≤ mostRemarks → firstBad form n c ls ≡ none → Ordered c (filter (isRemark form) ls)
 unfolding filter firstBad
-bad-none n c [] h e = (omega arith, tt)
-bad-none n c (l ∷ ls) h e = go (isRemark l) (ltb c mostRemarks) (fits l) refl refl e (bad-none (n + 1) (c + 1) ls) (bad-none (n + 1) c ls h)
+bad-none form n c [] h e = (omega arith, tt)
+bad-none form n c (l ∷ ls) h e = go (isRemark form l) (ltb c mostRemarks) (fits l) refl refl e (bad-none form (n + 1) (c + 1) ls) (bad-none form (n + 1) c ls h)
   where
-    go : (b x y : Bool) → ltb c mostRemarks ≡ x → fits l ≡ y → cond b (cond (x && y) (firstBad (n + 1) (c + 1) ls) (some n)) (firstBad (n + 1) c ls) ≡ none
-        → (c + 1 ≤ mostRemarks → firstBad (n + 1) (c + 1) ls ≡ none → Ordered (c + 1) (filter isRemark ls))
-        → (firstBad (n + 1) c ls ≡ none → Ordered c (filter isRemark ls))
-        → Ordered c (cond b (l ∷ filter isRemark ls) (filter isRemark ls))
+    go : (b x y : Bool) → ltb c mostRemarks ≡ x → fits l ≡ y → cond b (cond (x && y) (firstBad form (n + 1) (c + 1) ls) (some n)) (firstBad form (n + 1) c ls) ≡ none
+        → (c + 1 ≤ mostRemarks → firstBad form (n + 1) (c + 1) ls ≡ none → Ordered (c + 1) (filter (isRemark form) ls))
+        → (firstBad form (n + 1) c ls ≡ none → Ordered c (filter (isRemark form) ls))
+        → Ordered c (cond b (l ∷ filter (isRemark form) ls) (filter (isRemark form) ls))
     go true true true u w e remark real =
         let k : c < mostRemarks = ltb→lt c mostRemarks (rw u tt) in
         let p = remark (omega arith) e in
@@ -282,22 +283,22 @@ bad-none n c (l ∷ ls) h e = go (isRemark l) (ltb c mostRemarks) (fits l) refl 
     go true false y u w e remark real = absurd (Option·some-ne-none n e)
     go false x y u w e remark real = real e
 
-module _ (text : List ℕ) where
-  order-none : InOrder text → firstBad 1 0 (lines text) ≡ none
-  order-none o = none-bad 1 0 (lines text) (omega (arith, o .few), o .fit)
+module _ (form : Form) (text : List ℕ) where
+  order-none : InOrder form text → firstBad form 1 0 (lines text) ≡ none
+  order-none o = none-bad form 1 0 (lines text) (omega (arith, o .few), o .fit)
 
-  none-order : firstBad 1 0 (lines text) ≡ none → InOrder text
-  none-order e = let p = bad-none 1 0 (lines text) (omega arith) e in record { few = omega (arith, p .0); fit = p .1 }
+  none-order : firstBad form 1 0 (lines text) ≡ none → InOrder form text
+  none-order e = let p = bad-none form 1 0 (lines text) (omega arith) e in record { few = omega (arith, p .0); fit = p .1 }
 
 -- the real lines of a text are read, and a refusal's place is moved
-pub read-passed : (form : Form) (text : List ℕ) → InOrder text → readLines form text ≡ moved (numberIn (lines text)) (walk lineValue form 1 [] (realLines text))
-read-passed form text o = read-by-turns form text ∙ rw (order-none text o)
+pub read-passed : (form : Form) (text : List ℕ) → InOrder form text → readLines form text ≡ moved (numberIn form (lines text)) (walk lineValue form 1 [] (realLines form text))
+read-passed form text o = read-by-turns form text ∙ rw (order-none form text o)
 
-pub read-unremarked : (form : Form) (text : List ℕ) → remarks text ≡ [] → readLines form text ≡ walk lineValue form 1 [] (lines text)
+pub read-unremarked : (form : Form) (text : List ℕ) → remarks form text ≡ [] → readLines form text ≡ walk lineValue form 1 [] (lines text)
 read-unremarked form text e =
     read-passed form text (record { few = rw e (omega arith); fit = rw e tt })
-    ∙ moved-same (numberIn (lines text)) (λ n. number-same (lines text) n e) _
-    ∙ ap (walk lineValue form 1 []) (filter-all (lines text) e)
+    ∙ moved-same (numberIn form (lines text)) (λ n. number-same form (lines text) n e) _
+    ∙ ap (walk lineValue form 1 []) (filter-all form (lines text) e)
 
 -- a text that is read has its remarks in order, and its real lines are read
 or-good : (s : ℕ) (b : Option ℕ) (o : Outcome (List ℕ)) (g : List ℕ) → orEarlier s b o ≡ good g → (b ≡ none) × (o ≡ good g)
@@ -310,31 +311,27 @@ or-good s (some n) (refused c place second) g e = go (ltb place n) e
     go false e = let z : _≡_ {A = ℕ} 0 1 = cc in absurd (omega arith)
 
 module _ (form : Form) (text g : List ℕ) (e : readLines form text ≡ good g) where
-  turns-good : (firstBad 1 0 (lines text) ≡ none) × (moved (numberIn (lines text)) (walk lineValue form 1 [] (realLines text)) ≡ good g)
-  turns-good = or-good (secondOf form) (firstBad 1 0 (lines text)) _ g (sym (read-by-turns form text) ∙ e)
+  turns-good : (firstBad form 1 0 (lines text) ≡ none) × (moved (numberIn form (lines text)) (walk lineValue form 1 [] (realLines form text)) ≡ good g)
+  turns-good = or-good (secondOf form) (firstBad form 1 0 (lines text)) _ g (sym (read-by-turns form text) ∙ e)
 
-  pub read-ordered : InOrder text
-  read-ordered = none-order text (turns-good .0)
+  pub read-ordered : InOrder form text
+  read-ordered = none-order form text (turns-good .0)
 
-  pub read-real : walk lineValue form 1 [] (realLines text) ≡ good g
-  read-real = moved-good (numberIn (lines text)) _ g (turns-good .1)
+  pub read-real : walk lineValue form 1 [] (realLines form text) ≡ good g
+  read-real = moved-good (numberIn form (lines text)) _ g (turns-good .1)
 
-plain-read : (form : Form) (text : List ℕ) → readLines form (plain text) ≡ walk lineValue form 1 [] (realLines text)
-plain-read form text = read-unremarked form (plain text) (plain-unremarked text) ∙ ap (walk lineValue form 1 []) (lines-plain text)
+plain-read : (form : Form) (text : List ℕ) → readLines form (plain form text) ≡ walk lineValue form 1 [] (realLines form text)
+plain-read form text = read-unremarked form (plain form text) (plain-unremarked form text) ∙ ap (walk lineValue form 1 []) (lines-plain form text)
 
 pub remarked : (form : Form) → Remarked form
 remarked form =
     record {
-      unremarked = λ text e. (plain-same text e, read-unremarked form text e);
-      plain-unremarked = plain-unremarked;
+      unremarked = λ text e. (plain-same form text e, read-unremarked form text e);
+      plain-unremarked = plain-unremarked form;
       passed-over = λ text o. rw (plain-read form text) (read-passed form text o);
       in-turn = λ text. rw (plain-read form text) (read-by-turns form text);
-      first-bad = λ text. (order-none text, none-order text);
+      first-bad = λ text. (order-none form text, none-order form text);
     }
-
-pub and-false : (b : Bool) → (b && false) ≡ false
-and-false true = refl
-and-false false = refl
 
 -- a line that does not fit is no remark in order, however many there were before
 pub unfit : (c : ℕ) (l : List ℕ) → fits l ≡ false → isPassed c l ≡ false
@@ -360,17 +357,17 @@ remarks-short (l ∷ rs) t =
     let p = both (fits l) (allFit rs) t in
     omega (arith, length-append l (concat rs), fits-short l (p .0), remarks-short rs (p .1))
 
-parts-length : (ls : List (List ℕ)) → length (concat ls) ≡ length (concat (filter isReal ls)) + length (concat (filter isRemark ls))
+parts-length : (form : Form) (ls : List (List ℕ)) → length (concat ls) ≡ length (concat (filter (isReal form) ls)) + length (concat (filter (isRemark form) ls))
 unfolding concat filter
-parts-length [] = refl
-parts-length (l ∷ ls) = go (isRemark l) (parts-length ls)
+parts-length form [] = refl
+parts-length form (l ∷ ls) = go (isRemark form l) (parts-length form ls)
   where
-    go : (b : Bool) → length (concat ls) ≡ length (concat (filter isReal ls)) + length (concat (filter isRemark ls))
-        → length (l ++ concat ls) ≡ length (concat (cond (not b) (l ∷ filter isReal ls) (filter isReal ls))) + length (concat (cond b (l ∷ filter isRemark ls) (filter isRemark ls)))
+    go : (b : Bool) → length (concat ls) ≡ length (concat (filter (isReal form) ls)) + length (concat (filter (isRemark form) ls))
+        → length (l ++ concat ls) ≡ length (concat (cond (not b) (l ∷ filter (isReal form) ls) (filter (isReal form) ls))) + length (concat (cond b (l ∷ filter (isRemark form) ls) (filter (isRemark form) ls)))
     go true h = simp length-append (omega arith)
     go false h = simp length-append (omega arith)
 
 -- a text is longer than its plain text by so much at most
-pub plain-longer : (text : List ℕ) → InOrder text → length text ≤ length (plain text) + mostRemarks * (mostInRemark + 1)
-plain-longer text o =
-    omega (arith, ap length (lines-concat text), parts-length (lines text), remarks-short (remarks text) (o .fit), o .few)
+pub plain-longer : (form : Form) (text : List ℕ) → InOrder form text → length text ≤ length (plain form text) + mostRemarks * (mostInRemark + 1)
+plain-longer form text o =
+    omega (arith, ap length (lines-concat text), parts-length form (lines text), remarks-short (remarks form text) (o .fit), o .few)

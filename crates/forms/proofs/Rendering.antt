@@ -18,7 +18,7 @@ use Rattle.forms.specs.Line.{mostInRemark, mostRemarks}
 use Rattle.forms.specs.Laws.{mostBytes}
 use Rattle.forms.specs.Write.{digitsIn, widthOf, valueDigits, lineOf, renderFrom, render}
 use Rattle.forms.specs.declared.form.Form.{Form}
-use Rattle.forms.specs.declared.form.Form.the-variants.{Network, Plan}
+use Rattle.forms.specs.declared.form.Form.the-variants.{Network, Plan, Rules}
 use Rattle.forms.specs.declared.form.Range.{Range}
 use Rattle.forms.specs.declared.form.Range.the-variants.{Between}
 use Rattle.forms.specs.declared.form.Field.{Field}
@@ -140,13 +140,15 @@ module _ (l : List ℕ) (s : Sound Plan l) where
           let line = one-line Plan l in
           omega (arith, line 0 (omega arith), line 1 (omega arith), line 2 (omega arith), line 3 (omega arith))
 
-network-short : (l : List ℕ) → Sound Network l → length (render Network l) ≤ mostPlain
+-- the other forms have few lines
+few-lines : (form : Form) (l : List ℕ) → mostOf form * 27 ≤ mostPlain → Sound form l → length (render form l) ≤ mostPlain
 unfolding render
-network-short l s = omega (arith, sound-length Network l s, any-lines Network l)
+few-lines form l h s = omega (arith, sound-length form l s, any-lines form l)
 
 pub render-plain : (form : Form) (l : List ℕ) → Sound form l → length (render form l) ≤ mostPlain
-render-plain Network l s = network-short l s
+render-plain Network l s = few-lines Network l (omega arith) s
 render-plain Plan l s = plan-short l s
+render-plain Rules l s = few-lines Rules l (omega arith) s
 
 pub render-short : (form : Form) (l : List ℕ) → Whole form l → length (render form l) ≤ mostBytes
 render-short form l w = omega (arith, render-plain form l (w .sound))

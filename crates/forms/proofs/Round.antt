@@ -67,7 +67,7 @@ record Reads (form : Form) (n : ℕ) (done : List ℕ) (ls : List (List ℕ)) (g
   list : List ℕ
   same : g ≡ done ++ list
   written : renderFrom form done list ≡ concat ls
-  real : filter isRemark ls ≡ []
+  real : filter (isRemark form) ls ≡ []
   accepted : walk itself form n done list ≡ good g
 
 module _ (form : Form) (n : ℕ) (done g : List ℕ) where
@@ -89,7 +89,7 @@ module _ (form : Form) (n : ℕ) (done g : List ℕ) where
           list = v ∷ p .list;
           same = p .same ∙ append-snoc done v (p .list);
           written = rw (f, p .written, ← line-of-value k r x v w);
-          real = rw (value-real-line k r x v w) (p .real);
+          real = rw (value-real-line form k r x v w) (p .real);
           accepted = rw (f, a) (p .accepted);
         }
     reads-range k r v f w false a ih e = let z : _≡_ {A = ℕ} 0 1 = cc in absurd (omega arith)
@@ -122,17 +122,17 @@ read-written form l g e =
     read-unremarked form (render form l) (reads form 1 [] (lines (render form l)) g w .real) ∙ w
 
 -- a text that is read is, without its remarks, what the numbers are written as, and they are accepted
-written-read : (form : Form) (t g : List ℕ) → readLines form t ≡ good g → (render form g ≡ plain t) × (judgeNumbers form g ≡ good g)
+written-read : (form : Form) (t g : List ℕ) → readLines form t ≡ good g → (render form g ≡ plain form t) × (judgeNumbers form g ≡ good g)
 unfolding judgeNumbers render
 written-read form t g e =
-    let p = reads form 1 [] (realLines t) g (read-real form t g e) in
+    let p = reads form 1 [] (realLines form t) g (read-real form t g e) in
     (rw (p .same) (p .written), ap (λ (l : List ℕ). walk itself form 1 [] l) (p .same) ∙ p .accepted)
 
 -- a text whose remarks are in order and which is without them what some numbers are written as
-read-plain : (form : Form) (t l g : List ℕ) → InOrder t → render form l ≡ plain t → judgeNumbers form l ≡ good g → readLines form t ≡ good g
+read-plain : (form : Form) (t l g : List ℕ) → InOrder form t → render form l ≡ plain form t → judgeNumbers form l ≡ good g → readLines form t ≡ good g
 read-plain form t l g o e j =
-    let w : walk lineValue form 1 [] (realLines t) ≡ good g = ap (walk lineValue form 1 []) (sym (ap lines e ∙ lines-plain t)) ∙ lines-rendered form l g j in
-    read-passed form t o ∙ ap (moved (numberIn (lines t))) w
+    let w : walk lineValue form 1 [] (realLines form t) ≡ good g = ap (walk lineValue form 1 []) (sym (ap lines e ∙ lines-plain form t)) ∙ lines-rendered form l g j in
+    read-passed form t o ∙ ap (moved (numberIn form (lines t))) w
 
 -- ---- with the sums
 
@@ -154,14 +154,14 @@ module _ (form : Form) (text l : List ℕ) (e : readText form text ≡ good l) w
   pub read-good : judgeList form l ≡ good l
   read-good = rw (sym same) at judged-again
 
-  rendered : render form l ≡ plain text
+  rendered : render form l ≡ plain form text
   rendered = rw same (written-read form text (taken .0) (taken .1) .0)
 
-  in-order : InOrder text
+  in-order : InOrder form text
   in-order = read-ordered form text (taken .0) (taken .1)
 
   short : length text ≤ mostBytes
-  short = omega (arith, plain-longer text in-order, ap length rendered, render-plain form l (judged-good form l l read-good .whole .sound))
+  short = omega (arith, plain-longer form text in-order, ap length rendered, render-plain form l (judged-good form l l read-good .whole .sound))
 
   read-follows : Follows form text
   read-follows = record { ordered = in-order; list = l; judged = read-good; written = rendered }
@@ -202,11 +202,11 @@ file-form form =
 
 -- ---- the round trips, with room
 
-text-again : (form : Form) (text l : List ℕ) (room space : ℕ) → withRoom room (readText form text) ≡ good l → length (plain text) ≤ space
-    → withRoom space (writeText form l) ≡ good (plain text)
+text-again : (form : Form) (text l : List ℕ) (room space : ℕ) → withRoom room (readText form text) ≡ good l → length (plain form text) ≤ space
+    → withRoom space (writeText form l) ≡ good (plain form text)
 text-again form text l room space e h =
     let r : readText form text ≡ good l = room-good room (readText form text) l e in
-    rw (read-good form text l r, rendered form text l r) (good-room space (plain text) h)
+    rw (read-good form text l r, rendered form text l r) (good-room space (plain form text) h)
 
 list-again : (form : Form) (l text : List ℕ) (space room : ℕ) → withRoom space (writeText form l) ≡ good text → length l ≤ room
     → withRoom room (readText form text) ≡ good l

@@ -8,9 +8,10 @@ use native.Mathlib.Omega.{arith}
 use lib.Dec.{T, ltb, eqb}
 use borrow.Author.Tests.{ne-eqb}
 use Rattle.forms.specs.Keys.{prefixOf}
-use Rattle.forms.specs.Line.{lines, isRemark, isReal, valuePart, decimalOf, hexOf, lineValue}
-use Rattle.forms.specs.Form.{isHex}
+use Rattle.forms.specs.Line.{lines, hashed, isRemark, valuePart, decimalOf, hexOf, lineValue}
+use Rattle.forms.specs.Form.{isHex, hasRemarks}
 use Rattle.forms.specs.Write.{digitChar, digitsIn, widthOf, valueDigits, lineOf}
+use Rattle.forms.specs.declared.form.Form.{Form}
 use Rattle.forms.specs.declared.form.Range.{Range}
 use Rattle.forms.specs.declared.form.Field.the-variants.{Line}
 use Rattle.forms.proofs.Keys.{no-feeds, key-no-feed, key-real}
@@ -71,32 +72,37 @@ value-no-feed r v = go (isHex r)
 
 -- ---- what is written is no remark
 
-real-append : (x y : List ℕ) → T (isReal x) → T (isReal y) → T (isReal (x ++ y))
+real-append : (x y : List ℕ) → T (not (hashed x)) → T (not (hashed y)) → T (not (hashed (x ++ y)))
 real-append [] y p q = q
 real-append (b ∷ x) y p q = p
 
-digits-real : (base n v : ℕ) → T (isReal (digitsIn base n v))
+digits-real : (base n v : ℕ) → T (not (hashed (digitsIn base n v)))
 unfolding digitsIn
 digits-real base zero v = tt
 digits-real base (suc n) v = rw (char-other (v / base ^ n % base) 35 (omega arith)) tt
 
-value-real : (r : Range) (v : ℕ) → T (isReal (valueDigits r v))
+value-real : (r : Range) (v : ℕ) → T (not (hashed (valueDigits r v)))
 value-real r v = go (isHex r)
   where
-    go : (hex : Bool) → T (isReal (cond hex (digitsIn 16 16 v) (digitsIn 10 (widthOf v) v)))
+    go : (hex : Bool) → T (not (hashed (cond hex (digitsIn 16 16 v) (digitsIn 10 (widthOf v) v))))
     go true = digits-real 16 16 v
     go false = digits-real 10 (widthOf v) v
 
-line-real : (k : ℕ) (r : Range) (v : ℕ) → T (isReal (lineOf (Line k r) v))
+line-real : (k : ℕ) (r : Range) (v : ℕ) → T (not (hashed (lineOf (Line k r) v)))
 line-real k r v = real-append (prefixOf k) _ (key-real k) (real-append (valueDigits r v) (10 ∷ []) (value-real r v) tt)
 
 off : (b : Bool) → T (not b) → b ≡ false
 off true t = absurd t
 off false t = refl
 
+pub and-false : (b : Bool) → (b && false) ≡ false
+and-false true = refl
+and-false false = refl
+
 -- nor is a line that has a value
-pub value-real-line : (k : ℕ) (r : Range) (l : List ℕ) (v : ℕ) → lineValue k r l ≡ some v → isRemark l ≡ false
-value-real-line k r l v e = rw (line-of-value k r l v e) (off (isRemark (lineOf (Line k r) v)) (line-real k r v))
+pub value-real-line : (form : Form) (k : ℕ) (r : Range) (l : List ℕ) (v : ℕ) → lineValue k r l ≡ some v → isRemark form l ≡ false
+value-real-line form k r l v e =
+    rw (line-of-value k r l v e, off (hashed (lineOf (Line k r) v)) (line-real k r v)) (and-false (hasRemarks form))
 
 -- ---- the lines of what is written
 

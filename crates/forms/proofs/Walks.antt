@@ -16,7 +16,7 @@ use Rattle.forms.specs.Form.{fieldOf, admitsOf, allows, secondOf, Sound,
 use Rattle.model.specs.Outcome.{andThen}
 use Rattle.forms.specs.Read.{walk, onField, onValue, judgeNumbers, judgeList, addUp, itself}
 use Rattle.forms.specs.declared.form.Form.{Form}
-use Rattle.forms.specs.declared.form.Form.the-variants.{Network, Plan}
+use Rattle.forms.specs.declared.form.Form.the-variants.{Network, Plan, Rules}
 use Rattle.forms.specs.declared.form.Range.{Range}
 use Rattle.forms.specs.declared.form.Field.{Field}
 use Rattle.forms.specs.declared.form.Field.the-variants.{Line, End}
@@ -124,6 +124,7 @@ add-up-same Network l g e = go (rule.missedRate (networkOf l)) e
     go none e = cc
     go (some p) e = let z : _≡_ {A = ℕ} 0 1 = cc in absurd (omega arith)
 add-up-same Plan l g e = cc
+add-up-same Rules l g e = cc
 
 -- what is not good is passed on
 pub not-good-then : (o : Outcome (List ℕ)) (next : List ℕ → Outcome (List ℕ)) → ((g : List ℕ) → o ≡ good g → ⊥) → andThen o next ≡ o
@@ -152,8 +153,15 @@ judged-good form l g e =
 pub good-judged : (form : Form) (l : List ℕ) → Whole form l → addUp form l ≡ good l → judgeList form l ≡ good l
 good-judged form l w s = rw (whole-judged form l w) s
 
--- a plan has no sums of its own
-pub no-sums : (o : Outcome (List ℕ)) → andThen o (addUp Plan) ≡ o
+-- a plan has no sums of its own, nor have rule tables
+no-sums : (form : Form) → ((l : List ℕ) → addUp form l ≡ good l) → (o : Outcome (List ℕ)) → andThen o (addUp form) ≡ o
+no-sums form h (good l) = h l
+no-sums form h (refused c a b) = refl
+
+pub plan-no-sums : (o : Outcome (List ℕ)) → andThen o (addUp Plan) ≡ o
 unfolding addUp
-no-sums (good l) = refl
-no-sums (refused c a b) = refl
+plan-no-sums o = no-sums Plan (λ l. refl) o
+
+pub rules-no-sums : (o : Outcome (List ℕ)) → andThen o (addUp Rules) ≡ o
+unfolding addUp
+rules-no-sums o = no-sums Rules (λ l. refl) o

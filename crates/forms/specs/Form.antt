@@ -1,25 +1,32 @@
--- The two forms: which line stands after some numbers, and which numbers it may have.
+-- The three forms: which line stands after some numbers, and which numbers it may have.
 use Prim.Native.Nat.{ℕ, _+_, _*_, _-_, _/_, _%_, _^_, _<_}
 use mathlib.Core.Bool.{Bool, true, false, cond, _&&_, _||_, not}
 use mathlib.Core.Path.{_≡_}
 use mathlib.Core.List.{List, [], _∷_}
 use lib.ListN.{length, getD, take}
 use lib.Dec.{T, eqb, leb, ltb}
-use Rattle.model.specs.Limits.{mostLinks, mostFlows, mostTunnels, mostSteps, mostAmount, leastShare, mostShare}
+use Rattle.model.specs.Limits.{mostLinks, mostFlows, mostTunnels, mostSteps, mostAmount, leastShare, mostShare, mostSwitches, mostRoom}
 use Rattle.lists.specs.Lists.{at}
 use Prim.Native.String.{String}
 use Rattle.forms.specs.Keys.{keys, placeIn}
 use Rattle.forms.specs.declared.form.Form.{Form}
-use Rattle.forms.specs.declared.form.Form.the-variants.{Network as network, Plan as plan}
+use Rattle.forms.specs.declared.form.Form.the-variants.{Network as network, Plan as plan, Rules as rules}
 use Rattle.forms.specs.declared.form.Range.{Range}
 use Rattle.forms.specs.declared.form.Range.the-variants.{Between, ZeroOr, Below, Set}
 use Rattle.forms.specs.declared.form.Field.{Field}
 use Rattle.forms.specs.declared.form.Field.the-variants.{Line, End}
 
--- a refusal's second number: "0 network, 1 plan"
+-- a refusal's second number: "0 network, 1 plan"; of rule tables: "refusals 1 to 3, whose second is 2 for this text"
 abbrev pub secondOf : Form → ℕ
 secondOf network = 0
 secondOf plan = 1
+secondOf rules = 2
+
+-- "A line of either text that begins with `#` is a remark": of a network or a plan; rule tables have none
+abbrev pub hasRemarks : Form → Bool
+hasRemarks network = true
+hasRemarks plan = true
+hasRemarks rules = false
 
 -- ---- ranges
 
@@ -37,7 +44,7 @@ isHex (ZeroOr low high) = false
 isHex (Below n) = false
 isHex (Set n) = true
 
--- ---- the lines of a network and of a plan
+-- ---- the lines of a network, of a plan and of rule tables
 
 abbrev pub line : String → Range → Field
 line key range = Line (placeIn keys key) range
@@ -75,11 +82,28 @@ planLines =
 abbrev pub planBody : List ℕ → ℕ → Field
 planBody l n = cond (ltb n ((at l 2 - 1) * at l 3)) (line "at=" (Between 0 (mostAmount * at l 1))) End
 
+-- "`rules` 1, `slack` 20..500, `switches` 1..64, `tunnels` 0..96"
+abbrev pub rulesLines : List Field
+rulesLines =
+    line "rules=" (Between 1 1)
+    ∷ line "slack=" (Between leastShare mostShare) ∷ line "switches=" (Between 1 mostSwitches) ∷ line "tunnels=" (Between 0 mostTunnels) ∷ []
+
+-- "for each tunnel `via` (a switch set, written as for links) and `kind` 1 keep, 2 add, 3 remove"
+abbrev pub ruleLines : ℕ → List Field
+ruleLines switches = line "via=" (Set switches) ∷ line "kind=" (Between 1 3) ∷ []
+
+-- "for each switch `room` 0..65,535"; then 2 lines for each tunnel
+unfoldable pub rulesBody : ℕ → ℕ → ℕ → Field
+rulesBody switches tunnels n =
+    cond (ltb n switches) (line "room=" (Between 0 mostRoom))
+    (cond (ltb ((n - switches) / 2) tunnels) (getD (ruleLines switches) ((n - switches) % 2) End) End)
+
 -- the line that stands after some numbers
 unfoldable pub fieldOf : Form → List ℕ → Field
-unfolding networkBody
+unfolding networkBody rulesBody
 fieldOf network l = cond (ltb (length l) 6) (getD networkLines (length l) End) (networkBody (at l 3) (at l 4) (at l 5) (length l - 6))
 fieldOf plan l = cond (ltb (length l) 4) (getD planLines (length l) End) (planBody l (length l - 4))
+fieldOf rules l = cond (ltb (length l) 4) (getD rulesLines (length l) End) (rulesBody (at l 2) (at l 3) (length l - 4))
 
 -- whether a number may stand in a field
 abbrev pub allows : Field → ℕ → Bool
@@ -100,6 +124,7 @@ pub record Whole (form : Form) (l : List ℕ) : Type 0 where
 abbrev pub mostOf : Form → ℕ
 mostOf network = 6 + mostLinks + 2 * mostFlows + 4 * mostTunnels
 mostOf plan = 4 + (mostSteps - 1) * mostTunnels
+mostOf rules = 4 + mostSwitches + 2 * mostTunnels
 
 abbrev pub mostNumbers : ℕ
 mostNumbers = mostOf plan

@@ -1,4 +1,4 @@
--- What reading, judging and writing have to do with one another, for either form. The proofs are in proofs/Round.antt and
+-- What reading, judging and writing have to do with one another, for each form. The proofs are in proofs/Round.antt and
 -- proofs/Remarks.antt.
 use Prim.Native.Nat.{ℕ, zero, suc, _+_, _≤_}
 use mathlib.Core.Path.{_≡_}
@@ -22,15 +22,15 @@ allFit [] = true
 allFit (l ∷ ls) = fits l && allFit ls
 
 -- the remarks of a text are in order
-pub record InOrder (text : List ℕ) : Type 0 where
-  pub few : length (remarks text) ≤ mostRemarks
-  pub fit : T (allFit (remarks text))
+pub record InOrder (form : Form) (text : List ℕ) : Type 0 where
+  pub few : length (remarks form text) ≤ mostRemarks
+  pub fit : T (allFit (remarks form text))
 
 -- "In texts, the places of refusals 1 to 3 count remarks as lines": the number among some lines of the real line n, both from 1 on
-unfoldable pub numberIn : List (List ℕ) → ℕ → ℕ
-numberIn [] n = n
-numberIn (l ∷ ls) zero = zero
-numberIn (l ∷ ls) (suc n) = suc (numberIn ls (cond (isRemark l) (suc n) n))
+unfoldable pub numberIn : Form → List (List ℕ) → ℕ → ℕ
+numberIn form [] n = n
+numberIn form (l ∷ ls) zero = zero
+numberIn form (l ∷ ls) (suc n) = suc (numberIn form ls (cond (isRemark form l) (suc n) n))
 
 -- an outcome, the place of its refusal moved
 abbrev pub moved : (ℕ → ℕ) → Outcome (List ℕ) → Outcome (List ℕ)
@@ -38,11 +38,11 @@ moved f (good l) = good l
 moved f (refused c place second) = refused c (f place) second
 
 -- the number of the first remark that is not in order, of lines of which the first has the number n, after so many remarks
-unfoldable pub firstBad : ℕ → ℕ → List (List ℕ) → Option ℕ
+unfoldable pub firstBad : Form → ℕ → ℕ → List (List ℕ) → Option ℕ
 unfolding fits
-firstBad n before [] = none
-firstBad n before (l ∷ ls) =
-    cond (isRemark l) (cond (isPassed before l) (firstBad (n + 1) (before + 1) ls) (some n)) (firstBad (n + 1) before ls)
+firstBad form n before [] = none
+firstBad form n before (l ∷ ls) =
+    cond (isRemark form l) (cond (isPassed before l) (firstBad form (n + 1) (before + 1) ls) (some n)) (firstBad form (n + 1) before ls)
 
 -- the refusal of such a remark, unless an earlier line is refused
 abbrev pub orEarlier : ℕ → Option ℕ → Outcome (List ℕ) → Outcome (List ℕ)
@@ -52,24 +52,24 @@ orEarlier s (some n) (refused c place second) = cond (ltb place n) (refused c pl
 
 pub record Remarked (form : Form) : Type 0 where
   -- without remarks a text is read as it was before there were any
-  pub unremarked : (text : List ℕ) → remarks text ≡ [] → (plain text ≡ text) × (readLines form text ≡ walk lineValue form 1 [] (lines text))
+  pub unremarked : (text : List ℕ) → remarks form text ≡ [] → (plain form text ≡ text) × (readLines form text ≡ walk lineValue form 1 [] (lines text))
   -- the plain text is such a text
-  pub plain-unremarked : (text : List ℕ) → remarks (plain text) ≡ []
+  pub plain-unremarked : (text : List ℕ) → remarks form (plain form text) ≡ []
   -- where its remarks are in order a text is read as the plain text; a refusal names the line by its number in the text
-  pub passed-over : (text : List ℕ) → InOrder text → readLines form text ≡ moved (numberIn (lines text)) (readLines form (plain text))
+  pub passed-over : (text : List ℕ) → InOrder form text → readLines form text ≡ moved (numberIn form (lines text)) (readLines form (plain form text))
   -- and in any case, up to the first remark that is not
   pub in-turn : (text : List ℕ)
-      → readLines form text ≡ orEarlier (secondOf form) (firstBad 1 0 (lines text)) (moved (numberIn (lines text)) (readLines form (plain text)))
-  pub first-bad : (text : List ℕ) → (InOrder text → firstBad 1 0 (lines text) ≡ none) × (firstBad 1 0 (lines text) ≡ none → InOrder text)
+      → readLines form text ≡ orEarlier (secondOf form) (firstBad form 1 0 (lines text)) (moved (numberIn form (lines text)) (readLines form (plain form text)))
+  pub first-bad : (text : List ℕ) → (InOrder form text → firstBad form 1 0 (lines text) ≡ none) × (firstBad form 1 0 (lines text) ≡ none → InOrder form text)
 
 -- ---- the file form
 
 -- a text follows the file form: its remarks are in order, and without them it is what a list that is judged good is written as
 pub record Follows (form : Form) (text : List ℕ) : Type 0 where
-  pub ordered : InOrder text
+  pub ordered : InOrder form text
   pub list : List ℕ
   pub judged : judgeList form list ≡ good list
-  pub written : render form list ≡ plain text
+  pub written : render form list ≡ plain form text
 
 -- "Both read at most 65,536 bytes of a text; no valid text is longer."
 abbrev pub mostBytes : ℕ
@@ -80,7 +80,7 @@ pub record FileForm (form : Form) : Type 0 where
   -- reading the rendering of a good list gives that list
   pub read-rendered : (l : List ℕ) → judgeList form l ≡ good l → readText form (render form l) ≡ good l
   -- rendering what a text was read as gives the text without its remarks, byte for byte
-  pub render-read : (text l : List ℕ) → readText form text ≡ good l → render form l ≡ plain text
+  pub render-read : (text l : List ℕ) → readText form text ≡ good l → render form l ≡ plain form text
   -- the numbers that a text's lines give are judged good as a list, with the same verdict on the sums
   pub same-verdict : (text l : List ℕ) → readLines form text ≡ good l → (judgeNumbers form l ≡ good l) × (readText form text ≡ judgeList form l)
   -- a text that is not of the form is refused
@@ -97,8 +97,8 @@ pub record FileForm (form : Form) : Type 0 where
 pub record RoundTrip (form : Form) : Type 0 where
   -- for every text that a reader takes, writing the list that it gives yields that text: "a text with remarks comes back without
   -- them, and others as today"
-  pub text-again : (text l : List ℕ) (room space : ℕ) → withRoom room (readText form text) ≡ good l → length (plain text) ≤ space
-      → withRoom space (writeText form l) ≡ good (plain text)
+  pub text-again : (text l : List ℕ) (room space : ℕ) → withRoom room (readText form text) ≡ good l → length (plain form text) ≤ space
+      → withRoom space (writeText form l) ≡ good (plain form text)
   -- for every good list with room, reading what the writer writes yields the list
   pub list-again : (l text : List ℕ) (space room : ℕ) → withRoom space (writeText form l) ≡ good text → length l ≤ room
       → withRoom room (readText form text) ≡ good l

@@ -6,7 +6,8 @@ use mathlib.Core.Option.{Option, none, some}
 use lib.ListN.{length, getD, take}
 use lib.Dec.{eqb, leb, ltb}
 use Rattle.forms.specs.Keys.{prefixOf}
-use Rattle.forms.specs.Form.{isHex}
+use Rattle.forms.specs.Form.{isHex, hasRemarks}
+use Rattle.forms.specs.declared.form.Form.{Form}
 use Rattle.forms.specs.declared.form.Range.{Range}
 
 -- a byte put before the first of some lines
@@ -32,11 +33,14 @@ beforeFeed l = cond (eqb (getD l (length l - 1) 0) 10) (take (length l - 1) l) [
 -- ---- remarks
 
 -- "A line of either text that begins with `#` is a remark": a comment line
-abbrev pub isRemark : List ℕ → Bool
-isRemark l = eqb (getD l 0 0) 35
+abbrev pub hashed : List ℕ → Bool
+hashed l = eqb (getD l 0 0) 35
 
-abbrev pub isReal : List ℕ → Bool
-isReal l = not (isRemark l)
+abbrev pub isRemark : Form → List ℕ → Bool
+isRemark form l = hasRemarks form && hashed l
+
+abbrev pub isReal : Form → List ℕ → Bool
+isReal form l = not (isRemark form l)
 
 -- "up to 80 bytes before its line feed": at least its `#` stands there, unless the text's end cuts it
 abbrev pub mostInRemark : ℕ
@@ -58,15 +62,15 @@ unfoldable pub filter : (List ℕ → Bool) → List (List ℕ) → List (List �
 filter p [] = []
 filter p (l ∷ ls) = cond (p l) (l ∷ filter p ls) (filter p ls)
 
-abbrev pub remarks : List ℕ → List (List ℕ)
-remarks text = filter isRemark (lines text)
+abbrev pub remarks : Form → List ℕ → List (List ℕ)
+remarks form text = filter (isRemark form) (lines text)
 
-abbrev pub realLines : List ℕ → List (List ℕ)
-realLines text = filter isReal (lines text)
+abbrev pub realLines : Form → List ℕ → List (List ℕ)
+realLines form text = filter (isReal form) (lines text)
 
 -- a text without its remarks
-abbrev pub plain : List ℕ → List ℕ
-plain text = concat (realLines text)
+abbrev pub plain : Form → List ℕ → List ℕ
+plain form text = concat (realLines form text)
 
 -- ---- values
 

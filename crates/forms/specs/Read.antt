@@ -9,7 +9,7 @@ use Rattle.lists.specs.Lists.{networkOf}
 use Rattle.forms.specs.Line.{lines, lineValue, isRemark, fits, isPassed}
 use Rattle.forms.specs.Form.{fieldOf, admitsOf, secondOf}
 use Rattle.forms.specs.declared.form.Form.{Form}
-use Rattle.forms.specs.declared.form.Form.the-variants.{Network, Plan}
+use Rattle.forms.specs.declared.form.Form.the-variants.{Network, Plan, Rules}
 use Rattle.forms.specs.declared.form.Range.{Range}
 use Rattle.forms.specs.declared.form.Field.{Field}
 use Rattle.forms.specs.declared.form.Field.the-variants.{Line, End}
@@ -45,7 +45,7 @@ unfoldable pub walkLines : Form → ℕ → ℕ → List ℕ → List (List ℕ)
 unfolding fits
 walkLines form n remarks done [] = atEnd form n done
 walkLines form n remarks done (l ∷ ls) =
-    cond (isRemark l)
+    cond (isRemark form l)
     (cond (isPassed remarks l) (walkLines form (n + 1) (remarks + 1) done ls) (refused malformed n (secondOf form)))
     (atItem form n done (λ k r. lineValue k r l) (λ more. walkLines form (n + 1) remarks more ls))
 
@@ -66,6 +66,7 @@ judgeNumbers form l = walk itself form 1 [] l
 unfoldable pub addUp : Form → List ℕ → Outcome (List ℕ)
 addUp Network l = unless missedRate (rule.missedRate (networkOf l)) (good l)
 addUp Plan l = good l
+addUp Rules l = good l
 
 -- ---- what a text is read as, and what a list is judged to be
 

@@ -3,12 +3,14 @@ ghost use mathlib.Core.Path.{_≡_};
 ghost use lib.ListN.{getD};
 ghost use Rattle.forms.specs.Keys.{prefixOf};
 ghost use Rattle.forms.specs.Slots.{keyBytes};
-ghost use Rattle.forms.specs.Form.{fieldOf, networkBody, admitsOf, isHex, secondOf, Sound, networkLines, flowLines, tunnelLines, planLines};
+ghost use Rattle.forms.specs.Form.{fieldOf, networkBody, rulesBody, admitsOf, isHex, secondOf, hasRemarks, Sound, networkLines, flowLines, tunnelLines, planLines, rulesLines, ruleLines};
 use lists::Network;
+use lists::RuleTables;
 
 pub enum Form {
     Network,
     Plan,
+    Rules,
 }
 
 // Which numbers a line may have. A set is written in hexadecimal, any other number in decimal.
@@ -67,16 +69,26 @@ const STEPS: usize = 15;
 
 const AT: usize = 16;
 
+const RULES: usize = 17;
+
+const SLACK: usize = 18;
+
+const SWITCHES: usize = 19;
+
+const ROOM: usize = 20;
+
+const KIND: usize = 21;
+
 // The keys' bytes with `=`, each in 10 bytes, of which the last says how many the key has.
-pub const KEYS: [u8; 170] =
-    *b"net=\0\0\0\0\0\x04scratch=\0\x08overrun=\0\x08links=\0\0\0\x06flows=\0\0\0\x06tunnels=\0\x08cap=\0\0\0\0\0\x04class=\0\0\0\x06rate=\0\0\0\0\x05flow=\0\0\0\0\x05via=\0\0\0\0\0\x04old=\0\0\0\0\0\x04new=\0\0\0\0\0\x04plan=\0\0\0\0\x05parts=\0\0\0\x06steps=\0\0\0\x06at=\0\0\0\0\0\0\x03";
+pub const KEYS: [u8; 220] =
+    *b"net=\0\0\0\0\0\x04scratch=\0\x08overrun=\0\x08links=\0\0\0\x06flows=\0\0\0\x06tunnels=\0\x08cap=\0\0\0\0\0\x04class=\0\0\0\x06rate=\0\0\0\0\x05flow=\0\0\0\0\x05via=\0\0\0\0\0\x04old=\0\0\0\0\0\x04new=\0\0\0\0\0\x04plan=\0\0\0\0\x05parts=\0\0\0\x06steps=\0\0\0\x06at=\0\0\0\0\0\0\x03rules=\0\0\0\x06slack=\0\0\0\x06switches=\x09room=\0\0\0\0\x05kind=\0\0\0\0\x05";
 
 // What stands before a value, the key and `=`: a part of the table of keys, which the caller has copied once.
 pub fn key_part<'a>(keys: &'a [u8], key: usize) -> &'a [u8]
     requires { ⌜ now keys ≡ keyBytes ⌝ }
     ensures { λ r. ⌜ now r ≡ prefixOf key ⌝ }
 {
-    if key < 17 {
+    if key < 22 {
         let from = key * 10;
         let to = from + keys[from + 9] as usize;
         &keys[from..to]
@@ -92,6 +104,18 @@ pub fn second(form: Form) -> u64
     match form {
         Form::Network => 0,
         Form::Plan => 1,
+        Form::Rules => 2,
+    }
+}
+
+// Whether a text of the form may have remarks.
+pub fn has_remarks(form: Form) -> bool
+    ensures { λ r. ⌜ r ≡ hasRemarks form ⌝ }
+{
+    match form {
+        Form::Network => true,
+        Form::Plan => true,
+        Form::Rules => false,
     }
 }
 
@@ -192,6 +216,54 @@ fn plan_field(done: &[u64]) -> Field
     Field::End
 }
 
+fn rules_head(n: usize) -> Field
+    ensures { λ r. ⌜ r ≡ getD rulesLines n Field.End ⌝ }
+{
+    match n {
+        0 => Field::Line(RULES, Range::Between(1, 1)),
+        1 => Field::Line(
+            SLACK,
+            Range::Between(RuleTables::SLACK_LOW, RuleTables::SLACK_HIGH),
+        ),
+        2 => Field::Line(SWITCHES, Range::Between(1, RuleTables::SWITCHES)),
+        3 => Field::Line(TUNNELS, Range::Between(0, RuleTables::TUNNELS)),
+        _ => Field::End,
+    }
+}
+
+fn rule_group(switches: u64, n: u64) -> Field
+    ensures { λ r. ⌜ r ≡ getD (ruleLines switches) n Field.End ⌝ }
+{
+    match n {
+        0 => Field::Line(VIA, Range::Set(switches)),
+        1 => Field::Line(KIND, Range::Between(RuleTables::KEEP, RuleTables::REMOVE)),
+        _ => Field::End,
+    }
+}
+
+fn rules_body(switches: u64, tunnels: u64, n: u64) -> Field
+    ensures { λ r. ⌜ r ≡ rulesBody switches tunnels n ⌝ }
+{
+    if n < switches {
+        return Field::Line(ROOM, Range::Between(0, RuleTables::ROOM));
+    }
+    let m = n - switches;
+    if m / 2 < tunnels {
+        return rule_group(switches, m % 2);
+    }
+    Field::End
+}
+
+fn rules_field(done: &[u64]) -> Field
+    ensures { λ r. ⌜ r ≡ fieldOf Form.Rules (now (done .entry)) ⌝ }
+{
+    let n = done.len();
+    if n < 4 {
+        return rules_head(n);
+    }
+    rules_body(done[2], done[3], (n - 4) as u64)
+}
+
 // What stands after some numbers, each of which its own field allows.
 pub fn field_after(form: Form, done: &[u64]) -> Field
     requires { ⌜ Sound form (now done) ⌝ }
@@ -200,6 +272,7 @@ pub fn field_after(form: Form, done: &[u64]) -> Field
     match form {
         Form::Network => network_field(done),
         Form::Plan => plan_field(done),
+        Form::Rules => rules_field(done),
     }
 }
 

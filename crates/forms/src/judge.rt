@@ -4,7 +4,7 @@ ghost use Prim.Native.Nat.{_+_, _≤_};
 ghost use Rattle.lists.specs.Answers.{done};
 ghost use Rattle.forms.specs.Form.{secondOf, mostNumbers};
 ghost use Rattle.forms.specs.Read.{judgeNumbers};
-ghost use Rattle.forms.specs.Named.{judgeNetwork, judgePlan};
+ghost use Rattle.forms.specs.Named.{judgeNetwork, judgePlan, judgeRules};
 use crate::form;
 use crate::form::Field;
 use crate::form::Form;
@@ -64,4 +64,11 @@ pub fn judge_plan(list: &[u64]) -> Answer
     ensures { λ r. ⌜ r ≡ done (judgePlan (now (list .entry))) ⌝ }
 {
     judge_numbers(Form::Plan, list)
+}
+
+// Judges the list of rule tables. Done carries its length.
+pub fn judge_rules(list: &[u64]) -> Answer
+    ensures { λ r. ⌜ r ≡ done (judgeRules (now (list .entry))) ⌝ }
+{
+    judge_numbers(Form::Rules, list)
 }
