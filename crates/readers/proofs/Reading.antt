@@ -98,7 +98,7 @@ lines-at : (text : List ℕ) (at : ℕ) → at < length text → lines (drop at 
 lines-at text at h = rw (← drop-drop (lineLen (drop at text)) at text) (lines-some (drop at text) (simp length-drop (omega arith)))
 
 module _ (form : Form) (n c : ℕ) (done′ text : List ℕ) (at : ℕ) (h : at < length text) where
-  walk-first : (b : Bool) → isRemark (firstLine (drop at text)) ≡ b
+  walk-first : (b : Bool) → isRemark form (firstLine (drop at text)) ≡ b
       → walkLines form n c done′ (lines (drop at text))
       ≡ cond b (cond (isPassed c (firstLine (drop at text))) (walkLines form (n + 1) (c + 1) done′ (lines (drop (at + lineLen (drop at text)) text))) (refused malformed n (secondOf form)))
       (atItem form n done′ (λ k r. lineValue k r (firstLine (drop at text))) (λ more. walkLines form (n + 1) c more (lines (drop (at + lineLen (drop at text)) text))))
@@ -106,7 +106,7 @@ module _ (form : Form) (n c : ℕ) (done′ text : List ℕ) (at : ℕ) (h : at 
   walk-first b e = rw (lines-at text at h, e)
 
   -- a remark that is not in order, and one that is
-  module _ (remark : isRemark (firstLine (drop at text)) ≡ true) where
+  module _ (remark : isRemark form (firstLine (drop at text)) ≡ true) where
     abbrev after : ℕ
     after = at + lineLen (drop at text)
 
@@ -123,7 +123,7 @@ module _ (form : Form) (n c : ℕ) (done′ text : List ℕ) (at : ℕ) (h : at 
     walk-past next is = let p = passes text at c next is in walk-first true remark ∙ rw (p .0, p .1)
 
 -- after a remark that is passed over the reading goes on
-pub onward-past : (form : Form) (text vals : List ℕ) (i at remarks next : ℕ) → at < length text → isRemark (firstLine (drop at text)) ≡ true → afterRemark text at remarks ≡ Ends next
+pub onward-past : (form : Form) (text vals : List ℕ) (i at remarks next : ℕ) → at < length text → isRemark form (firstLine (drop at text)) ≡ true → afterRemark text at remarks ≡ Ends next
     → onward form text vals i at remarks ≡ onward form text vals i next (remarks + 1)
 onward-past form text vals i at remarks next h remark is =
     let n : i + remarks + 1 + 1 ≡ i + (remarks + 1) + 1 = omega arith in
@@ -150,7 +150,7 @@ module _ (form : Form) (n c : ℕ) (done′ text : List ℕ) where
   by-value next r (some v) = by-range next v (admitsOf r v)
 
   -- a real line, or the text's end
-  module _ (at : ℕ) (h : at ≤ length text) (real : isRemark (firstLine (drop at text)) ≡ false) where
+  module _ (at : ℕ) (h : at ≤ length text) (real : isRemark form (firstLine (drop at text)) ≡ false) where
     walk-next : (d : Field) → fieldOf form done′ ≡ d → goOn (nextOf d text at) (walkLines form n c done′ (lines (drop at text)))
     unfolding takenOf
     walk-next d f = go (ℕ-discrete at (length text)) d f
@@ -174,7 +174,7 @@ pub record Given (d : Field) (text : List ℕ) (at v next : ℕ) : Type 0 where
   pub within : next ≤ length text
   pub allowed : T (allows d v)
   -- the line is no remark
-  pub real : isRemark (firstLine (drop at text)) ≡ false
+  pub real : (form : Form) → isRemark form (firstLine (drop at text)) ≡ false
 
 abbrev Facts : Field → List ℕ → ℕ → Taken → Type 0
 Facts d text at (Number v next) = Given d text at v next
@@ -189,7 +189,7 @@ line-facts k r text at h (some v) x = go (admitsOf r v) refl
     go : (b : Bool) → admitsOf r v ≡ b → Facts (Line k r) text at (cond b (Number v (at + lineLen (drop at text))) (Stop 2))
     go true a =
         let p = line-ends text at h in
-        record { later = p .0; within = p .1; allowed = rw a tt; real = value-real-line k r (firstLine (drop at text)) v x }
+        record { later = p .0; within = p .1; allowed = rw a tt; real = λ form. value-real-line form k r (firstLine (drop at text)) v x }
     go false a = tt
 
 facts : (d : Field) (text : List ℕ) (at : ℕ) → at ≤ length text → Facts d text at (nextOf d text at)
@@ -210,7 +210,7 @@ pub onward-number : (form : Form) (text vals after : List ℕ) (i at v next rema
     → take (i + 1) after ≡ take i vals ++ (v ∷ []) → onward form text vals i at remarks ≡ onward form text after (i + 1) next remarks
 onward-number form text vals after i at v next remarks h e more =
     let n : i + remarks + 1 + 1 ≡ i + 1 + remarks + 1 = omega arith in
-    let real = given (fieldOf form (take i vals)) text at v next h e .real in
+    let real = given (fieldOf form (take i vals)) text at v next h e .real form in
     let w : onward form text vals i at remarks ≡ walkLines form (i + remarks + 1 + 1) remarks (take i vals ++ (v ∷ [])) (lines (drop next text))
     = rw e at (walk-next form (i + remarks + 1) remarks (take i vals) text at h real (fieldOf form (take i vals)) refl) in
     rw (more, ← n) w
@@ -234,7 +234,7 @@ answered form n c text vals i size (Number v next) k o g = absurd k
 answered form n c text vals i size (Stop m) k o g = (sym g, holds-refused o m n (secondOf form) vals g)
 answered form n c text vals i size Ended k o g = (sym (ap done g ∙ ap Done size), rw g (ap (λ (m : ℕ). take m vals) size))
 
-pub walk-answer : (form : Form) (n c : ℕ) (text vals : List ℕ) (at i : ℕ) → length (take i vals) ≡ i → at ≤ length text → isRemark (firstLine (drop at text)) ≡ false
+pub walk-answer : (form : Form) (n c : ℕ) (text vals : List ℕ) (at i : ℕ) → length (take i vals) ≡ i → at ≤ length text → isRemark form (firstLine (drop at text)) ≡ false
     → (t : Taken) → nextOf (fieldOf form (take i vals)) text at ≡ t → NoNumber t
     → (answerOf t i n (secondOf form) ≡ done (walkLines form n c (take i vals) (lines (drop at text)))) × Holds (walkLines form n c (take i vals) (lines (drop at text))) vals
 walk-answer form n c text vals at i size h real t e k =

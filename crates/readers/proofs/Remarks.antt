@@ -10,8 +10,9 @@ use lib.Dec.{T, leb, eqb→eq}
 use lib.ListN.{length, getD, drop, length-drop, length-append, drop-of-length-le}
 use lib.Seq.{length-take-le, getD-take, getD-drop}
 use borrow.Author.Tests.{lt-ltb, le-ltb, le-leb, lt-leb}
-use Rattle.forms.specs.Line.{beforeFeed, isRemark, fits, mostRemarks, mostInRemark}
-use Rattle.forms.proofs.Remarks.{and-false, unfit}
+use Rattle.forms.specs.Line.{beforeFeed, hashed, fits, mostRemarks, mostInRemark}
+use Rattle.forms.proofs.Remarks.{unfit}
+use Rattle.forms.proofs.Values.{and-false}
 use Rattle.readers.specs.Line.{lineLen, firstLine, bytesBefore, unfed, afterRemark}
 use Rattle.readers.specs.declared.line.Remark.the-variants.{Ends, OutOfOrder}
 use Rattle.readers.proofs.Lines.{line-some, line-within}
@@ -24,11 +25,11 @@ first-at text at h =
     getD-take (lineLen (drop at text)) (drop at text) 0 0 (line-some (drop at text) (simp length-drop (omega arith))) ∙ rw (getD-drop, add-zero)
 
 -- no remark begins where the text ends
-pub none-remark : (text : List ℕ) (at : ℕ) → length text ≤ at → isRemark (firstLine (drop at text)) ≡ false
+pub none-remark : (text : List ℕ) (at : ℕ) → length text ≤ at → hashed (firstLine (drop at text)) ≡ false
 unfolding lineLen
 none-remark text at h = rw (drop-of-length-le text h)
 
-pub remark-within : (text : List ℕ) (at : ℕ) → T (isRemark (firstLine (drop at text))) → at < length text
+pub remark-within : (text : List ℕ) (at : ℕ) → T (hashed (firstLine (drop at text))) → at < length text
 remark-within text at t = go (decLt at (length text))
   where
     go : Dec (at < length text) → at < length text
@@ -44,7 +45,7 @@ module _ (text : List ℕ) (at : ℕ) where
   pub unfed-more : (n : ℕ) → Unfed text at n → at + n < length text → (getD text (at + n) 0 ≡ 10 → ⊥) → Unfed text at (n + 1)
   unfed-more n u h o = record { within = omega arith; before = rw (← add-assoc at n 1) (omega (arith, u .before, feed-later text (at + n) h o)) }
 
-  pub unfed-start : T (isRemark (firstLine (drop at text))) → Unfed text at 1
+  pub unfed-start : T (hashed (firstLine (drop at text))) → Unfed text at 1
   unfed-start t =
       let h = remark-within text at t in
       let e : getD text at 0 ≡ 35 = sym (first-at text at h) ∙ eqb→eq _ 35 t in

@@ -1,3 +1,3 @@
-// The readers of the two texts. The line reader is private to this crate.
+// The readers of the three texts. The line reader is private to this crate.
 mod line;
 pub mod read;

@@ -4,9 +4,11 @@ ghost use mathlib.Core.Path.{_≡_};
 ghost use Prim.Native.Nat.{_+_, _≤_};
 ghost use lib.Dec.{T};
 ghost use lib.ListN.{length, drop};
-ghost use Rattle.forms.specs.Line.{isRemark, valuePart, digitOf, decimalOf, hexOf};
+ghost use Rattle.forms.specs.Line.{hashed, isRemark, valuePart, digitOf, decimalOf, hexOf};
 ghost use Rattle.forms.proofs.Keys.{no-feeds};
 ghost use Rattle.readers.specs.Line.{prefixed, digitTable, firstLine, valueAt, numberOf, valueOf, Leading, Parsed, afterRemark};
+use forms::form;
+use forms::form::Form;
 use std::num;
 
 // The most remarks in a text, and the most bytes of one before its line feed.
@@ -170,9 +172,12 @@ pub(crate) fn digits<'a>(
 }
 
 // Whether the line at `at` is a remark, a comment line.
-pub(crate) fn is_remark(text: &[u8], at: usize) -> bool
-    ensures { λ r. ⌜ r ≡ isRemark (firstLine (drop at (now (text .entry)))) ⌝ }
+pub(crate) fn is_remark(form: Form, text: &[u8], at: usize) -> bool
+    ensures { λ r. ⌜ r ≡ isRemark form (firstLine (drop at (now (text .entry)))) ⌝ }
 {
+    if !form::has_remarks(form) {
+        return false;
+    }
     if at < text.len() {
         text[at] == b'#'
     } else {
@@ -189,7 +194,7 @@ pub(crate) enum Remark {
 // The remark at `at`, after `before` others. It is out of order where these are too many, it is too long, or the text stops
 // inside it.
 pub(crate) fn after_remark(text: &[u8], at: usize, before: usize) -> Remark
-    requires { ⌜ T (isRemark (firstLine (drop at (now text)))) ⌝ }
+    requires { ⌜ T (hashed (firstLine (drop at (now text)))) ⌝ }
     ensures { λ r. ⌜ r ≡ afterRemark (now (text .entry)) at before ⌝ }
 {
     if REMARKS <= before {

@@ -9,7 +9,7 @@ ghost use Rattle.forms.specs.Slots.{keyBytes};
 ghost use Rattle.forms.specs.Form.{secondOf, mostOf};
 ghost use Rattle.forms.specs.Read.{readLines};
 ghost use Rattle.readers.specs.Read.{takenOf, nextOf, answerOf, Begun, ReadOn, Holds};
-ghost use Rattle.forms.specs.Named.{readNetwork, readPlan};
+ghost use Rattle.forms.specs.Named.{readNetwork, readPlan, readRules};
 use crate::line;
 use crate::line::Remark;
 use forms::form;
@@ -19,12 +19,18 @@ use forms::form::Range;
 use forms::sums;
 use lists::Answer;
 use lists::Network;
+use lists::RuleTables;
 
 // The most numbers that a network's list has; a plan's has form::NUMBERS.
 const NETWORK_NUMBERS: usize = 6
     + Network::LINKS as usize
     + 2 * Network::FLOWS as usize
     + 4 * Network::TUNNELS as usize;
+
+// The most that a list of rule tables has.
+const RULES_NUMBERS: usize = 4
+    + RuleTables::SWITCHES as usize
+    + 2 * RuleTables::TUNNELS as usize;
 
 // What the next line gives: its number and where the line after it begins, or the number of its refusal; or the text ends
 // where the form does.
@@ -149,7 +155,7 @@ fn read(form: Form, keys: &[u8], text: &[u8], vals: &mut [u64]) -> Answer
         count = stopped.count;
         let taken = stopped.taken;
         let line = (count + remarks + 1) as u64;
-        if line::is_remark(text, at) {
+        if line::is_remark(form, text, at) {
             let Remark::Ends(past) = line::after_remark(text, at, remarks) else {
                 return refusal(1, line, form);
             };
@@ -216,6 +222,20 @@ pub fn read_plan(text: &[u8], out: &mut [u64]) -> Answer
     let keys = form::KEYS;
     let mut vals = [0u64; form::NUMBERS];
     let lines = read(Form::Plan, &keys, text, &mut vals);
+    let Answer::Done(n) = lines else {
+        return lines;
+    };
+    give(&vals[..n], out)
+}
+
+// Reads a text of rule tables into a list of numbers, one for each line.
+pub fn read_rules(text: &[u8], out: &mut [u64]) -> Answer
+    ensures { λ r. ⌜ r ≡ done (withRoom (length (now (out .entry))) (readRules (now (text .entry)))) ⌝ }
+    ensures { λ r. ⌜ now (out .exit) ≡ lent (withRoom (length (now (out .entry))) (readRules (now (text .entry)))) (now (out .entry)) ⌝ }
+{
+    let keys = form::KEYS;
+    let mut vals = [0u64; RULES_NUMBERS];
+    let lines = read(Form::Rules, &keys, text, &mut vals);
     let Answer::Done(n) = lines else {
         return lines;
     };

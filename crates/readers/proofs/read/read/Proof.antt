@@ -6,8 +6,10 @@ use mathlib.Core.List.{List}
 use native.Mathlib.Omega.{arith}
 use lib.ListN.{length, drop}
 use lib.Seq.{length-take-le}
+use Rattle.model.proofs.Searches.{and-true}
 use Rattle.lists.specs.Answers.{done}
-use Rattle.forms.specs.Line.{isRemark, mostRemarks}
+use Rattle.forms.specs.Form.{hasRemarks}
+use Rattle.forms.specs.Line.{hashed, isRemark, mostRemarks}
 use Rattle.forms.specs.Read.{readLines}
 use Rattle.forms.proofs.Forms.{sound-none, most-numbers}
 use Rattle.readers.specs.Line.{firstLine, afterRemark}
@@ -63,11 +65,14 @@ module _ (c : tie.Then1 Inv-loop μ-loop) where
   abbrev on : tie.After-slice-known2 Inv-loop μ-loop
   on = c .before .before
 
-  remark : isRemark (firstLine (drop (stop on .at) (text on))) ≡ true
+  remark : isRemark (begin on .args .form) (firstLine (drop (stop on .at) (text on))) ≡ true
   remark = sym (c .before .is-remark .ensures) ∙ c .if1 .taken
 
+  with-hash : hashed (firstLine (drop (stop on .at) (text on))) ≡ true
+  with-hash = and-true (hasRemarks (begin on .args .form)) _ remark .1
+
   below : stop on .at < length (text on)
-  below = remark-within (text on) _ (rw remark tt)
+  below = remark-within (text on) _ (rw with-hash tt)
 
 -- and is passed over
 module _ (c : tie.After-past Inv-loop μ-loop) where
@@ -100,7 +105,7 @@ is-remark-requires : tie.Need-is-remark-requires Inv-loop μ-loop
 is-remark-requires c κs = search needs
 
 after-remark-requires : tie.Need-after-remark-requires Inv-loop μ-loop
-after-remark-requires c κs = rw (remark c) tt
+after-remark-requires c κs = rw (with-hash c) tt
 
 enum-known-past : tie.Need-enum-known-past Inv-loop μ-loop
 enum-known-past c = search needs
@@ -149,7 +154,7 @@ returns-2 c =
     let r = c .before .before in
     let o = r .before in
     let size = length-take-le (stop o .count) (vals o) (omega (arith, read-on o .begun .few, length-kept o, begin o .pre .1)) in
-    let real : isRemark (firstLine (drop (stop o .at) (text o))) ≡ false = sym (r .is-remark .ensures) ∙ c .before .if1 .left in
+    let real : isRemark (begin o .args .form) (firstLine (drop (stop o .at) (text o))) ≡ false = sym (r .is-remark .ensures) ∙ c .before .if1 .left in
     let p = walk-answer (begin o .args .form) (stop o .count + head o .loop .remarks + 1) (head o .loop .remarks) (text o) (vals o) (stop o .at) (stop o .count)
     size (read-on o .begun .within) real (stop o .taken) (read-on o .gives) (read-on o .stops) in
     (c .answer .ensures ∙ p .0 ∙ sym (ap done (rest o)), rw (rest o) (p .1))
