@@ -28,9 +28,7 @@ const NETWORK_NUMBERS: usize = 6
     + 4 * Network::TUNNELS as usize;
 
 // The most that a list of rule tables has.
-const RULES_NUMBERS: usize = 4
-    + RuleTables::SWITCHES as usize
-    + 2 * RuleTables::TUNNELS as usize;
+const RULES_NUMBERS: usize = 4 + RuleTables::SWITCHES as usize + 2 * RuleTables::TUNNELS as usize;
 
 // What the next line gives: its number and where the line after it begins, or the number of its refusal; or the text ends
 // where the form does.

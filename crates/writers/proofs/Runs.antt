@@ -1,6 +1,6 @@
 -- The lines of a list, from any on: what they are, and what is written of them after one more.
 use mathlib.Core.Path.{_≡_, refl, sym, ap, _∙_}
-use mathlib.Core.Bool.{false}
+use mathlib.Core.Bool.{Bool, true, false, cond}
 use mathlib.Core.List.{List, [], _++_, append-assoc, append-nil}
 use Prim.Native.Nat.{ℕ, zero, suc, _+_, _*_, _-_, _≤_, _<_}
 use native.Mathlib.Nat.{add-zero, zero-add, add-suc, add-assoc, le-of-lt}
@@ -12,15 +12,16 @@ use Rattle.lists.specs.Lists.{at}
 use Rattle.forms.specs.Bytes.{bytes}
 use Rattle.forms.specs.Keys.{prefixOf}
 use Rattle.forms.specs.Form.{fieldOf, isHex, Sound, Whole, networkLines, flowLines, tunnelLines, planLines}
-use Rattle.forms.specs.Write.{lineOf, render, renderFrom}
+use Rattle.forms.specs.Write.{widthOf, lineOf, render, renderFrom}
 use Rattle.forms.specs.declared.form.Form.{Form}
 use Rattle.forms.specs.declared.form.Form.the-variants.{Network, Plan}
 use Rattle.forms.specs.declared.form.Range.{Range}
+use Rattle.forms.specs.declared.form.Field.{Field}
 use Rattle.forms.specs.declared.form.Field.the-variants.{Line, End}
 use Rattle.forms.proofs.Forms.{body-cap, body-flow, body-tunnel, rowLines, network-head-field, network-body-field, plan-head-field, plan-body-field}
 use Rattle.forms.proofs.Good.{network-size, plan-size}
-use Rattle.forms.proofs.Rendering.{render-step, render-end, at-most, short-value}
-use Rattle.writers.specs.Write.{Puts, decimalLine, hexLine, lineAt, linesFrom, Decimal}
+use Rattle.forms.proofs.Rendering.{render-step, render-end, at-most, short-value, line-length}
+use Rattle.writers.specs.Write.{Puts, decimalLine, hexLine, lineAt, linesFrom, Decimal, Writable}
 use Rattle.writers.proofs.Writing.{puts-none, then-fits, then-puts}
 
 -- ---- lines one after the other
@@ -182,3 +183,36 @@ module _ (l : List ℕ) (w : Whole Plan l) where
   at-line i four h =
       let n : i - 4 < rowLines l = omega (arith, plan-size l w) in
       decimal-at Plan l i _ _ (w .sound) h (rw (lt-ltb (i - 4) (rowLines l) n) at (plan-body-field l i (le-of-lt h) (i - 4) (omega arith))) refl
+
+-- ---- the lines of any form, one by one
+
+-- the line where a field stands, by what stands before its number
+module _ (f : Field) (k : ℕ) (r : Range) (v : ℕ) (name : List ℕ) (hex : Bool) (e : f ≡ Line k r) (named : name ≡ prefixOf k) (is : hex ≡ isHex r) where
+  pub set-line : hex ≡ true → lineOf f v ≡ hexLine name v
+  set-line x = let h : isHex r ≡ true = sym is ∙ x in rw (e, h, named)
+
+  pub number-line : hex ≡ false → lineOf f v ≡ decimalLine name v
+  number-line x = let h : isHex r ≡ false = sym is ∙ x in rw (e, h, named)
+
+  line-size : (b : Bool) → hex ≡ b → length (lineOf f v) ≡ length name + cond b 16 (widthOf v) + 1
+  line-size b x = let h : isHex r ≡ b = sym is ∙ x in rw (e, named, ← h) (line-length k r v)
+
+  pub set-size : hex ≡ true → length (lineOf f v) ≡ length name + 17
+  set-size x = omega (arith, line-size true x)
+
+  pub number-size : hex ≡ false → length (lineOf f v) ≡ length name + widthOf v + 1
+  number-size x = line-size false x
+
+-- the number at i of a sound list, where the field f stands
+module _ (form : Form) (l : List ℕ) (i : ℕ) (h : i < length l) (s : Sound form l) (f : Field) (e : f ≡ fieldOf form (take i l)) where
+  pub writable : Writable f (getD l i 0)
+  writable = record { small = λ k r x. short-value form l i h s k r (sym e ∙ x) }
+
+  pub line-here : lineAt form l i ≡ lineOf f (getD l i 0)
+  unfolding lineAt
+  line-here = rw e
+
+  pub length-more : length (linesFrom form l 0 (i + 1)) ≡ length (linesFrom form l 0 i) + length (lineOf f (getD l i 0))
+  length-more =
+      let here : lineAt form l (0 + i) ≡ lineOf f (getD l i 0) = rw (zero-add i) line-here in
+      ap length (lines-more form l 0 i ∙ ap (λ (t : List ℕ). linesFrom form l 0 i ++ t) here) ∙ length-append (linesFrom form l 0 i) _

@@ -1,11 +1,15 @@
 -- What a write leaves, and the lines of a list, from any on.
 use Prim.Native.Nat.{ℕ, zero, suc, _+_, _*_, _<_}
 use mathlib.Core.Path.{_≡_}
+use mathlib.Core.Bool.{false}
 use mathlib.Core.List.{List, [], _∷_, _++_}
 use lib.ListN.{length, take, drop, getD}
-use Rattle.forms.specs.Form.{fieldOf, mostNumbers}
+use Rattle.forms.specs.Form.{fieldOf, isHex, mostNumbers}
 use Rattle.forms.specs.Write.{digitsIn, widthOf, lineOf}
 use Rattle.forms.specs.declared.form.Form.{Form}
+use Rattle.forms.specs.declared.form.Range.{Range}
+use Rattle.forms.specs.declared.form.Field.{Field}
+use Rattle.forms.specs.declared.form.Field.the-variants.{Line}
 
 -- a list with others in the place of those from `at` on
 unfoldable pub placed : List ℕ → ℕ → List ℕ → List ℕ
@@ -37,6 +41,10 @@ lineAt form l i = lineOf (fieldOf form (take i l)) (getD l i 0)
 unfoldable pub linesFrom : Form → List ℕ → ℕ → ℕ → List ℕ
 linesFrom form l i zero = []
 linesFrom form l i (suc n) = linesFrom form l i n ++ lineAt form l (i + n)
+
+-- a number that can be written where a field stands: it has at most 10 digits if it is decimal
+pub record Writable (f : Field) (v : ℕ) : Type 0 where
+  pub small : (k : ℕ) (r : Range) → f ≡ Line k r → isHex r ≡ false → v < 10000000000
 
 -- ---- how many decimal digits numbers of a list have
 

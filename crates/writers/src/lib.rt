@@ -1,2 +1,2 @@
-// The writers of the two texts.
+// The writers of the three texts.
 pub mod write;

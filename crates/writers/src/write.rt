@@ -7,9 +7,12 @@ ghost use Rattle.model.specs.Outcome.{Outcome};
 ghost use Rattle.lists.specs.Answers.{done, withRoom, lent};
 ghost use Rattle.lists.specs.Lists.{at as numberAt};
 ghost use Rattle.forms.specs.Form.{Whole, mostNumbers};
-ghost use Rattle.forms.specs.Write.{digitChar, digitsIn, widthOf, render};
-ghost use Rattle.writers.specs.Write.{Puts, decimalValue, decimalLine, hexLine, linesFrom, Decimal, widthsOf};
-ghost use Rattle.forms.specs.Named.{writeNetwork, writePlan};
+ghost use Rattle.forms.specs.Slots.{keyBytes};
+ghost use Rattle.forms.specs.Write.{digitChar, digitsIn, widthOf, lineOf, render};
+ghost use Rattle.writers.specs.Write.{Puts, decimalValue, decimalLine, hexLine, linesFrom, Decimal, Writable, widthsOf};
+ghost use Rattle.forms.specs.Named.{writeNetwork, writePlan, writeRules};
+use forms::form;
+use forms::form::Field;
 use forms::form::Form;
 use forms::judge;
 use lists::Answer;
@@ -83,6 +86,38 @@ fn plan_len(list: &[u64]) -> usize
     13 + 4 * list.len() + widths(list, 0, 1, list.len())
 }
 
+// How many bytes a number's line has, by what the form has there.
+fn field_len(keys: &[u8], field: Field, v: u64) -> usize
+    requires { ⌜ now keys ≡ keyBytes ⌝ }
+    requires { ⌜ Writable field v ⌝ }
+    ensures { λ r. ⌜ r ≡ length (lineOf field v) ⌝ }
+{
+    let Field::Line(key, range) = field else {
+        return 0;
+    };
+    let name = form::key_part(keys, key).len();
+    if form::is_hex(range) {
+        return name + 17;
+    }
+    name + width(v) + 1
+}
+
+// The same for the list of any form, line by line.
+fn lines_len(form: Form, keys: &[u8], list: &[u64]) -> usize
+    requires { ⌜ now keys ≡ keyBytes ⌝ }
+    requires { ⌜ Whole form (now list) ⌝ }
+    ensures { λ r. ⌜ r ≡ length (render form (now (list .entry))) ⌝ }
+{
+    let mut sum: usize = 0;
+    let mut i: usize = 0;
+    while i < list.len() {
+        let field = form::field_after(form, &list[..i]);
+        sum += field_len(keys, field, list[i]);
+        i += 1;
+    }
+    sum
+}
+
 // How many bytes a list is written as, where that may be more than the room; else a number within it.
 fn needed(form: Form, list: &[u64], room: usize) -> usize
     requires { ⌜ Whole form (now list) ⌝ }
@@ -95,6 +130,7 @@ fn needed(form: Form, list: &[u64], room: usize) -> usize
     match form {
         Form::Network => network_len(list),
         Form::Plan => plan_len(list),
+        Form::Rules => lines_len(form, &form::KEYS, list),
     }
 }
 
@@ -362,6 +398,41 @@ fn put_plan(out: &mut [u8], list: &[u64]) -> usize
     put_rows(out, rows, list)
 }
 
+// Puts a number's line, by what the form has there.
+fn put_field(out: &mut [u8], at: usize, keys: &[u8], field: Field, v: u64) -> usize
+    requires { ⌜ now keys ≡ keyBytes ⌝ }
+    requires { ⌜ Writable field v ⌝ }
+    requires { ⌜ at + length (lineOf field v) ≤ length (now out) ⌝ }
+    ensures { λ r. ⌜ Puts (lineOf field v) at (now (out .entry)) (now (out .exit)) r ⌝ }
+{
+    let Field::Line(key, range) = field else {
+        return at;
+    };
+    let name = form::key_part(keys, key);
+    if form::is_hex(range) {
+        put_set_line(out, at, name, v)
+    } else {
+        put_line(out, at, name, v)
+    }
+}
+
+// Puts the list of any form, line by line: for a form of few lines, which need no loops of their own.
+fn put_lines(out: &mut [u8], form: Form, keys: &[u8], list: &[u64]) -> usize
+    requires { ⌜ now keys ≡ keyBytes ⌝ }
+    requires { ⌜ Whole form (now list) ⌝ }
+    requires { ⌜ length (render form (now list)) ≤ length (now out) ⌝ }
+    ensures { λ r. ⌜ Puts (render form (now (list .entry))) 0 (now (out .entry)) (now (out .exit)) r ⌝ }
+{
+    let mut p: usize = 0;
+    let mut i: usize = 0;
+    while i < list.len() {
+        let field = form::field_after(form, &list[..i]);
+        p = put_field(out, p, keys, field, list[i]);
+        i += 1;
+    }
+    p
+}
+
 // Writes a list that is judged good, where there is room for it.
 fn write_good(form: Form, list: &[u64], out: &mut [u8]) -> Answer
     requires { ⌜ Whole form (now list) ⌝ }
@@ -379,6 +450,7 @@ fn write_good(form: Form, list: &[u64], out: &mut [u8]) -> Answer
     match form {
         Form::Network => Answer::Done(put_network(out, list)),
         Form::Plan => Answer::Done(put_plan(out, list)),
+        Form::Rules => Answer::Done(put_lines(out, form, &form::KEYS, list)),
     }
 }
 
@@ -404,4 +476,16 @@ pub fn write_plan(list: &[u64], out: &mut [u8]) -> Answer
         return answer;
     };
     write_good(Form::Plan, list, out)
+}
+
+// Writes the list of rule tables as a text.
+pub fn write_rules(list: &[u64], out: &mut [u8]) -> Answer
+    ensures { λ r. ⌜ r ≡ done (withRoom (length (now (out .entry))) (writeRules (now (list .entry)))) ⌝ }
+    ensures { λ r. ⌜ now (out .exit) ≡ lent (withRoom (length (now (out .entry))) (writeRules (now (list .entry)))) (now (out .entry)) ⌝ }
+{
+    let answer = judge::judge_rules(list);
+    let Answer::Done(_) = answer else {
+        return answer;
+    };
+    write_good(Form::Rules, list, out)
 }

@@ -1,4 +1,5 @@
 -- `writers::write::needed` meets its contract.
+use mathlib.Core.Path.{refl}
 use native.Mathlib.Omega.{arith}
 use native.Mathlib.Nat.{le-trans}
 use Rattle.forms.proofs.Rendering.{render-short}
@@ -23,6 +24,15 @@ enum-told-2 c = search needs
 plan-len-requires : tie.Need-plan-len-requires
 plan-len-requires c κs = rw (c .enum-told2 .given .1) at (c .before .before .before .before .pre)
 
+enum-told-3 : tie.Need-enum-told-3
+enum-told-3 c = search needs
+
+slice-aggregate-lines-len : tie.Need-slice-aggregate-lines-len
+slice-aggregate-lines-len c = search needs
+
+lines-len-requires : tie.Need-lines-len-requires
+lines-len-requires c κs = (refl, c .before .before .before .before .before .pre)
+
 returns-2 : tie.Need-returns-2
 returns-2 c =
     let m = rw (← c .before .enum-told .given .1) at (c .network-len .ensures) in
@@ -31,6 +41,11 @@ returns-2 c =
 returns-3 : tie.Need-returns-3
 returns-3 c =
     let m = rw (← c .before .enum-told2 .given .1) at (c .plan-len .ensures) in
+    (λ h. m, λ h. omega (arith, m))
+
+returns-4 : tie.Need-returns-4
+returns-4 c =
+    let m = c .lines-len .ensures in
     (λ h. m, λ h. omega (arith, m))
 
 pub needed-spec : {M : Type 1} → statement M
@@ -42,5 +57,9 @@ needed-spec =
     network-len-requires
     enum-told-2
     plan-len-requires
+    enum-told-3
+    slice-aggregate-lines-len
+    lines-len-requires
     returns-2
-    returns-3)
+    returns-3
+    returns-4)

@@ -1,5 +1,5 @@
 -- `writers::write::write_good` meets its contract.
-use mathlib.Core.Path.{sym, ap, _∙_}
+use mathlib.Core.Path.{refl, sym, ap, _∙_}
 use Prim.Native.Nat.{ℕ, _≤_}
 use lib.ListN.{length}
 use Rattle.lists.specs.declared.Answer.the-variants.{Refused}
@@ -40,6 +40,15 @@ put-plan-requires c κs =
     let told = c .before .enum-told2 .given .1 in
     (rw told at (c .before .before .before .before .before .before .before .pre), rw told at (room (c .before .before .before)))
 
+enum-told-3 : tie.Need-enum-told-3
+enum-told-3 c = search needs
+
+slice-aggregate-put-lines : tie.Need-slice-aggregate-put-lines
+slice-aggregate-put-lines c = search needs
+
+put-lines-requires : tie.Need-put-lines-requires
+put-lines-requires c κs = let e = c .before .before .before .before in (refl, (e .before .before .before .before .pre, room e))
+
 same-length : tie.Need-same-length
 same-length c = search needs
 
@@ -52,6 +61,12 @@ same-length-2 c = search needs
 returns-3 : tie.Need-returns-3
 returns-3 c = given _ _ (room (c .before .before .before .before .before .before)) (rw (← c .before .before .before .before .enum-told2 .given .1) at (c .before .before .put-plan .ensures))
 
+same-length-3 : tie.Need-same-length-3
+same-length-3 c = search needs
+
+returns-4 : tie.Need-returns-4
+returns-4 c = given _ _ (room (c .before .before .before .before .before .before .before)) (c .before .before .put-lines .ensures)
+
 pub write-good-spec : {M : Type 1} → statement M
 write-good-spec =
     tie.close
@@ -62,7 +77,12 @@ write-good-spec =
     put-network-requires
     enum-told-2
     put-plan-requires
+    enum-told-3
+    slice-aggregate-put-lines
+    put-lines-requires
     same-length
     returns-2
     same-length-2
-    returns-3)
+    returns-3
+    same-length-3
+    returns-4)

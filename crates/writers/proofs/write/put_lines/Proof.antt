@@ -1,0 +1,109 @@
+-- `writers::write::put_lines` meets its contract.
+use Prim.Native.Nat.{ℕ, _≤_, _+_, _-_}
+use mathlib.Core.Path.{_≡_, refl, sym, ap, _∙_}
+use mathlib.Core.List.{List}
+use native.Mathlib.Nat.{zero-add, le-of-lt}
+use native.Mathlib.Omega.{arith}
+use lib.ListN.{length, getD}
+use lib.Seq.{length-take-le}
+use Rattle.forms.specs.Write.{lineOf}
+use Rattle.forms.proofs.Forms.{sound-take}
+use Rattle.forms.proofs.Rendering.{at-most}
+use Rattle.writers.specs.Write.{Puts, Writable, linesFrom, lineAt}
+use Rattle.writers.proofs.Writing.{puts-length}
+use Rattle.writers.proofs.Runs.{all-lines, no-lines, run-within, next-fits, next-put, writable, line-here}
+use borrow.Author.Needs.{needs}
+use Rattle.writers.proofs.write.put_lines.Statement.{statement}
+use Rattle.writers.proofs.write.put_lines.Tie as tie
+
+abbrev Inv-loop : tie.InvT-loop
+Inv-loop out₀ form keys list p₀ i₀ out p i = record { few : i ≤ length list; put : Puts (linesFrom form list 0 i) 0 out₀ out p }
+
+abbrev μ-loop : tie.MeasureT-loop
+μ-loop out₀ form keys list p₀ i₀ out p i = length list - i
+
+fits : (s : tie.Start Inv-loop μ-loop) → 0 + length (linesFrom (s .args .form) (s .args .list .now) 0 (length (s .args .list .now))) ≤ length (s .args .out .now)
+fits s = omega (arith, s .pre .1 .1, ap length (all-lines (s .args .form) (s .args .list .now)))
+
+-- in a turn
+module _ (c : tie.After-field-after Inv-loop μ-loop) where
+  abbrev turn : tie.In-loop Inv-loop μ-loop
+  turn = c .before .before
+
+  abbrev start : tie.Start Inv-loop μ-loop
+  start = turn .before .before .before .before .before
+
+  abbrev value : ℕ
+  value = getD (start .args .list .now) (turn .before .loop .i) 0
+
+  can : Writable (c .field-after .result) value
+  can = writable _ _ _ (turn .loop-test .taken) (start .pre .1 .0 .sound) _ (c .field-after .ensures)
+
+  line : lineAt (start .args .form) (start .args .list .now) (turn .before .loop .i) ≡ lineOf (c .field-after .result) value
+  line = line-here _ _ _ (turn .loop-test .taken) (start .pre .1 .0 .sound) _ (c .field-after .ensures)
+
+  room : turn .before .loop .p + length (lineOf (c .field-after .result) value) ≤ length (turn .before .loop .out)
+  room = next-fits _ _ 0 _ (fits start) _ _ (turn .loop-test .taken) (sym (zero-add _)) line (turn .before .loop .inv .put)
+
+loop-holds : tie.Need-loop-holds Inv-loop μ-loop
+loop-holds c = record { few = search needs; put = no-lines _ _ 0 0 _ }
+
+slice-aggregate-field-after : tie.Need-slice-aggregate-field-after Inv-loop μ-loop
+slice-aggregate-field-after c = sym (length-take-le _ _ (le-of-lt (c .before .loop-test .taken)))
+
+field-after-requires : tie.Need-field-after-requires Inv-loop μ-loop
+field-after-requires c κs = let t = c .before in sound-take _ _ _ (le-of-lt (t .loop-test .taken)) (t .before .before .before .before .before .pre .1 .0 .sound)
+
+mul-put-field : tie.Need-mul-put-field Inv-loop μ-loop
+mul-put-field c = let t = c .before .before .before in omega (arith, at-most _ _ _ (t .loop-test .taken) (start (c .before) .pre .1 .0 .sound))
+
+shared-slice-read-put-field : tie.Need-shared-slice-read-put-field Inv-loop μ-loop
+shared-slice-read-put-field c = turn (c .before .before) .loop-test .taken
+
+put-field-requires : tie.Need-put-field-requires Inv-loop μ-loop
+put-field-requires c κs = let f = c .before .before in (start f .pre .0, (can f, room f))
+
+add-i : tie.Need-add-i Inv-loop μ-loop
+add-i c = let f = c .before .before .before .before .before in omega (arith, at-most _ _ _ (turn f .loop-test .taken) (start f .pre .1 .0 .sound))
+
+loop-less : tie.Need-loop-less Inv-loop μ-loop
+loop-less c = omega (arith, turn (c .before .before .before .before .before) .loop-test .taken)
+
+loop-again : tie.Need-loop-again Inv-loop μ-loop
+loop-again c =
+    let f = c .before .before .before .before .before in
+    let t = turn f in
+    record {
+      few = omega (arith, t .loop-test .taken);
+      put = next-put _ _ 0 _ (fits (start f)) _ _ (t .loop-test .taken) (sym (zero-add _)) (line f) (t .before .loop .inv .put) _ refl (c .before .before .put-field .ensures);
+    }
+
+same-length : tie.Need-same-length Inv-loop μ-loop
+same-length c =
+    let s = c .before .before .before .before .before in
+    let v = c .before .loop .inv in
+    puts-length (run-within (s .args .form) (s .args .list .now) 0 _ _ 0 (s .args .out .now) (v .few) (fits s)) (v .put)
+
+returns : tie.Need-returns Inv-loop μ-loop
+returns c =
+    let s = c .before .before .before .before .before in
+    let e : c .before .loop .i ≡ length (s .args .list .now) = omega (arith, c .before .loop .inv .few, c .loop-test .left) in
+    rw (e, all-lines (s .args .form) (s .args .list .now)) at (c .before .loop .inv .put)
+
+pub put-lines-spec : {M : Type 1} → statement M
+put-lines-spec =
+    tie.close
+    (tie.spec
+    Inv-loop
+    μ-loop
+    loop-holds
+    slice-aggregate-field-after
+    field-after-requires
+    mul-put-field
+    shared-slice-read-put-field
+    put-field-requires
+    add-i
+    loop-less
+    loop-again
+    same-length
+    returns)
