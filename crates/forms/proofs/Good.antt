@@ -42,14 +42,14 @@ line-no-end : (f : Field) → IsLine f → f ≡ End → ⊥
 line-no-end (Line k r) p e = let z : _≡_ {A = ℕ} 0 1 = cc in omega arith
 line-no-end End p e = p
 
-lines-no-end : (fs : List Field) (n : ℕ) → AllLines fs → n < length fs → getD fs n End ≡ End → ⊥
+pub lines-no-end : (fs : List Field) (n : ℕ) → AllLines fs → n < length fs → getD fs n End ≡ End → ⊥
 lines-no-end [] n p h e = omega arith
 lines-no-end (f ∷ fs) zero p h e = line-no-end f (p .0) e
 lines-no-end (f ∷ fs) (suc n) p h e = lines-no-end fs n (p .1) (omega arith) e
 
 -- ---- what a range allows
 
-set-in : (n v : ℕ) → T (not (eqb v 0) && ltb v (2 ^ n)) → (1 ≤ v) × (v < 2 ^ n)
+pub set-in : (n v : ℕ) → T (not (eqb v 0) && ltb v (2 ^ n)) → (1 ≤ v) × (v < 2 ^ n)
 set-in n zero t = absurd t
 set-in n (suc v) t = (omega arith, ltb→lt (suc v) (2 ^ n) (both (not (eqb (suc v) 0)) (ltb (suc v) (2 ^ n)) t .1))
 

@@ -1,3 +1,4 @@
+pub mod Judged
 pub mod Counts
 pub mod Passes
 pub mod Bounds
