@@ -1,6 +1,6 @@
 /*
- * Pavuneshil: even-step update plans for a tunnelled backbone, the sharing of a flow among services, and a fair hand-out
- * for eight desks, for C.
+ * Pavuneshil: even-step update plans for a tunnelled backbone, the staging of rule tables, the sharing of a flow among
+ * services, and a fair hand-out for eight desks, for C.
  * Link libpavuneshil.a, which `rt staticlib pavuneshil` makes. It needs memcpy and memset, and no heap.
  *
  * What holds of every function below is proved of the library's source. None has a precondition on the values: whatever
@@ -11,8 +11,9 @@
  *   - what is written to (out, marks, answer, the parts of a state) overlaps nothing else passed in the same call.
  *
  * A text is bytes. A list has one 64-bit number for each line of the text, in line order. Lengths are in bytes for texts
- * and marks, in numbers for lists. A line of a text that begins with # is a remark: up to 80 bytes before its line feed, the
- * # among them, at most 32 in a text, anywhere. Lists have none, and what is written has none.
+ * and marks, in numbers for lists. A line of a network or plan text that begins with # is a remark: up to 80 bytes before its
+ * line feed, the # among them, at most 32 in a text, anywhere. Lists have none, what is written has none, and a rules text
+ * has none.
  *
  * The answer is four numbers (the step bound and the desks have other values after PAVUNESHIL_DONE; see there):
  *   { PAVUNESHIL_DONE,    length, 0, 0 }              done; length items of the output were written
@@ -20,9 +21,9 @@
  *   { PAVUNESHIL_REFUSED, number, place, second }     refused:
  *
  *   number                                      place                        second
- *   1   line not in its form                    line                         0 network, 1 plan
- *   2   value outside its range                 line                         0 network, 1 plan
- *   3   a line is missing, or is too many       first such line              0 network, 1 plan
+ *   1   line not in its form                    line                         0 network, 1 plan, 2 rules
+ *   2   value outside its range                 line                         0 network, 1 plan, 2 rules
+ *   3   a line is missing, or is too many       first such line              0 network, 1 plan, 2 rules
  *   4   a flow's amounts miss its rate          flow                         0 old, 1 new
  *   5   plan has another `tunnels`              4                            1
  *   6   a row misses parts x rate               row                          flow
@@ -33,14 +34,15 @@
  *   12  no such desk                            desk                         0
  *   13  four jobs of the desk wait already      desk                         0
  *   14  hand-out with nothing waiting           0                            0
+ *   18  a set of rules does not fit             switch                       0 old, 1 new
  *   21  count of services out of range          0                            0
  *       rate out of range                       0                            1
  *       demand out of range                     first such service           0
  *
  * A longer remark, a 33rd one, or one that the text's end cuts meets 1. In a text, lines count remarks; of a list, a number's
  * position stands for its line.
- * Lines, steps and services count from 1, rows, links, flows, tunnels and desks from 0. After a refusal everything lent is
- * left as it was, except the marks after 7 and 8. Output beyond the written length is never touched.
+ * Lines, steps, stages and services count from 1, rows, links, switches, flows, tunnels and desks from 0. After a refusal
+ * everything lent is left as it was, except the marks after 7 and 8. Output beyond the written length is never touched.
  */
 #ifndef PAVUNESHIL_H
 #define PAVUNESHIL_H
@@ -60,8 +62,11 @@ extern "C" {
 /* No valid input needs more room than this. */
 #define PAVUNESHIL_NETWORK_NUMBERS 518 /* the list of a network */
 #define PAVUNESHIL_PLAN_NUMBERS 4708   /* the list of a plan */
-#define PAVUNESHIL_TEXT_BYTES 65536    /* either text, with its remarks */
+#define PAVUNESHIL_RULES_NUMBERS 260   /* the list of rule tables */
+#define PAVUNESHIL_TEXT_BYTES 65536    /* any text, with its remarks */
+#define PAVUNESHIL_RULES_BYTES 3433    /* a rules text */
 #define PAVUNESHIL_MARKS 96            /* the marks of a check */
+#define PAVUNESHIL_STAGES 96           /* the stages of the tunnels */
 #define PAVUNESHIL_SERVICES 16         /* the shares of a flow */
 
 /*
@@ -125,6 +130,32 @@ void pavuneshil_step_bound(uint64_t scratch, uint64_t overrun, uint64_t answer[4
  */
 void pavuneshil_share(uint64_t rate, const uint64_t *demands, size_t demands_len, uint64_t *out, size_t out_len,
                       uint64_t answer[4]);
+
+/*
+ * Reads a rules text: for each switch the rules that it has room for, for each tunnel the switches that it crosses and
+ * whether its rules are kept, added or removed. Done: out begins with the text's list, which has the number of each line.
+ * There are no remarks: a line that begins with # is not in its form.
+ * Refused: the first of 1, 2 and 3 that a line meets, line after line (3, then 1, then 2); then 10.
+ */
+void pavuneshil_read_rules(const uint8_t *text, size_t text_len, uint64_t *out, size_t out_len, uint64_t answer[4]);
+
+/*
+ * Writes a rules text. Done: out begins with the text of the list, which pavuneshil_read_rules reads back.
+ * Refused: 2 and 3 as in reading, a number's position standing for its line; then 10.
+ */
+void pavuneshil_write_rules(const uint64_t *list, size_t list_len, uint8_t *out, size_t out_len, uint64_t answer[4]);
+
+/*
+ * Stages the rule tables: tells for each tunnel in which stage its rules go in or out. A tunnel has one rule at every
+ * switch that it crosses; the old set is the tunnels kept and removed, the new set those kept and added. Done: out begins
+ * with a number for each tunnel, 0 for one that is kept, else its stage, of 1 to ceil(1000 / slack) - 1. In a stage, those
+ * to add go in, then those to remove go out. No switch ever holds more rules than its room, whichever of a stage's tunnels
+ * have gone and whichever have not; after each stage slack thousandths of every room are free; after the last the switches
+ * hold the new set. Wherever both sets leave slack free, stages are given.
+ * Refused: 2 and 3 of the list; then 18, where a set's rules at a switch are more than (1000 - slack) x room / 1000, the
+ * lowest switch, then the old set before the new one; then 10.
+ */
+void pavuneshil_stage_rules(const uint64_t *list, size_t list_len, uint64_t *out, size_t out_len, uint64_t answer[4]);
 
 /*
  * A fair hand-out: desks 0 to 7 submit jobs, each with a tag of the caller's choice, and a hand-out takes one of them,

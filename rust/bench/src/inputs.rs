@@ -1,5 +1,6 @@
 //! The inputs: networks of the largest size, each with its plan of 50 steps, and the swap; pairs for
-//! the step bound; rates and demands to share; submissions for the desks.
+//! the step bound; rule tables of the largest size; rates and demands to share; submissions for the
+//! desks.
 
 use second::gen::Rng;
 
@@ -89,7 +90,7 @@ fn parts(rng: &mut Rng, rate: u64) -> [u64; 3] {
     [cuts[0], cuts[1] - cuts[0], rate - cuts[1]]
 }
 
-/// A via set of exactly so many links.
+/// A via set of exactly so many links, or switches, of which there are as many.
 fn via(rng: &mut Rng, hops: u32) -> u64 {
     let mut set = 0u64;
     while set.count_ones() < hops {
@@ -171,6 +172,53 @@ pub fn shares(count: usize, seed: u64) -> Vec<(u64, u64)> {
         .collect()
 }
 
+/// Rule tables as a list and as a text.
+pub struct Tables {
+    pub list: Vec<u64>,
+    pub text: Vec<u8>,
+    /// The tables with one rule's room less at the last switch that has rules, so that a set does
+    /// not fit.
+    pub short: Vec<u64>,
+}
+
+/// So many rule tables of 64 switches and 96 tunnels, a third of them kept, added and removed each,
+/// each over so many switches. Slack is 20, so that there are 49 stages, and every room is the least
+/// in which both sets fit.
+pub fn tables(count: usize, hops: u32, seed: u64) -> Vec<Tables> {
+    let mut rng = Rng::new(seed);
+    (0..count)
+        .map(|_| {
+            let mut kinds = [1, 2, 3].repeat(TUNNELS / 3);
+            for last in (1..kinds.len()).rev() {
+                kinds.swap(last, rng.below(last as u64 + 1) as usize);
+            }
+            let tunnels: Vec<_> = kinds
+                .into_iter()
+                .map(|kind| (via(&mut rng, hops), kind))
+                .collect();
+            let mut list = vec![1, 20, LINKS as u64, TUNNELS as u64];
+            for switch in 0..LINKS {
+                let set = |other| {
+                    tunnels
+                        .iter()
+                        .filter(|&&(via, kind)| (via >> switch) & 1 == 1 && kind != other)
+                        .count() as u64
+                };
+                list.push((1000 * set(2).max(set(3))).div_ceil(1000 - 20));
+            }
+            let mut short = list.clone();
+            let last = short.iter().rposition(|&number| number > 0);
+            short[last.expect("a room")] -= 1;
+            for (via, kind) in tunnels {
+                list.extend([via, kind]);
+                short.extend([via, kind]);
+            }
+            let text = second::write_rules(&list, ROOM).expect("valid rule tables");
+            Tables { list, text, short }
+        })
+        .collect()
+}
+
 /// The most that a rate or a demand may be.
 const AMOUNT: u64 = 10_000_000;
 
@@ -234,6 +282,9 @@ mod tests {
             for input in largest(2, hops, 1) {
                 assert_eq!(input.network.len(), pavuneshil::NETWORK_NUMBERS);
                 assert_eq!(input.plan.len(), pavuneshil::PLAN_NUMBERS);
+            }
+            for tables in tables(2, hops, 1) {
+                assert_eq!(tables.list.len(), pavuneshil::RULES_NUMBERS);
             }
         }
     }

@@ -6,8 +6,11 @@
 #![forbid(unsafe_code)]
 
 use bench::clock::medians;
-use bench::inputs::{self, Input};
-use pavuneshil::{Answer, Desks, Refusal, StepBound, MARKS, PLAN_NUMBERS, SERVICES, TEXT_BYTES};
+use bench::inputs::{self, Input, Tables};
+use pavuneshil::{
+    Answer, Desks, Refusal, StepBound, MARKS, PLAN_NUMBERS, RULES_BYTES, RULES_NUMBERS, SERVICES,
+    STAGES, TEXT_BYTES,
+};
 use second::{Checked, Rules};
 use std::hint::black_box;
 
@@ -172,6 +175,62 @@ fn rows(inputs: &[Input], repeat: usize) {
     check!("check_plan, judging alone (no marks, 10)", network, 0);
 }
 
+/// A row of rule tables: an operation on what is picked of them, to as much output as there is room for.
+fn rules_row<I, O: PartialEq + Default + Copy, const ROOM: usize>(
+    name: &str,
+    tables: &[Tables],
+    pick: fn(&Tables) -> &[I],
+    ours: impl Fn(&[I], &mut [O]) -> Answer,
+    second: impl Fn(&[I], usize) -> Result<Vec<O>, second::Refusal>,
+) {
+    let mut out = [O::default(); ROOM];
+    for input in tables.iter().map(pick) {
+        agree(ours(input, &mut out), &out, second(input, ROOM));
+    }
+    row(
+        name,
+        tables.len(),
+        &mut || {
+            for input in tables.iter().map(pick) {
+                black_box(ours(black_box(input), &mut out));
+            }
+        },
+        &mut || {
+            for input in tables.iter().map(pick) {
+                black_box(second(black_box(input), ROOM)).ok();
+            }
+        },
+    );
+}
+
+/// Rows of rule tables.
+fn rules_rows(tables: &[Tables]) {
+    use pavuneshil::{read_rules, stage_rules, write_rules};
+    rules_row::<_, _, RULES_NUMBERS>(
+        "read_rules",
+        tables,
+        |tables| &tables.text,
+        read_rules,
+        second::read_rules,
+    );
+    rules_row::<_, _, RULES_BYTES>(
+        "write_rules",
+        tables,
+        |tables| &tables.list,
+        write_rules,
+        second::write_rules,
+    );
+    for (name, pick) in [
+        (
+            "stage_rules",
+            (|tables| &tables.list) as fn(&Tables) -> &[u64],
+        ),
+        ("stage_rules, refused 18", |tables| &tables.short),
+    ] {
+        rules_row::<_, _, STAGES>(name, tables, pick, stage_rules, second::stage_rules);
+    }
+}
+
 /// A row of sharing.
 fn share_row(name: &str, cases: &[(u64, Vec<u64>)]) {
     let mut out = [0; SERVICES];
@@ -329,6 +388,16 @@ fn main() {
             }
         },
     );
+
+    for (name, hops) in [
+        ("sparse via, 4 switches", 4),
+        ("dense via, 32 switches", 32),
+    ] {
+        println!(
+            "-- {COUNT} rule tables of 64 switches, 96 tunnels; slack 20, 49 stages; {name} a tunnel"
+        );
+        rules_rows(&inputs::tables(COUNT, hops, SEED));
+    }
 
     println!("-- a rate shared among 16 services, 1,024 times");
     share_row("share, each met", &inputs::demands(1024, true, SEED));

@@ -288,6 +288,56 @@ pub fn share(rng: &mut Rng) -> Outcome {
     .map_err(|why| format!("{why}, rate {rate}"))
 }
 
+pub fn read_rules(rng: &mut Rng) -> Outcome {
+    let text = inputs::rules_text(rng);
+    convert(
+        rng,
+        "read_rules",
+        &text,
+        number,
+        pavuneshil::read_rules,
+        second::read_rules,
+        Answer::Done,
+    )
+}
+
+pub fn write_rules(rng: &mut Rng) -> Outcome {
+    let list = inputs::any_rules_list(rng);
+    convert(
+        rng,
+        "write_rules",
+        &list,
+        byte,
+        pavuneshil::write_rules,
+        second::write_rules,
+        Answer::Done,
+    )
+}
+
+pub fn stage_rules(rng: &mut Rng) -> Outcome {
+    let list = inputs::any_rules_list(rng);
+    let name = match second::stage_rules(&list, usize::MAX) {
+        Ok(stages) => match stages.iter().max() {
+            None => "stage_rules, no tunnels",
+            Some(0) => "stage_rules, all kept",
+            Some(1) => "stage_rules, one stage",
+            Some(_) => "stage_rules, more stages",
+        },
+        Err(refusal) if refusal.number == 18 && refusal.second == 0 => "stage_rules, old set",
+        Err(refusal) if refusal.number == 18 => "stage_rules, new set",
+        Err(_) => "stage_rules",
+    };
+    convert(
+        rng,
+        name,
+        &list,
+        number,
+        pavuneshil::stage_rules,
+        second::stage_rules,
+        Answer::Done,
+    )
+}
+
 #[cfg(test)]
 mod tests {
     use super::*;

@@ -1,17 +1,18 @@
 //! Inputs, good and damaged: valid, one edge off, truncated, random.
 
 use second::gen::*;
-use second::{write_network, write_plan};
+use second::{write_network, write_plan, write_rules};
 
 const ROOM: usize = usize::MAX;
 
 /// The bytes that texts are made of, and some others.
 const BYTES: &[u8] = b"0123456789=\nabcdefnetscrahvilowpkug \r#\0\xff";
 
-/// The keys of both texts.
-const KEYS: [&str; 18] = [
+/// The keys of all texts.
+const KEYS: [&str; 23] = [
     "net", "scratch", "overrun", "links", "flows", "tunnels", "cap", "class", "rate", "flow",
-    "via", "old", "new", "plan", "parts", "steps", "at", "",
+    "via", "old", "new", "plan", "parts", "steps", "at", "", "rules", "slack", "switches", "room",
+    "kind",
 ];
 
 /// A valid network of any size, the largest more often than `any_network` has them.
@@ -126,7 +127,7 @@ fn any_text(rng: &mut Rng, text: Vec<u8>, other: Vec<u8>) -> Vec<u8> {
     }
 }
 
-/// The text of a network or a plan, or one damaged, cut anywhere, far too long, or of random bytes.
+/// The text, or one damaged, cut anywhere, far too long, or of random bytes.
 fn damaged_text(rng: &mut Rng, text: Vec<u8>, other: Vec<u8>) -> Vec<u8> {
     if rng.below(500) == 0 {
         return too_long(rng, text);
@@ -185,7 +186,7 @@ fn random_lines(rng: &mut Rng) -> Vec<u8> {
         text += "=";
         text += &match key {
             "via" => format!("{:016x}", rng.any() >> rng.below(64)),
-            "net" | "plan" => "1".to_string(),
+            "net" | "plan" | "rules" => "1".to_string(),
             _ => (rng.any() >> rng.between(20, 63)).to_string(),
         };
         text += "\n";
@@ -276,6 +277,198 @@ pub fn sharing(rng: &mut Rng) -> (u64, Vec<u64>) {
             let most = rng.pick(&[100, 10_000, 10_000_000]);
             let rate = rng.below(most + 1);
             (rate, stairs(rng, rate))
+        }
+    }
+}
+
+/// Where the lines of the tunnels begin in a list of rule tables.
+fn tunnels_at(list: &[u64]) -> usize {
+    4 + list[2] as usize
+}
+
+/// The rules at a switch of the tunnels kept and of those of another kind.
+fn set(list: &[u64], switch: usize, other: u64) -> u64 {
+    list[tunnels_at(list)..]
+        .chunks(2)
+        .filter(|line| (line[0] >> switch) & 1 == 1 && (line[1] == 1 || line[1] == other))
+        .count() as u64
+}
+
+/// Valid rule tables of which every set just fits: each room is the least that does.
+fn tight_tables(rng: &mut Rng) -> Vec<u64> {
+    let (switches, tunnels) = match rng.below(40) {
+        0 => (64, 96),
+        1..=3 => (64, rng.between(0, 12)),
+        4..=5 => (rng.between(1, 3), 96),
+        _ => (rng.between(1, 5), rng.between(0, 20)),
+    };
+    let slack = match rng.below(4) {
+        0 => rng.pick(&[20, 500]),
+        1 => rng.pick(&[21, 50, 100, 111, 200, 250, 333, 334, 499]),
+        _ => rng.between(20, 500),
+    };
+    let all = u64::MAX >> (64 - switches);
+    let mut list = vec![1, slack, switches, tunnels];
+    list.resize(tunnels_at(&list), 0);
+    let kinds: &[u64] = rng.pick(&[&[1, 2, 3], &[2, 3], &[2], &[3], &[1]]);
+    for _ in 0..tunnels {
+        let via = match rng.below(6) {
+            0 => all,
+            1 => 1 << (switches - 1),
+            2 => 1 | 1 << (switches - 1),
+            3 => (rng.any() & all).max(1),
+            _ => 1 << rng.below(switches),
+        };
+        list.extend([via, rng.pick(kinds)]);
+    }
+    for switch in 0..switches as usize {
+        let larger = set(&list, switch, 2).max(set(&list, switch, 3));
+        list[4 + switch] = (1000 * larger).div_ceil(1000 - slack);
+    }
+    list
+}
+
+/// Valid rule tables: as the second implementation makes them, or with every set just fitting, or
+/// with one that just does not.
+pub fn rule_tables(rng: &mut Rng) -> Vec<u64> {
+    match rng.below(8) {
+        0..=2 => rules_list(rng),
+        3..=5 => tight_tables(rng),
+        6 => {
+            let mut list = tight_tables(rng);
+            let room = 4 + rng.below(list[2]) as usize;
+            list[room] = list[room].saturating_sub(1);
+            list
+        }
+        // more room than rules
+        _ => {
+            let mut list = tight_tables(rng);
+            let room = 4 + rng.below(list[2]) as usize;
+            list[room] = rng.pick(&[list[room] + 1, 97, 65_534, 65_535]);
+            list
+        }
+    }
+}
+
+/// Rule tables with one number beside its range.
+fn off_range(rng: &mut Rng, mut list: Vec<u64>) -> Vec<u64> {
+    let tunnels = tunnels_at(&list);
+    let beyond = if list[2] < 64 { 1 << list[2] } else { 0 };
+    let at = match rng.below(3) {
+        0 => rng.below(4) as usize,
+        _ => rng.below(list.len() as u64) as usize,
+    };
+    list[at] = match at {
+        0 => rng.pick(&[0, 2, 3]),
+        1 => rng.pick(&[0, 19, 501, 1000]),
+        2 => rng.pick(&[0, 65]),
+        3 => 97,
+        _ if at < tunnels => rng.pick(&[65_536, 65_537, 9_999_999_999]),
+        _ if (at - tunnels) % 2 == 1 => rng.pick(&[0, 4]),
+        _ => rng.pick(&[0, beyond, beyond | list[at]]),
+    };
+    list
+}
+
+/// A list of rule tables, half of them valid.
+pub fn any_rules_list(rng: &mut Rng) -> Vec<u64> {
+    let list = rule_tables(rng);
+    match rng.below(10) {
+        0..=4 => list,
+        5..=6 => off_range(rng, list),
+        _ => damaged(rng, &list),
+    }
+}
+
+/// What a rules text reader may meet.
+pub fn rules_text(rng: &mut Rng) -> Vec<u8> {
+    let list = rule_tables(rng);
+    let other = match rng.below(2) {
+        0 => write_network(&network(rng), ROOM).expect("a valid network"),
+        _ => write_rules(&rule_tables(rng), ROOM).expect("valid rule tables"),
+    };
+    // now and then a value beside its range, in lines that the writer refuses
+    let text = if rng.percent(15) {
+        let switches = list[2] as usize;
+        rules_lines(&off_range(rng, list), switches)
+    } else {
+        write_rules(&list, ROOM).expect("valid rule tables")
+    };
+    let text = damaged_text(rng, text, other);
+    match rng.below(16) {
+        0 => remarked_text(rng, &text),
+        1 => [&text[..], b"# no remarks here\n"].concat(),
+        _ => text,
+    }
+}
+
+/// The lines of a list that has the shape of rule tables with so many switches.
+fn rules_lines(list: &[u64], switches: usize) -> Vec<u8> {
+    let mut text = String::new();
+    for (i, number) in list.iter().enumerate() {
+        text += &match i {
+            0..=3 => format!(
+                "{}={number}\n",
+                ["rules", "slack", "switches", "tunnels"][i]
+            ),
+            _ if i < 4 + switches => format!("room={number}\n"),
+            _ if (i - switches) % 2 == 1 => format!("kind={number}\n"),
+            _ => format!("via={number:016x}\n"),
+        };
+    }
+    text.into_bytes()
+}
+
+#[cfg(test)]
+mod tests {
+    use super::*;
+
+    /// The lines are those of the writer.
+    #[test]
+    fn lines_of_rule_tables() {
+        let mut rng = Rng::new(8);
+        for _ in 0..1000 {
+            let list = rule_tables(&mut rng);
+            assert_eq!(
+                Ok(rules_lines(&list, list[2] as usize)),
+                write_rules(&list, ROOM)
+            );
+        }
+    }
+
+    /// The ends of every range come up, and both sets that do not fit.
+    #[test]
+    fn kinds_of_rule_tables() {
+        let mut rng = Rng::new(7);
+        let lists: Vec<_> = (0..2000).map(|_| rule_tables(&mut rng)).collect();
+        let some = |holds: &dyn Fn(&[u64]) -> bool| lists.iter().any(|list| holds(list));
+        for (at, ends) in [(1, [20, 500]), (2, [1, 64]), (3, [0, 96]), (4, [0, 65_535])] {
+            assert!(ends.iter().all(|&end| some(&|list| list[at] == end)));
+        }
+        assert!(some(&|list| list[tunnels_at(list)..].contains(&(1 << 63))));
+        assert!(some(&|list| list[tunnels_at(list)..].contains(&u64::MAX)));
+        for set in 0..2 {
+            assert!(some(
+                &|list| second::stage_rules(list, ROOM).is_err_and(|refusal| refusal.second == set)
+            ));
+        }
+    }
+
+    /// Every set just fits, and with one rule's room less at a switch that has rules one does not.
+    #[test]
+    fn sets_that_just_fit() {
+        let mut rng = Rng::new(9);
+        for _ in 0..300 {
+            let mut list = tight_tables(&mut rng);
+            let stages = second::stage_rules(&list, ROOM);
+            assert_eq!(stages.map(|stages| stages.len() as u64), Ok(list[3]));
+            let switches = 0..list[2];
+            let Some(switch) = switches.clone().find(|&s| list[4 + s as usize] > 0) else {
+                continue;
+            };
+            list[4 + switch as usize] -= 1;
+            let refusal = second::stage_rules(&list, ROOM).expect_err("a set too large");
+            assert_eq!((refusal.number, refusal.place), (18, switch));
         }
     }
 }

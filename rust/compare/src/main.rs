@@ -34,7 +34,7 @@ pub type Outcome = Result<String, String>;
 /// One case. Every operation comes up, the cheap ones more often.
 fn case(seed: u64, number: u64) -> Outcome {
     let mut rng = Rng::new(Rng::new(seed).any() ^ number.wrapping_mul(0xd134_2543_de82_ef95));
-    match number % 19 {
+    match number % 23 {
         0..=2 => call::read_network(&mut rng),
         3..=4 => call::read_plan(&mut rng),
         5..=6 => call::write_network(&mut rng),
@@ -45,7 +45,10 @@ fn case(seed: u64, number: u64) -> Outcome {
         15 => choices::hold(&mut rng),
         16 => desks::from_empty(&mut rng),
         17 => desks::from_any_parts(&mut rng),
-        _ => call::share(&mut rng),
+        18 => call::share(&mut rng),
+        19 => call::read_rules(&mut rng),
+        20 => call::write_rules(&mut rng),
+        _ => call::stage_rules(&mut rng),
     }
 }
 

@@ -1,13 +1,15 @@
-//! Even-step update plans for a tunnelled backbone, the sharing of a flow among services,
-//! [`share`], and a fair hand-out for eight desks, [`Desks`]: the proved operations, for Rust.
+//! Even-step update plans for a tunnelled backbone, the staging of rule tables, [`stage_rules`],
+//! the sharing of a flow among services, [`share`], and a fair hand-out for eight desks, [`Desks`]:
+//! the proved operations, for Rust.
 //!
 //! Texts and lists go in as slices, and results are written into a slice that the caller lends.
 //! No operation has a precondition: whatever is given, the answer says what came of it, and what
 //! is lent holds what the operation promises. Where the answer is a refusal, everything lent is
 //! left as it was, except the marks after 7 and 8. Output beyond the written length stays untouched.
 //!
-//! A line of a text that begins with `#` is a remark, which the readers pass over: up to 80 bytes
-//! before its line feed, at most 32 in a text, anywhere. Lists and written texts have none.
+//! A line of a network or plan text that begins with `#` is a remark, which the readers pass over:
+//! up to 80 bytes before its line feed, at most 32 in a text, anywhere. Lists, written texts and
+//! rules texts have none.
 //!
 //! ```
 //! use pavuneshil::{make_plan, Answer};
@@ -30,11 +32,20 @@ pub const NETWORK_NUMBERS: usize = 6 + 64 + 2 * 32 + 4 * 96;
 /// No valid plan's list has more numbers.
 pub const PLAN_NUMBERS: usize = 4 + 49 * 96;
 
+/// No valid rule tables' list has more numbers.
+pub const RULES_NUMBERS: usize = 4 + 64 + 2 * 96;
+
 /// No valid text has more bytes, with all its remarks.
 pub const TEXT_BYTES: usize = 65_536;
 
+/// No valid rules text has more bytes.
+pub const RULES_BYTES: usize = 3_433;
+
 /// No network has more tunnels, so no check writes more marks.
 pub const MARKS: usize = 96;
+
+/// No rule tables have more tunnels, so no staging gives more stages.
+pub const STAGES: usize = 96;
 
 /// No flow is shared among more services.
 pub const SERVICES: usize = 16;
@@ -46,14 +57,15 @@ pub struct Refusal {
     /// 4 amounts that miss a flow's rate, 5 another number of tunnels, 6 a row that misses
     /// parts × rate, 7 protected overload, 8 overload of all classes, 9 no even plan of 1 to 50
     /// steps, 10 lent output too short, 12 no such desk, 13 four jobs of the desk wait already,
-    /// 14 hand-out with nothing waiting, 21 count of services, rate or demand out of range.
+    /// 14 hand-out with nothing waiting, 18 a set of rules that does not fit, 21 count of services,
+    /// rate or demand out of range.
     pub number: u64,
     /// The line, in a text counted with the remarks; the flow, row or step; the length needed for 10;
-    /// the desk for 12 and 13; 0 for 14; for 21 the first service, counted from 1, whose demand is out
-    /// of range, 0 for count and rate.
+    /// the desk for 12 and 13; 0 for 14; the switch for 18; for 21 the first service, counted from 1,
+    /// whose demand is out of range, 0 for count and rate.
     pub place: u64,
-    /// 0 network and 1 plan for 1, 2, 3 and 5; 0 old and 1 new for 4; the flow for 6; the link
-    /// for 7, 8 and 9; 0 for 10, 12, 13 and 14; 1 for a rate out of range in 21, else 0.
+    /// 0 network, 1 plan and 2 rules for 1, 2 and 3; 1 for 5; 0 old and 1 new for 4 and 18; the flow
+    /// for 6; the link for 7, 8 and 9; 0 for 10, 12, 13 and 14; 1 for a rate out of range in 21, else 0.
     pub second: u64,
 }
 
@@ -128,6 +140,27 @@ mod archive {
             rate: u64,
             demands: *const u64,
             demands_len: usize,
+            out: *mut u64,
+            out_len: usize,
+            answer: *mut [u64; 4],
+        );
+        pub fn pavuneshil_read_rules(
+            text: *const u8,
+            text_len: usize,
+            out: *mut u64,
+            out_len: usize,
+            answer: *mut [u64; 4],
+        );
+        pub fn pavuneshil_write_rules(
+            list: *const u64,
+            list_len: usize,
+            out: *mut u8,
+            out_len: usize,
+            answer: *mut [u64; 4],
+        );
+        pub fn pavuneshil_stage_rules(
+            list: *const u64,
+            list_len: usize,
             out: *mut u64,
             out_len: usize,
             answer: *mut [u64; 4],
@@ -288,4 +321,42 @@ pub fn share(rate: u64, demands: &[u64], out: &mut [u64]) -> Answer {
         );
     }
     answer(four)
+}
+
+/// Reads a rules text into a list of numbers, one for each line. It has no remarks. Refusals 1 to 3
+/// and 10.
+///
+/// ```
+/// use pavuneshil::{read_rules, Answer};
+/// let text = b"rules=1\nslack=250\nswitches=1\ntunnels=1\nroom=4\nvia=0000000000000001\nkind=2\n";
+/// let mut list = [0; pavuneshil::RULES_NUMBERS];
+/// assert_eq!(read_rules(text, &mut list), Answer::Done(7));
+/// assert_eq!(list[..7], [1, 250, 1, 1, 4, 1, 2]);
+/// ```
+pub fn read_rules(text: &[u8], out: &mut [u64]) -> Answer {
+    convert!(pavuneshil_read_rules, text, out)
+}
+
+/// Writes the text of a rule tables' list. Refusals 2, 3 and 10.
+pub fn write_rules(list: &[u64], out: &mut [u8]) -> Answer {
+    convert!(pavuneshil_write_rules, list, out)
+}
+
+/// Tells in which stage each tunnel's rules go in or out, for a rule tables' list. Done: one number
+/// for each tunnel, 0 for one that is kept, else a stage of 1 to ceil(1000 / slack) - 1. In a stage,
+/// those to add go in, then those to remove go out. No switch ever holds more rules than its room,
+/// whichever of a stage's tunnels have gone; after each stage `slack` thousandths of every room are
+/// free; after the last the switches hold the tunnels kept and added. Refusals 2, 3, 18 and 10.
+///
+/// ```
+/// use pavuneshil::{stage_rules, Answer};
+/// // slack 250, so three stages; one switch with room for 4 rules, of which 3 may be used: three
+/// // tunnels to add and three to remove
+/// let list = [1, 250, 1, 6, 4, 1, 2, 1, 2, 1, 2, 1, 3, 1, 3, 1, 3];
+/// let mut stages = [0; 6];
+/// assert_eq!(stage_rules(&list, &mut stages), Answer::Done(6));
+/// assert_eq!(stages, [1, 2, 3, 1, 2, 3]);
+/// ```
+pub fn stage_rules(list: &[u64], out: &mut [u64]) -> Answer {
+    convert!(pavuneshil_stage_rules, list, out)
 }
