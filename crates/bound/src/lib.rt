@@ -74,3 +74,11 @@ pub fn step_bound(scratch: u64, overrun: u64) -> StepBound
 {
     by_card(&CARD, scratch, overrun)
 }
+
+// The step bound of a scratch with no overrun; of a slack, the number of stages.
+pub fn last_step(share: u64) -> u64
+    requires { ⌜ isShare share ≡ true ⌝ }
+    ensures { λ r. ⌜ r ≡ ceilDiv 1000 share - 1 ⌝ }
+{
+    entry(&CARD, share) as u64
+}

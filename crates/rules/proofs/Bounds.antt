@@ -6,6 +6,7 @@ use mathlib.Core.Bool.{true, false, not}
 use native.Mathlib.Nat.{eq-or-lt-of-le, le-of-suc-le-suc, le-trans, mul-le-mul-left}
 use native.Mathlib.Omega.{arith}
 use borrow.Author.Tests.{not-false, eq-eqb, ne-eqb}
+use Rattle.model.specs.Limits.{leastShare, mostShare}
 use Rattle.model.specs.Sets.{inSet}
 use Rattle.model.specs.Even.{ceilDiv}
 use Rattle.model.proofs.Bounded.{ceil-ge, ceil-least}
@@ -17,16 +18,17 @@ use Rattle.rules.proofs.Passes.{waits-is, moved-is, turn-cases, other-m
 
 -- ---- the last stage
 
-pub last-pos : (R : Rules) → (20 ≤ R .slack) × (R .slack ≤ 500) → 1 ≤ lastStage R
-unfolding lastStage
-last-pos R h = omega (arith, ceil-least (R .slack) (omega (arith, h .0)) (h .1))
+module _ (R : Rules) (h : (leastShare ≤ R .slack) × (R .slack ≤ mostShare)) where
+  -- with one stage more, slack times the stages would be the whole
+  last-more : lastStage R + 1 ≡ ceilDiv 1000 (R .slack)
+  unfolding lastStage
+  last-more = omega (arith, ceil-least (R .slack) (omega (arith, h)) (h .1))
 
-pub last-slack : (R : Rules) → (20 ≤ R .slack) × (R .slack ≤ 500) → 1000 ≤ suc (lastStage R) * R .slack
-unfolding lastStage
-last-slack R h =
-    let pos : 0 < R .slack = omega (arith, h .0) in
-    let e : suc (ceilDiv 1000 (R .slack) - 1) ≡ ceilDiv 1000 (R .slack) = omega (arith, ceil-least (R .slack) pos (h .1)) in
-    omega (arith, ceil-ge 1000 (R .slack) pos, ap (λ (n : ℕ). n * R .slack) e)
+  pub last-slack : 1000 ≤ suc (lastStage R) * R .slack
+  last-slack = omega (arith, ceil-ge 1000 (R .slack) (omega (arith, h)), ap (λ (n : ℕ). n * R .slack) last-more)
+
+  pub last-pos : 1 ≤ lastStage R
+  last-pos = omega (arith, last-more, ceil-least (R .slack) (omega (arith, h)) (h .1))
 
 -- ---- what a stage given changes
 
@@ -57,12 +59,23 @@ module _ (R : Rules) (s : ℕ) (h : s < R .switches) where
   abbrev remaining : Stages → ℕ
   remaining f = count R (waits R removes f) s
 
+  -- ---- what the tests say of a switch that the tunnel crosses
+
+  added-test : (i : ℕ) (f : Stages) (t : ℕ) → goes R adds i f t ≡ true → inSet (R .via t) s ≡ true → 1000 * k * (added f + 1) ≤ i * spare R s
+  unfolding goes
+  added-test i f t g e = omega (arith, within-at R i _ t g s h e)
+
+  remaining-test : (i d : ℕ) (f : Stages) (t : ℕ) → i + d ≡ k → goes R removes i f t ≡ false → inSet (R .via t) s ≡ true → 1000 * k * remaining f ≤ d * spare R s
+  unfolding goes
+  remaining-test i d f t q g e =
+      let m : k - i ≡ d = omega (arith, q) in
+      omega (arith, within-at R (k - i) _ t (not-false _ g) s h e, ap (λ (n : ℕ). n * spare R s) m)
+
   -- ---- adding
 
   -- the test of a tunnel that goes in is that of the count with it
   add-turn : (i : ℕ) (f : Stages) (t : ℕ) → t < R .tunnels → 1000 * k * added f ≤ suc i * spare R s
       → 1000 * k * added (turn R adds (suc i) f t) ≤ suc i * spare R s
-  unfolding goes
   add-turn i f t l b =
       ⊎-elim
       (λ c.
@@ -71,7 +84,7 @@ module _ (R : Rules) (s : ℕ) (h : s < R .switches) where
       (⊎-elim
       (λ (e : inSet (R .via t) s ≡ true).
       let now : added (given true t (suc i) f) ≡ added f + 1 = omega (arith, more, rule-one R s t e) in
-      rw now (within-at R (suc i) (λ s. count R (moved R adds f) s + 1) t (c .1) s h e))
+      rw now (added-test (suc i) f t (c .1) e))
       (λ (e : inSet (R .via t) s ≡ false).
       let now : added (given true t (suc i) f) ≡ added f = omega (arith, more, rule-none R s t e) in
       rw now b)
@@ -99,7 +112,7 @@ module _ (R : Rules) (s : ℕ) (h : s < R .switches) where
   -- of the tunnels passed, one that still waits across the switch was tested when no fewer remained
   stayed : (i d : ℕ) (f : Stages) (n : ℕ) → suc i + d ≡ k → n ≤ R .tunnels → (u : ℕ) → u < n → waits R removes (pass R removes (suc i) f n) u ≡ true → inSet (R .via u) s ≡ true
       → 1000 * k * remaining (pass R removes (suc i) f n) ≤ d * spare R s
-  unfolding pass goes
+  unfolding pass
   stayed i d f zero q l u b w e = absurd (omega (arith, b))
   stayed i d f (suc n) q l u b w e =
       let g : Stages = pass R removes (suc i) f n in
@@ -121,9 +134,8 @@ module _ (R : Rules) (s : ℕ) (h : s < R .switches) where
       (⊎-elim
       (λ (z : u ≡ n).
       let here : waits R removes g n ≡ true = rw z at w' in
-      let stays : not (within R (k - suc i) (count R (waits R removes g)) n) ≡ false = rw here at (c .0) in
-      let m : k - suc i ≡ d = omega (arith, q) in
-      rw m at (within-at R (k - suc i) (count R (waits R removes g)) n (not-false _ stays) s h (rw z at e)))
+      let stays : goes R removes (suc i) g n ≡ false = rw here at (c .0) in
+      remaining-test (suc i) d g n q stays (rw z at e))
       (λ (z : u < n). rest u z w' e)
       (eq-or-lt-of-le (le-of-suc-le-suc b))))
       (turn-cases R removes (suc i) g n)

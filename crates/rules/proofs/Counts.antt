@@ -9,7 +9,7 @@ use lib.Dec.{leb, eqb}
 use borrow.Author.Tests.{le-leb, leb-true, lt-leb, eq-eqb, ne-eqb, eqb-true}
 use Rattle.model.specs.Sum.{sumOver}
 use Rattle.model.specs.Sets.{inSet}
-use Rattle.model.proofs.Sums.{sum-add, sum-all, sum-mono, sum-both, sum-one}
+use Rattle.model.proofs.Sums.{sum-add, sum-all, sum-mono, sum-cong, sum-both, sum-one}
 use Rattle.model.proofs.Searches.{bool-cases, and-true}
 use Rattle.rules.specs.Rules.{Rules, isKind, rule, count, lastStage, spare}
 use Rattle.rules.specs.Stage.{Move, kindOf, Stages, moved, waits, every, within, given}
@@ -122,22 +122,11 @@ module _ (R : Rules) (s : ℕ) where
       one true a b c v h =
           ⊎-elim (λ (e : a ≡ true). rw e (omega arith)) (⊎-elim (λ (e : b ≡ true). rw e (omega arith)) (λ (e : c ≡ true). rw e (omega arith))) (h refl)
 
-  pub count-le : (p q : ℕ → Bool) → ((t : ℕ) → t < R .tunnels → p t ≡ true → q t ≡ true) → count R p s ≤ count R q s
-  unfolding count
-  count-le p q h =
-      omega (
-        arith,
-        sum-all (R .tunnels) p (rule R s),
-        sum-all (R .tunnels) q (rule R s),
-        sum-mono (R .tunnels) (λ t. true) {x = λ t. cond (p t) (rule R s t) 0} {y = λ t. cond (q t) (rule R s t) 0} (λ t k _. one (p t) (q t) (rule R s t) (h t k)),
-      )
-    where
-      one : (a b : Bool) (v : ℕ) → (a ≡ true → b ≡ true) → cond a v 0 ≤ cond b v 0
-      one false b v h = omega arith
-      one true b v h = rw (h refl) (omega arith)
-
   pub count-cong : (p q : ℕ → Bool) → ((t : ℕ) → t < R .tunnels → p t ≡ q t) → count R p s ≡ count R q s
-  count-cong p q h = omega (arith, count-le p q (λ t k e. sym (h t k) ∙ e), count-le q p (λ t k e. h t k ∙ e))
+  unfolding count
+  count-cong p q h =
+      let n = R .tunnels in
+      sym (sum-all n p (rule R s)) ∙ sum-cong n (λ t. true) (λ t k _. ap (λ (b : Bool). cond b (rule R s t) 0) (h t k)) ∙ sum-all n q (rule R s)
 
   -- a tunnel across the switch that the test picks is counted
   pub count-some : (p : ℕ → Bool) (t : ℕ) → t < R .tunnels → p t ≡ true → inSet (R .via t) s ≡ true → 1 ≤ count R p s
@@ -153,38 +142,6 @@ module _ (R : Rules) (s : ℕ) where
       inr (r .0, r .1, r .2, ⊎-elim (λ e. e) (λ (e : inSet (R .via (r .0)) s ≡ false). absurd (r .3 (rw e))) (bool-cases (inSet (R .via (r .0)) s))))
       (sum-some (R .tunnels) p (rule R s))
 
-  -- ---- a tunnel that waits is given a stage
-
-  module _ (m : Move) (f : Stages) (t i : ℕ) (h : t < R .tunnels) (w : waits R m f t ≡ true) where
-    was-kind : (isKind R (kindOf m) t ≡ true) × (f t ≡ 0)
-    unfolding waits
-    was-kind = let e = and-true (isKind R (kindOf m) t) (eqb (f t) 0) w in (e .0, eqb-true (f t) 0 (e .1))
-
-    -- it is one more of those that have one, and one less of those that wait
-    pub count-moved : count R (moved R m (given true t (suc i) f)) s ≡ count R (moved R m f) s + rule R s t
-    unfolding count moved given
-    count-moved =
-        omega (arith, sum-both (R .tunnels) (moved R m f) (λ u. eqb u t) (moved R m (given true t (suc i) f)) (rule R s) each, sum-single (R .tunnels) t (rule R s) h)
-      where
-        each : (u v : ℕ) → cond (moved R m f u) v 0 + cond (eqb u t) v 0 ≡ cond (moved R m (given true t (suc i) f) u) v 0
-        each u v =
-            ⊎-elim
-            (λ (e : eqb u t ≡ true). let k : u ≡ t = eqb-true u t e in rw k (rw (eq-eqb t t refl, was-kind .0, was-kind .1, ne-eqb (suc i) 0 (λ z. omega (arith, z))) (omega arith)))
-            (λ (e : eqb u t ≡ false). rw e (add-zero _))
-            (bool-cases (eqb u t))
-
-    pub count-waits : count R (waits R m f) s ≡ count R (waits R m (given true t (suc i) f)) s + rule R s t
-    unfolding count waits given
-    count-waits =
-        omega (arith, sum-both (R .tunnels) (waits R m (given true t (suc i) f)) (λ u. eqb u t) (waits R m f) (rule R s) each, sum-single (R .tunnels) t (rule R s) h)
-      where
-        each : (u v : ℕ) → cond (waits R m (given true t (suc i) f) u) v 0 + cond (eqb u t) v 0 ≡ cond (waits R m f u) v 0
-        each u v =
-            ⊎-elim
-            (λ (e : eqb u t ≡ true). let k : u ≡ t = eqb-true u t e in rw k (rw (eq-eqb t t refl, was-kind .0, was-kind .1, ne-eqb (suc i) 0 (λ z. omega (arith, z))) (omega arith)))
-            (λ (e : eqb u t ≡ false). rw e (add-zero _))
-            (bool-cases (eqb u t))
-
   -- those that have a stage and those that wait are all of their kind
   pub count-kind : (m : Move) (f : Stages) → count R (moved R m f) s + count R (waits R m f) s ≡ count R (isKind R (kindOf m)) s
   unfolding count moved waits
@@ -194,3 +151,23 @@ module _ (R : Rules) (s : ℕ) where
       either false b u = refl
       either true true u = omega arith
       either true false u = add-zero u
+
+  -- a tunnel that waits and is given a stage is one more of those that have one, and one less of those that wait
+  module _ (m : Move) (f : Stages) (t i : ℕ) (h : t < R .tunnels) (w : waits R m f t ≡ true) where
+    pub count-moved : count R (moved R m (given true t (suc i) f)) s ≡ count R (moved R m f) s + rule R s t
+    unfolding count moved waits given
+    count-moved =
+        omega (arith, sum-both (R .tunnels) (moved R m f) (λ u. eqb u t) (moved R m (given true t (suc i) f)) (rule R s) each, sum-single (R .tunnels) t (rule R s) h)
+      where
+        was : (isKind R (kindOf m) t ≡ true) × (eqb (f t) 0 ≡ true)
+        was = and-true (isKind R (kindOf m) t) (eqb (f t) 0) w
+
+        each : (u v : ℕ) → cond (moved R m f u) v 0 + cond (eqb u t) v 0 ≡ cond (moved R m (given true t (suc i) f) u) v 0
+        each u v =
+            ⊎-elim
+            (λ (e : eqb u t ≡ true). let k : u ≡ t = eqb-true u t e in rw k (rw (eq-eqb t t refl, was .0, was .1, ne-eqb (suc i) 0 (λ z. omega (arith, z))) (omega arith)))
+            (λ (e : eqb u t ≡ false). rw e (add-zero _))
+            (bool-cases (eqb u t))
+
+    pub count-waits : count R (waits R m f) s ≡ count R (waits R m (given true t (suc i) f)) s + rule R s t
+    count-waits = omega (arith, count-moved, count-kind m f, count-kind m (given true t (suc i) f))

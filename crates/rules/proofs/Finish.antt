@@ -1,5 +1,5 @@
 -- "all is done after stage k": every tunnel to add is in by then, and every one to remove is out.
-use Prim.Native.Nat.{ℕ, zero, suc, _+_, _*_, _≤_, _<_}
+use Prim.Native.Nat.{ℕ, zero, suc, _+_, _*_, _^_, _≤_, _<_}
 use mathlib.Core.Path.{_≡_, refl, sym, _∙_}
 use mathlib.Core.Logic.{_≢_, ⊎-elim}
 use mathlib.Core.Bool.{true, false, _&&_, true≢false}
@@ -7,14 +7,20 @@ use native.Mathlib.Nat.{eq-or-lt-of-le, le-of-suc-le-suc, mul-le-mul-left}
 use native.Mathlib.Omega.{arith}
 use borrow.Author.Tests.{eq-eqb}
 use lib.Count.{trailingZeros}
+use Rattle.model.specs.Limits.{leastShare, mostShare}
 use Rattle.model.specs.Sets.{inSet}
 use Rattle.model.proofs.Sets.{at-lowest, set-within}
-use Rattle.rules.specs.Rules.{Rules, add, remove, isKind, count, lastStage, spare}
+use Rattle.rules.specs.Rules.{Rules, keep, add, remove, isKind, count, lastStage, spare}
 use Rattle.rules.specs.Stage.{adds, removes, Stages, moved, waits, goes, given, pass, stage, stages}
-use Rattle.rules.specs.Claim.{Valid}
 use Rattle.rules.proofs.Counts.{within-all, count-some, count-kind}
 use Rattle.rules.proofs.Passes.{waits-is, is-waiting, turn-cases, pass-other}
 use Rattle.rules.proofs.Bounds.{last-pos, remaining-most, given-at, given-waits}
+
+-- what a good list says of its figures
+pub record Valid (R : Rules) : Type 0 where
+  pub slack : (leastShare ≤ R .slack) × (R .slack ≤ mostShare)
+  pub via : (t : ℕ) → t < R .tunnels → (R .via t ≢ 0) × (R .via t < 2 ^ R .switches)
+  pub kind : (t : ℕ) → t < R .tunnels → (keep ≤ R .kind t) × (R .kind t ≤ remove)
 
 -- what is left of the room beside the kept tunnels suffices for those to add, and for those to remove
 pub record Fits (R : Rules) : Type 0 where

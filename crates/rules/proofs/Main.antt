@@ -2,14 +2,14 @@
 use Prim.Native.Nat.{ℕ, zero, suc, _+_, _-_, _*_, _≤_, _<_}
 use mathlib.Core.Path.{_≡_, refl, sym, ap, _∙_}
 use mathlib.Core.Logic.{_≢_, _⊎_, inl, inr, ⊎-elim}
-use mathlib.Core.Bool.{Bool, true, false, not, _&&_, _||_, true≢false}
+use mathlib.Core.Bool.{Bool, true, false, cond, not, _&&_, _||_}
 use mathlib.Core.List.{List}
 use mathlib.Core.Option.{Option, none, some}
 use native.Mathlib.Nat.{mul-le-mul-right, le-of-mul-le-mul-left}
 use native.Mathlib.Omega.{arith}
-use lib.Dec.{ltb, eqb}
+use lib.Dec.{leb, ltb, eqb}
 use lib.ListN.{length}
-use borrow.Author.Tests.{ltb-true, ltb-false, lt-ltb, le-ltb, eqb-true, eqb-false, eq-eqb, ne-eqb}
+use borrow.Author.Tests.{leb-true, leb-false, ltb-true, ltb-false, le-leb, lt-leb, eqb-true, eqb-false}
 use Rattle.model.specs.Search.{onlyIf, orElse, first}
 use Rattle.model.specs.Listed.{listed}
 use Rattle.model.specs.Outcome.{good, unless, unfit, Place}
@@ -19,11 +19,11 @@ use Rattle.lists.specs.Lists.{at}
 use Rattle.rules.specs.Rules.{Rules, keep, add, remove, isKind, count, lastStage, usable, spare}
 use Rattle.rules.specs.Stage.{adds, removes, Stages, moved, waits, stages, tooMany, unfitAt, staged}
 use Rattle.rules.specs.Lists.{rulesOf, GoodRules}
-use Rattle.rules.specs.Claim.{Valid, isDone, holds, whole, nothing, sofar, Safe, Claim}
+use Rattle.rules.specs.Claim.{isDone, holds, whole, sofar, Safe, Claim}
 use Rattle.rules.proofs.Counts.{count-three}
 use Rattle.rules.proofs.Passes.{kind-is, is-kind, not-kind, is-waiting, is-moved, stages-le, stages-kept, given-early, given-late}
 use Rattle.rules.proofs.Bounds.{last-pos, last-slack, added-most, remaining-most}
-use Rattle.rules.proofs.Finish.{Fits, all-in, all-out}
+use Rattle.rules.proofs.Finish.{Valid, Fits, all-in, all-out}
 
 -- ---- where no refusal is due
 
@@ -70,46 +70,33 @@ room-sum i d x kept a r slack room pos most ceil e ha hr =
 module _ (f : Stages) (i : ℕ) (c : ℕ → Bool) (t : ℕ) where
   done-by : isDone f i c t ≡ true → f t ≤ i
   unfolding isDone
-  done-by e = go (bool-cases (ltb (f t) i)) e
+  done-by e = go (c t) e
     where
-      go : (ltb (f t) i ≡ true) ⊎ (ltb (f t) i ≡ false) → (ltb (f t) i || (eqb (f t) i && c t)) ≡ true → f t ≤ i
-      go (inl z) e = omega (arith, ltb-true (f t) i z)
-      go (inr z) e = let here : (eqb (f t) i && c t) ≡ true = rw z at e in omega (arith, eqb-true (f t) i (and-true (eqb (f t) i) (c t) here .0))
+      go : (b : Bool) → cond b (leb (f t) i) (ltb (f t) i) ≡ true → f t ≤ i
+      go true e = leb-true (f t) i e
+      go false e = omega (arith, ltb-true (f t) i e)
 
   not-done : isDone f i c t ≡ false → i ≤ f t
   unfolding isDone
-  not-done e =
-      ⊎-elim (λ (z : ltb (f t) i ≡ true). absurd (true≢false (rw z at e))) (λ z. ltb-false (f t) i z) (bool-cases (ltb (f t) i))
+  not-done e = go (c t) e
+    where
+      go : (b : Bool) → cond b (leb (f t) i) (ltb (f t) i) ≡ false → i ≤ f t
+      go true e = omega (arith, leb-false (f t) i e)
+      go false e = ltb-false (f t) i e
 
-  is-done : f t < i → isDone f i c t ≡ true
+  -- one that c picks
+  picked-later : c t ≡ true → isDone f i c t ≡ false → i < f t
   unfolding isDone
-  is-done h = rw (lt-ltb (f t) i h)
+  picked-later p e = leb-false (f t) i (rw p at e)
 
-  later : i < f t → isDone f i c t ≡ false
-  unfolding isDone
-  later h = rw (le-ltb (f t) i (omega (arith, h)), ne-eqb (f t) i (λ e. omega (arith, e, h)))
-
--- a stage that is whole
+-- after a stage
 whole-done : (f : Stages) (i t : ℕ) → f t ≤ i → isDone f i whole t ≡ true
 unfolding isDone
-whole-done f i t h =
-    ⊎-elim
-    (λ (z : ltb (f t) i ≡ true). rw z)
-    (λ (z : ltb (f t) i ≡ false). rw (z, eq-eqb (f t) i (omega (arith, h, ltb-false (f t) i z))))
-    (bool-cases (ltb (f t) i))
+whole-done f i t h = le-leb (f t) i h
 
-whole-not : (f : Stages) (i t : ℕ) → isDone f i whole t ≡ false → i < f t
-whole-not f i t e =
-    ⊎-elim (λ z. ltb-true i (f t) z) (λ z. absurd (true≢false (sym (whole-done f i t (ltb-false i (f t) z)) ∙ e))) (bool-cases (ltb i (f t)))
-
--- nothing of a stage
-none-not : (f : Stages) (i t : ℕ) → i ≤ f t → isDone f i nothing t ≡ false
+whole-not : (f : Stages) (i t : ℕ) → i < f t → isDone f i whole t ≡ false
 unfolding isDone
-none-not f i t h = rw (le-ltb (f t) i h) (no (eqb (f t) i))
-  where
-    no : (b : Bool) → (b && false) ≡ false
-    no true = refl
-    no false = refl
+whole-not f i t h = lt-leb (f t) i h
 
 -- ---- what the switches hold
 
@@ -195,12 +182,14 @@ module _ (R : Rules) (l : List ℕ) (v : Valid R) (g : staged R ≡ good l) wher
       inr (inr (is-waiting R removes (stages R j) t (a .0) (given-late R j k t hj late)))))
       (held R (at l) i c t e))
 
-  free : (i s : ℕ) → 1 ≤ i → i ≤ k → s < R .switches → 1000 * count R (holds R (at l) i whole) s ≤ usable R s
-  free i s lo hi h =
+  -- where what is not done by then comes in a later stage
+  free : (i s : ℕ) (c : ℕ → Bool) → i ≤ k → s < R .switches → ((t : ℕ) → t < R .tunnels → isDone (at l) i c t ≡ false → i < at l t)
+      → 1000 * count R (holds R (at l) i c) s ≤ usable R s
+  free i s c hi h out =
       let d : ℕ = k - i in
       let e : i + d ≡ k = omega (arith, hi) in
-      let all = holds-most i i s whole hi hi (λ t _ n. whole-not (at l) i t n) in
-      let sum = free-sum i d (spare R s) (count R (isKind R keep) s) (count R (moved R adds (stages R i)) s) (count R (waits R removes (stages R i)) s) (usable R s) (omega (arith, lo)) (kept-used s h)
+      let all = holds-most i i s c hi hi out in
+      let sum = free-sum i d (spare R s) (count R (isKind R keep) s) (count R (moved R adds (stages R i)) s) (count R (waits R removes (stages R i)) s) (usable R s) (rw e (last-pos R (v .slack))) (kept-used s h)
       (rw e (added-most R s h i)) (rw e (remaining-most R s h i d e (fit .old s h))) in
       omega (arith, all, sum)
 
@@ -216,13 +205,13 @@ module _ (R : Rules) (l : List ℕ) (v : Valid R) (g : staged R ≡ good l) wher
       (rw e (added-most R s h (suc j))) (rw e (remaining-most R s h j d e (fit .old s h))) in
       omega (arith, all, sum)
 
-  begins : (t : ℕ) → t < R .tunnels → holds R (at l) 1 nothing t ≡ not (isKind R add t)
+  begins : (t : ℕ) → t < R .tunnels → holds R (at l) 0 whole t ≡ not (isKind R add t)
   begins t h =
       ⊎-elim
-      (λ e. holds-kept R (at l) 1 nothing t e ∙ sym (ap not (not-kind R add t (λ z. omega (arith, z, e)))))
+      (λ e. holds-kept R (at l) 0 whole t e ∙ sym (ap not (not-kind R add t (λ z. omega (arith, z, e)))))
       (⊎-elim
-      (λ e. holds-add R (at l) 1 nothing t e ∙ none-not (at l) 1 t (omega (arith, added-some t h e)) ∙ sym (ap not (is-kind R add t e)))
-      (λ e. holds-remove R (at l) 1 nothing t e ∙ ap not (none-not (at l) 1 t (omega (arith, removed-some t h e))) ∙ sym (ap not (not-kind R add t (λ z. omega (arith, z, e))))))
+      (λ e. holds-add R (at l) 0 whole t e ∙ whole-not (at l) 0 t (omega (arith, added-some t h e)) ∙ sym (ap not (is-kind R add t e)))
+      (λ e. holds-remove R (at l) 0 whole t e ∙ ap not (whole-not (at l) 0 t (omega (arith, removed-some t h e))) ∙ sym (ap not (not-kind R add t (λ z. omega (arith, z, e))))))
       (three (R .kind t) (v .kind t h))
 
   ends : (t : ℕ) → t < R .tunnels → holds R (at l) k whole t ≡ not (isKind R remove t)
@@ -243,7 +232,7 @@ module _ (R : Rules) (l : List ℕ) (v : Valid R) (g : staged R ≡ good l) wher
         let some : at l t ≢ 0 = ⊎-elim (λ e. absurd (n e)) (⊎-elim (added-some t h) (removed-some t h)) (three (R .kind t) (v .kind t h)) in (omega (arith, some), last-le t h);
     begins = begins;
     ends = ends;
-    free = free;
+    free = λ i s hi h. free i s _ hi h (λ t _. picked-later (at l) i _ t refl);
     within = within;
     moments = λ i s lo hi h m n. within i s lo hi h (sofar R m n);
   }
@@ -259,4 +248,4 @@ given R h =
     (listed (R .tunnels) (stages R (lastStage R)), rw fit)
 
 pub claim : Claim
-claim = record { safe = safe; lists = λ input l g e. safe (rulesOf input) l (good-valid input g) e; given = given }
+claim = record { safe = λ input l g e. safe (rulesOf input) l (good-valid input g) e; given = given }

@@ -10,7 +10,7 @@ use borrow.Author.Tests.{le-leb, lt-leb, eq-eqb, ne-eqb, eqb-true, eqb-false}
 use Rattle.model.proofs.Searches.{bool-cases, and-true, not-true}
 use Rattle.rules.specs.Rules.{Rules, keep, isKind, count}
 use Rattle.rules.specs.Stage.{Move, adds, removes, kindOf, Stages, moved, waits, goes, given, turn, pass, stage, stages}
-use Rattle.rules.proofs.Counts.{count-cong}
+use Rattle.rules.proofs.Counts.{count-cong, count-kind}
 
 module _ (R : Rules) where
   pub kind-is : (k t : ℕ) → isKind R k t ≡ true → R .kind t ≡ k
@@ -111,8 +111,7 @@ module _ (R : Rules) where
     other-moved = count-cong R s _ _ (λ u h. and-same (isKind R (kindOf o) u) (λ e. ap (λ (x : ℕ). not (eqb x 0)) (same u e)))
 
     pub other-waits : count R (waits R o (pass R m i f n)) s ≡ count R (waits R o f) s
-    unfolding waits
-    other-waits = count-cong R s _ _ (λ u h. and-same (isKind R (kindOf o) u) (λ e. ap (λ (x : ℕ). eqb x 0) (same u e)))
+    other-waits = omega (arith, other-moved, count-kind R s o f, count-kind R s o (pass R m i f n))
 
   -- ---- the stages
 

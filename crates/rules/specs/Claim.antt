@@ -1,40 +1,30 @@
 -- What holds of the stages, whenever a list of them is given.
-use Prim.Native.Nat.{ℕ, _^_, _*_, _≤_, _<_}
+use Prim.Native.Nat.{ℕ, _*_, _≤_, _<_}
 use mathlib.Core.Path.{_≡_}
 use mathlib.Core.Logic.{_≢_}
-use mathlib.Core.Bool.{Bool, true, false, not, _&&_, _||_}
+use mathlib.Core.Bool.{Bool, true, false, cond, not, _&&_, _||_}
 use mathlib.Core.List.{List}
-use lib.Dec.{ltb, eqb}
+use lib.Dec.{leb, ltb}
 use lib.ListN.{length}
-use Rattle.model.specs.Limits.{leastShare, mostShare}
 use Rattle.model.specs.Outcome.{good}
 use Rattle.lists.specs.Lists.{at}
 use Rattle.rules.specs.Rules.{Rules, keep, add, remove, isKind, count, lastStage, usable}
 use Rattle.rules.specs.Stage.{Move, Stages, tooMany, staged}
 use Rattle.rules.specs.Lists.{rulesOf, GoodRules}
 
--- what the input lines say of their figures
-pub record Valid (R : Rules) : Type 0 where
-  pub slack : (leastShare ≤ R .slack) × (R .slack ≤ mostShare)
-  pub via : (t : ℕ) → t < R .tunnels → (R .via t ≢ 0) × (R .via t < 2 ^ R .switches)
-  pub kind : (t : ℕ) → t < R .tunnels → (keep ≤ R .kind t) × (R .kind t ≤ remove)
-
 -- ---- the rules that the switches hold
 
--- a tunnel's move is done: its stage is an earlier one than i, or is i and it is one of those that c picks
+-- a tunnel's move is done in stage i: its stage is i or an earlier one if c picks it, else an earlier one
 unfoldable pub isDone : Stages → ℕ → (ℕ → Bool) → ℕ → Bool
-isDone f i c t = ltb (f t) i || (eqb (f t) i && c t)
+isDone f i c t = cond (c t) (leb (f t) i) (ltb (f t) i)
 
 -- the tunnels whose rules the switches hold then: those kept, those to add that are in, and those to remove that are not out
 unfoldable pub holds : Rules → Stages → ℕ → (ℕ → Bool) → ℕ → Bool
 holds R f i c t = isKind R keep t || (isKind R add t && isDone f i c t) || (isKind R remove t && not (isDone f i c t))
 
--- of a stage all is done, or nothing
+-- after a stage all of its moves are done
 abbrev pub whole : ℕ → Bool
 whole t = true
-
-abbrev pub nothing : ℕ → Bool
-nothing t = false
 
 -- of a stage so much is done: the tunnels to add below n; or all to add, and the tunnels to remove below n
 unfoldable pub sofar : Rules → Move → ℕ → ℕ → Bool
@@ -49,20 +39,18 @@ pub record Safe (R : Rules) (l : List ℕ) : Type 0 where
   pub kept : (t : ℕ) → t < R .tunnels → R .kind t ≡ keep → at l t ≡ 0
   -- "all is done after stage k": each other tunnel has one stage, of 1 to k
   pub moved : (t : ℕ) → t < R .tunnels → R .kind t ≢ keep → (1 ≤ at l t) × (at l t ≤ lastStage R)
-  -- before stage 1 the switches hold the old set, after stage k the new one
-  pub begins : (t : ℕ) → t < R .tunnels → holds R (at l) 1 nothing t ≡ not (isKind R add t)
+  -- after stage 0, which is before stage 1, the switches hold the old set, after stage k the new one
+  pub begins : (t : ℕ) → t < R .tunnels → holds R (at l) 0 whole t ≡ not (isKind R add t)
   pub ends : (t : ℕ) → t < R .tunnels → holds R (at l) (lastStage R) whole t ≡ not (isKind R remove t)
-  -- "after each stage `slack` is free"
-  pub free : (i s : ℕ) → 1 ≤ i → i ≤ lastStage R → s < R .switches → 1000 * count R (holds R (at l) i whole) s ≤ usable R s
+  -- "after each stage `slack` is free", as it is before stage 1
+  pub free : (i s : ℕ) → i ≤ lastStage R → s < R .switches → 1000 * count R (holds R (at l) i whole) s ≤ usable R s
   -- "No switch exceeds its room": in any stage, whichever of its moves are done, each for itself and in any order
   pub within : (i s : ℕ) → 1 ≤ i → i ≤ lastStage R → s < R .switches → (c : ℕ → Bool) → count R (holds R (at l) i c) s ≤ R .room s
   -- "even between adding and removing", and at each moment of both, where they go in number order
   pub moments : (i s : ℕ) → 1 ≤ i → i ≤ lastStage R → s < R .switches → (m : Move) (n : ℕ) → count R (holds R (at l) i (sofar R m n)) s ≤ R .room s
 
 pub record Claim : Type 0 where
-  -- the stages that are given
-  pub safe : (R : Rules) (l : List ℕ) → Valid R → staged R ≡ good l → Safe R l
-  -- the same, of a list that is judged good
-  pub lists : (input l : List ℕ) → GoodRules input → staged (rulesOf input) ≡ good l → Safe (rulesOf input) l
+  -- the stages that are given to a list that is judged good
+  pub safe : (input l : List ℕ) → GoodRules input → staged (rulesOf input) ≡ good l → Safe (rulesOf input) l
   -- and they are given wherever both sets fit
   pub given : (R : Rules) → ((s : ℕ) → s < R .switches → (tooMany R remove s ≡ false) × (tooMany R add s ≡ false)) → (l : List ℕ) × (staged R ≡ good l)

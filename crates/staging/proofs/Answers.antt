@@ -6,7 +6,7 @@ use mathlib.Core.Option.{Option, none, some}
 use mathlib.Core.List.{List, _++_}
 use native.Mathlib.Omega.{arith}
 use lib.ListN.{length, drop, replicate, length-replicate}
-use Rattle.model.specs.Limits.{mostTunnels}
+use Rattle.model.specs.Limits.{mostTunnels, mostSwitches}
 use Rattle.model.specs.Listed.{listed}
 use Rattle.model.specs.Outcome.{good, Place, unless, unfit}
 use Rattle.model.specs.Search.{first}
@@ -20,7 +20,6 @@ use Rattle.forms.proofs.Answers.{NotDone}
 use Rattle.rules.specs.Rules.{Rules, remove, isKind, count, lastStage}
 use Rattle.rules.specs.Stage.{Move, adds, removes, Stages, moved, stages, unfitAt, staged}
 use Rattle.rules.specs.Lists.{rulesOf}
-use Rattle.model.specs.Limits.{mostSwitches}
 use Rattle.staging.specs.Inner.{Counted, counts, StagedTo, told}
 use Rattle.rules.proofs.Counts.{count-who, count-kind}
 use Rattle.rules.proofs.Passes.{moved-is}

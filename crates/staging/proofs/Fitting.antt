@@ -18,7 +18,7 @@ use Rattle.lists.specs.declared.Answer.the-variants.{Done, Refused}
 use Rattle.rules.specs.Rules.{Rules, keep, add, remove, isKind, count, usable, spare}
 use Rattle.rules.specs.Stage.{tooMany, unfitAt}
 use Rattle.rules.specs.Lists.{rulesOf, GoodRules}
-use Rattle.model.specs.Limits.{mostSwitches, mostRoom}
+use Rattle.model.specs.Limits.{mostTunnels, mostSwitches, mostRoom}
 use Rattle.staging.specs.Inner.{Table, Spares, Kinds, told}
 use Rattle.staging.proofs.Tallies.{counted-table}
 
@@ -103,7 +103,7 @@ pub usable-most : (l : List ℕ) → GoodRules l → (s : ℕ) → s < at l 2 �
 unfolding usable rulesOf
 usable-most l g s h = let part : 1000 - at l 1 ≤ 1000 = omega arith in mul-le-mul part (g .room s h)
 
-pub counts-most : (l kept adding removing : List ℕ) → GoodRules l → Kinds l kept adding removing → (s : ℕ) → s < at l 2 → (at kept s ≤ 96) × (at adding s ≤ 96) × (at removing s ≤ 96)
+pub counts-most : (l kept adding removing : List ℕ) → GoodRules l → Kinds l kept adding removing → (s : ℕ) → s < at l 2 → (at kept s ≤ mostTunnels) × (at adding s ≤ mostTunnels) × (at removing s ≤ mostTunnels)
 unfolding rulesOf
 counts-most l kept adding removing g K s h =
     let R = rulesOf l in

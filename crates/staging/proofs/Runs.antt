@@ -2,15 +2,23 @@
 use Prim.Native.Nat.{ℕ, _+_, _-_, _*_, _<_}
 use mathlib.Core.Path.{_≡_, refl, sym, ap, subst, _∙_}
 use mathlib.Core.Logic.{_≢_}
+use mathlib.Core.Bool.{true}
 use mathlib.Core.List.{List}
 use native.Mathlib.Numerals.{add-one}
 use native.Mathlib.Omega.{arith}
+use borrow.Author.Tests.{le-leb}
+use Rattle.model.specs.Limits.{leastShare, mostShare}
 use Rattle.lists.specs.Lists.{at}
-use Rattle.rules.specs.Rules.{Rules, count, lastStage}
+use Rattle.bound.specs.Bound.{isShare}
+use Rattle.rules.specs.Rules.{Rules, add, remove, count, lastStage}
 use Rattle.rules.specs.Stage.{Move, adds, removes, kindOf, Stages, pass, stage, stages}
 use Rattle.rules.specs.Lists.{rulesOf, GoodRules}
 use Rattle.staging.specs.Inner.{Counted, Spares, moveOf, counts, timesOf, Ready, Reached, StagedTo}
 use Rattle.rules.proofs.Passes.{other-moved, other-waits}
+
+-- the slack of a good list is a share
+pub good-share : (l : List ℕ) → GoodRules l → isShare (at l 1) ≡ true
+good-share l g = rw (le-leb leastShare (at l 1) (g .slack .0), le-leb (at l 1) mostShare (g .slack .1))
 
 -- what a pass leaves of the other move's counts
 counted-other : (R : Rules) (o m : Move) (i : ℕ) (f g : Stages) (c : List ℕ) → kindOf o ≢ kindOf m → g ≡ pass R m i f (R .tunnels)
@@ -27,7 +35,7 @@ module _ (l x : List ℕ) (good : GoodRules l) (X : Spares (rulesOf l) x) (last 
   abbrev R : Rules
   R = rulesOf l
 
-  pub ready-adds : Ready l x 2 (i + 1) (i + 1) (1000 * last) a o
+  pub ready-adds : Ready l x add (i + 1) (i + 1) (1000 * last) a o
   unfolding moveOf timesOf
   ready-adds = record {
     good = good;
@@ -37,8 +45,8 @@ module _ (l x : List ℕ) (good : GoodRules l) (X : Spares (rulesOf l) x) (last 
     size = B .size;
   }
 
-  module _ (a′ o′ : List ℕ) (A : Reached l (moveOf 2) (pass R (moveOf 2) (i + 1) (at o) (R .tunnels)) a′ o′) where
-    pub ready-removes : Ready l x 3 (i + 1) (last - (i + 1)) (1000 * last) r o′
+  module _ (a′ o′ : List ℕ) (A : Reached l (moveOf add) (pass R (moveOf add) (i + 1) (at o) (R .tunnels)) a′ o′) where
+    pub ready-removes : Ready l x remove (i + 1) (last - (i + 1)) (1000 * last) r o′
     unfolding moveOf timesOf
     ready-removes = record {
       good = good;
@@ -48,7 +56,7 @@ module _ (l x : List ℕ) (good : GoodRules l) (X : Spares (rulesOf l) x) (last 
       size = A .size;
     }
 
-    pub staged-on : (r′ o″ : List ℕ) → Reached l (moveOf 3) (pass R (moveOf 3) (i + 1) (at o′) (R .tunnels)) r′ o″ → StagedTo l (i + 1) a′ r′ o″
+    pub staged-on : (r′ o″ : List ℕ) → Reached l (moveOf remove) (pass R (moveOf remove) (i + 1) (at o′) (R .tunnels)) r′ o″ → StagedTo l (i + 1) a′ r′ o″
     unfolding moveOf stages stage
     staged-on r′ o″ D = record {
       added = counted-other R adds removes (i + 1) (at o′) (at o″) a′ (λ z. omega (arith, z)) (D .stages) (A .counted);

@@ -7,13 +7,12 @@ use mathlib.Core.List.{List}
 use native.Mathlib.Omega.{arith}
 use lib.ListN.{length, replicate, length-replicate, getD-replicate}
 use borrow.Author.Tests.{eq-eqb, ne-eqb}
-use Rattle.model.specs.Limits.{mostTunnels}
+use Rattle.model.specs.Limits.{mostTunnels, mostSwitches}
 use Rattle.model.specs.Sets.{inSet}
 use Rattle.model.proofs.Sums.{sum-zero, sum-take, sum-skip, sum-bound}
 use Rattle.lists.specs.Lists.{at}
 use Rattle.rules.specs.Rules.{Rules, isKind, rule}
 use Rattle.rules.specs.Lists.{tunnelAt, rulesOf}
-use Rattle.model.specs.Limits.{mostSwitches}
 use Rattle.staging.specs.Inner.{Table, Counted, Shifted, Shiftable}
 
 rule-le : (R : Rules) (s t : ℕ) → rule R s t ≤ 1

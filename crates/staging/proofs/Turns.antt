@@ -10,22 +10,21 @@ use lib.Dec.{leb, eqb}
 use lib.ListN.{set, length-set}
 use lib.Seq.{getD-set-same, getD-set-other}
 use borrow.Author.Tests.{le-leb, leb-true, eq-eqb, ne-eqb, eqb-true, eqb-false}
-use Rattle.model.specs.Limits.{mostTunnels}
+use Rattle.model.specs.Limits.{leastShare, mostTunnels, mostSwitches, mostSteps}
 use Rattle.model.specs.Sets.{inSet}
 use Rattle.model.proofs.Bounded.{ceil-most}
 use Rattle.model.proofs.Sets.{set-within}
 use Rattle.model.proofs.Searches.{bool-cases}
 use Rattle.lists.specs.Lists.{at}
-use Rattle.rules.specs.Rules.{Rules, add, isKind, rule, count, lastStage, spare}
+use Rattle.rules.specs.Rules.{Rules, add, remove, isKind, rule, count, lastStage, spare}
 use Rattle.rules.specs.Stage.{Move, adds, removes, kindOf, Stages, moved, waits, within, goes, given, turn, pass}
 use Rattle.rules.specs.Lists.{tunnelAt, rulesOf}
-use Rattle.model.specs.Limits.{mostSwitches}
 use Rattle.staging.specs.Inner.{Table, Counted, Shifted, Shiftable, Spares, moveOf, counts, timesOf, fitsAll, goesBy, Ready, Reached}
 use Rattle.rules.proofs.Counts.{every-at, every-all, within-at, within-all, count-some, count-moved, count-waits}
 use Rattle.rules.proofs.Passes.{is-waiting, not-kind, turn-goes, turn-stays}
 use Rattle.staging.proofs.Tallies.{counted-table}
 
-pub last-most : (R : Rules) → 20 ≤ R .slack → lastStage R ≤ 49
+pub last-most : (R : Rules) → leastShare ≤ R .slack → lastStage R < mostSteps
 unfolding lastStage
 last-most R h = omega (arith, ceil-most (R .slack) h)
 
@@ -66,7 +65,7 @@ module _ (R : Rules) (f : Stages) (t i kind times unit : ℕ) (c x : List ℕ) (
     (u : unit ≡ 1000 * lastStage R) (X : Spares R x) where
   -- the code's test is that of the move
   pub goes-told : (m : Move) → kind ≡ kindOf m → times ≡ timesOf R m i → Counted R (R .tunnels) (counts R m f) c
-      → goesBy kind (fitsAll (R .via t) unit (3 - kind) times c x) ≡ goes R m i f t
+      → goesBy kind (fitsAll (R .via t) unit (remove - kind) times c x) ≡ goes R m i f t
   unfolding goesBy goes counts timesOf count
   goes-told adds e b C =
       rw (e, b) (fits-within R t unit 1 i c x (λ s. count R (moved R adds f) s + 1) low v u (λ s l. ap (λ (k : ℕ). k + 1) (C .each s (omega (arith, l, low)))) (X .each))
@@ -75,14 +74,14 @@ module _ (R : Rules) (f : Stages) (t i kind times unit : ℕ) (c x : List ℕ) (
 
   -- the counts can be shifted
   pub goes-shift : (m : Move) → kind ≡ kindOf m → waits R m f t ≡ true → Counted R (R .tunnels) (counts R m f) c → Table mostTunnels c
-      → Shiftable (R .via t) (3 - kind) (kind - 2) c
+      → Shiftable (R .via t) (remove - kind) (kind - add) c
   unfolding counts count
   goes-shift adds e w C T = rw e (record { table = T; small = omega arith; enough = λ s l k. omega arith })
   goes-shift removes e w C T =
       rw e (record { table = T; small = omega arith; enough = λ s l k. omega (arith, C .each s l, count-some R s (waits R removes f) t h w k) })
 
   -- and are then those of the stages with this one
-  pub goes-counted : (m : Move) (c′ : List ℕ) → kind ≡ kindOf m → waits R m f t ≡ true → Counted R (R .tunnels) (counts R m f) c → Shifted (R .via t) (3 - kind) (kind - 2) c c′
+  pub goes-counted : (m : Move) (c′ : List ℕ) → kind ≡ kindOf m → waits R m f t ≡ true → Counted R (R .tunnels) (counts R m f) c → Shifted (R .via t) (remove - kind) (kind - add) c c′
       → Counted R (R .tunnels) (counts R m (given true t (suc i) f)) c′
   unfolding counts count rule
   goes-counted adds c′ e w C S = record {
@@ -128,22 +127,22 @@ module _ (l x : List ℕ) (kind stage times unit : ℕ) (c o : List ℕ) (r : Re
   abbrev f : Stages
   f = at o
 
-  pub kinds : (2 ≤ kind) × (kind ≤ 3)
+  pub kinds : (add ≤ kind) × (kind ≤ remove)
   kinds = go m (r .pass .moves)
     where
-      go : (m : Move) → kind ≡ kindOf m → (2 ≤ kind) × (kind ≤ 3)
+      go : (m : Move) → kind ≡ kindOf m → (add ≤ kind) × (kind ≤ remove)
       go adds e = (omega (arith, e), omega (arith, e))
       go removes e = (omega (arith, e), omega (arith, e))
 
   -- the products of the test fit
-  pub small : (times ≤ 50) × (unit ≤ 50000)
+  pub small : (times ≤ mostSteps) × (unit ≤ 1000 * mostSteps)
   unfolding rulesOf timesOf
   small = (go m (r .pass .bound), omega (arith, r .pass .scale, last))
     where
-      last : lastStage R ≤ 49
+      last : lastStage R < mostSteps
       last = last-most R (r .good .slack .0)
 
-      go : (m : Move) → times ≡ timesOf R m stage → times ≤ 50
+      go : (m : Move) → times ≡ timesOf R m stage → times ≤ mostSteps
       go adds e = omega (arith, e, r .pass .inside, last)
       go removes e = omega (arith, e, last)
 
@@ -151,13 +150,14 @@ module _ (l x : List ℕ) (kind stage times unit : ℕ) (c o : List ℕ) (r : Re
   unfolding rulesOf
   table = counted-table R (R .tunnels) (counts R m f) c (r .counted) (r .good .tunnels)
 
-  module _ (t : ℕ) (h : t < at l 3) where
+  -- the turn of tunnel t, whose numbers stand from i on
+  module _ (t : ℕ) (h : t < at l 3) (i : ℕ) (here : i ≡ tunnelAt l t) where
     stays : (waits R m f t && goes R m stage f t) ≡ false → Reached l m (turn R m stage f t) c o
     stays e = record { counted = r .counted; size = r .size; stages = sym (turn-stays R m stage f t e) }
 
-    pub turn-other : at l (tunnelAt l t + 1) ≢ kind → Reached l m (turn R m stage f t) c o
+    pub turn-other : at l (i + 1) ≢ kind → Reached l m (turn R m stage f t) c o
     unfolding rulesOf waits
-    turn-other n = stays (rw (not-kind R (kindOf m) t (λ e. n (e ∙ sym (r .pass .moves)))))
+    turn-other n = stays (rw (not-kind R (kindOf m) t (λ e. n (rw here (e ∙ sym (r .pass .moves))))))
 
     pub turn-has : at o t ≢ 0 → Reached l m (turn R m stage f t) c o
     unfolding waits
@@ -167,26 +167,29 @@ module _ (l x : List ℕ) (kind stage times unit : ℕ) (c o : List ℕ) (r : Re
         none true = refl
         none false = refl
 
-    told : goesBy kind (fitsAll (at l (tunnelAt l t)) unit (3 - kind) times c x) ≡ goes R m stage f t
+    told : goesBy kind (fitsAll (at l i) unit (remove - kind) times c x) ≡ goes R m stage f t
     unfolding rulesOf
     told =
-        goes-told R f t stage kind times unit c x (r .good .switches .1) h (r .good .via t h .1) (r .pass .scale) (r .spares) m (r .pass .moves) (r .pass .bound) (r .counted)
+        rw here
+        (goes-told R f t stage kind times unit c x (r .good .switches .1) h (r .good .via t h .1) (r .pass .scale) (r .spares) m (r .pass .moves) (r .pass .bound) (r .counted))
 
-    pub turn-not : goesBy kind (fitsAll (at l (tunnelAt l t)) unit (3 - kind) times c x) ≡ false → Reached l m (turn R m stage f t) c o
+    pub turn-not : goesBy kind (fitsAll (at l i) unit (remove - kind) times c x) ≡ false → Reached l m (turn R m stage f t) c o
     turn-not e = stays (rw (sym told ∙ e) (none (waits R m f t)))
       where
         none : (b : Bool) → (b && false) ≡ false
         none true = refl
         none false = refl
 
-    module _ (k : at l (tunnelAt l t + 1) ≡ kind) (z : at o t ≡ 0) where
+    module _ (k : at l (i + 1) ≡ kind) (z : at o t ≡ 0) where
       waiting : waits R m f t ≡ true
       unfolding rulesOf
-      waiting = is-waiting R m f t (k ∙ r .pass .moves) z
+      waiting = is-waiting R m f t (rw here at (k ∙ r .pass .moves)) z
 
-      pub turn-shift : Shiftable (at l (tunnelAt l t)) (3 - kind) (kind - 2) c
+      pub turn-shift : Shiftable (at l i) (remove - kind) (kind - add) c
       unfolding rulesOf
-      turn-shift = goes-shift R f t stage kind times unit c x (r .good .switches .1) h (r .good .via t h .1) (r .pass .scale) (r .spares) m (r .pass .moves) waiting (r .counted) table
+      turn-shift =
+          rw here
+          (goes-shift R f t stage kind times unit c x (r .good .switches .1) h (r .good .via t h .1) (r .pass .scale) (r .spares) m (r .pass .moves) waiting (r .counted) table)
 
       stored : at (set o t stage) ≡ given true t stage f
       unfolding given
@@ -198,17 +201,17 @@ module _ (l x : List ℕ) (kind stage times unit : ℕ) (c o : List ℕ) (r : Re
           (λ (e : eqb u t ≡ false). rw e (getD-set-other o t u stage 0 (eqb-false u t e)))
           (bool-cases (eqb u t)))
 
-      pub turn-on : (c′ : List ℕ) → goesBy kind (fitsAll (at l (tunnelAt l t)) unit (3 - kind) times c x) ≡ true → Shifted (at l (tunnelAt l t)) (3 - kind) (kind - 2) c c′
+      pub turn-on : (c′ : List ℕ) → goesBy kind (fitsAll (at l i) unit (remove - kind) times c x) ≡ true → Shifted (at l i) (remove - kind) (kind - add) c c′
           → Reached l m (turn R m stage f t) c′ (set o t stage)
       unfolding rulesOf
       turn-on c′ e S =
-          let i : ℕ = stage - 1 in
-          let back : suc i ≡ stage = omega (arith, r .pass .inside .0) in
+          let j : ℕ = stage - 1 in
+          let back : suc j ≡ stage = omega (arith, r .pass .inside .0) in
           record {
             counted =
                 rw stored
                 (rw back at
-                (goes-counted R f t i kind times unit c x (r .good .switches .1) h (r .good .via t h .1) (r .pass .scale) (r .spares) m c′ (r .pass .moves) waiting (r .counted) S));
+                (goes-counted R f t j kind times unit c x (r .good .switches .1) h (r .good .via t h .1) (r .pass .scale) (r .spares) m c′ (r .pass .moves) waiting (r .counted) (rw here at S)));
             size = length-set o t stage ∙ r .size;
             stages = stored ∙ sym (turn-goes R m stage f t waiting (sym told ∙ e));
           }

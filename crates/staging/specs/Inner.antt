@@ -6,7 +6,7 @@ use mathlib.Core.List.{List}
 use mathlib.Core.Option.{Option, none, some}
 use lib.Dec.{leb, eqb}
 use lib.ListN.{length}
-use Rattle.model.specs.Limits.{mostTunnels}
+use Rattle.model.specs.Limits.{mostTunnels, mostSwitches, mostRoom}
 use Rattle.model.specs.Sum.{sumOver}
 use Rattle.model.specs.Sets.{inSet}
 use Rattle.model.specs.Outcome.{Place, number, unfit}
@@ -16,7 +16,6 @@ use Rattle.lists.specs.declared.Answer.the-variants.{Done, Refused}
 use Rattle.rules.specs.Rules.{Rules, keep, add, remove, isKind, rule, lastStage, spare}
 use Rattle.rules.specs.Stage.{Move, adds, removes, kindOf, Stages, moved, waits, every, stages}
 use Rattle.rules.specs.Lists.{rulesOf, GoodRules}
-use Rattle.model.specs.Limits.{mostSwitches, mostRoom}
 
 -- ---- a number for each switch that there can be
 

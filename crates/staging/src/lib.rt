@@ -9,18 +9,14 @@ ghost use Rattle.lists.specs.Lists.{at};
 ghost use Rattle.rules.specs.Stage.{staged};
 ghost use Rattle.rules.specs.Lists.{rulesOf, GoodRules};
 use lists::Answer;
-use lists::Network;
-use tables::ADD;
-use tables::KEEP;
-use tables::REMOVE;
+use lists::RuleTables;
 use tables::SWITCHES;
 
 mod room;
 mod stages;
 mod tables;
 
-// The largest number of tunnels.
-const TUNNELS: usize = Network::TUNNELS as usize;
+const TUNNELS: usize = RuleTables::TUNNELS as usize;
 
 // Copies the first numbers of a list.
 fn give(stages: &[u64], tunnels: usize, out: &mut [u64])
@@ -45,9 +41,9 @@ pub fn stage_good(list: &[u64], out: &mut [u64]) -> Answer
     let mut adding = [0u64; SWITCHES];
     let mut remaining = [0u64; SWITCHES];
     let mut spares = [0u64; SWITCHES];
-    tables::count(list, KEEP, &mut kept);
-    tables::count(list, ADD, &mut adding);
-    tables::count(list, REMOVE, &mut remaining);
+    tables::count(list, RuleTables::KEEP, &mut kept);
+    tables::count(list, RuleTables::ADD, &mut adding);
+    tables::count(list, RuleTables::REMOVE, &mut remaining);
     let judged = room::judge(list, &kept, &adding, &remaining, &mut spares);
     let Answer::Done(_) = judged else {
         return judged;

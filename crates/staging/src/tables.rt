@@ -2,21 +2,14 @@
 ghost use mathlib.Core.Path.{_≡_};
 ghost use Prim.Native.Nat.{_+_, _*_, _≤_};
 ghost use lib.ListN.{replicate};
-ghost use Rattle.model.specs.Limits.{mostTunnels};
+ghost use Rattle.model.specs.Limits.{mostTunnels, mostSteps, mostSwitches, mostRoom};
 ghost use Rattle.rules.specs.Rules.{isKind};
 ghost use Rattle.rules.specs.Lists.{rulesOf, GoodRules};
-ghost use Rattle.model.specs.Limits.{mostSwitches, mostRoom};
 ghost use Rattle.staging.specs.Inner.{Table, Counted, Shiftable, Shifted, fitsAll};
+use lists::RuleTables;
 
-// The largest number of switches.
-pub(crate) const SWITCHES: usize = 64;
-
-// The kinds of tunnels.
-pub(crate) const KEEP: u64 = 1;
-
-pub(crate) const ADD: u64 = 2;
-
-pub(crate) const REMOVE: u64 = 3;
+// How many numbers a table has.
+pub(crate) const SWITCHES: usize = RuleTables::SWITCHES as usize;
 
 // Adds to the counts of the switches in a set, and takes off them: of the switch of the set's lowest bit, which is then cleared, until none is left.
 pub(crate) fn shift(counts: &mut [u64], via: u64, more: u64, less: u64)
@@ -41,7 +34,7 @@ pub(crate) fn fits(
     times: u64,
 ) -> bool
     requires { ⌜ Table mostTunnels (now counts) × Table (1000 * mostRoom) (now spares) ⌝ }
-    requires { ⌜ (unit ≤ 50000) × (more ≤ 1) × (times ≤ 50) ⌝ }
+    requires { ⌜ (unit ≤ 1000 * mostSteps) × (more ≤ 1) × (times ≤ mostSteps) ⌝ }
     ensures { λ r. ⌜ r ≡ fitsAll via unit more times (now (counts .entry)) (now (spares .entry)) ⌝ }
 {
     let mut left = via;
@@ -60,8 +53,9 @@ pub(crate) fn count(list: &[u64], kind: u64, counts: &mut [u64])
     requires { ⌜ GoodRules (now list) × (now counts ≡ replicate mostSwitches 0) ⌝ }
     ensures { λ _. ⌜ Counted (rulesOf (now (list .entry))) (rulesOf (now (list .entry)) .tunnels) (isKind (rulesOf (now (list .entry))) kind) (now (counts .exit)) ⌝ }
 {
-    let tunnels = list[3] as usize;
-    let mut at = 4 + list[2] as usize;
+    let sizes = RuleTables::of(list);
+    let tunnels = sizes.tunnels;
+    let mut at = sizes.tunnels_at();
     let mut t: usize = 0;
     while t < tunnels {
         if list[at + 1] == kind {

@@ -1,30 +1,43 @@
 -- `staging::stages::pass` meets its contract: the turns so far are those of the definition. Assumes nothing.
 use Prim.Native.Nat.{_-_, _≤_}
+use mathlib.Core.Path.{_≡_}
 use native.Mathlib.Omega.{arith}
-use borrow.Author.Needs.{needs}
 use Rattle.lists.specs.Lists.{at}
 use Rattle.rules.specs.Stage as model
-use Rattle.rules.specs.Lists.{rulesOf}
+use Rattle.rules.specs.Lists.{tunnelAt, rulesOf}
 use Rattle.staging.specs.Inner.{moveOf, Reached}
 use Rattle.staging.proofs.Turns.{reached-start, ready-on, reached-on, reached-to}
+use borrow.Author.Needs.{needs}
 use Rattle.staging.proofs.stages.pass.Statement.{statement}
 use Rattle.staging.proofs.stages.pass.Tie as tie
+use Rattle.lists.proofs.RuleTables.of.Reads as of-reads
+use Rattle.lists.proofs.RuleTables.tunnels_at.Reads as tunnels-at-reads
+use Rattle.staging.proofs.stages.turn.Reads as turn-reads
 
 abbrev Inv-loop : tie.InvT-loop
-Inv-loop list spares p counts₀ stages₀ tunnels t₀ counts stages t =
-    record { low : t ≤ tunnels; reached : Reached list (moveOf (p .kind)) (model.pass (rulesOf list) (moveOf (p .kind)) (p .stage) (at stages₀) t) counts stages }
+Inv-loop list spares p counts₀ stages₀ tunnels from₀ t₀ counts stages from t = record {
+  low : t ≤ tunnels;
+  here : from ≡ tunnelAt list t;
+  reached : Reached list (moveOf (p .kind)) (model.pass (rulesOf list) (moveOf (p .kind)) (p .stage) (at stages₀) t) counts stages;
+}
 
 abbrev μ-loop : tie.MeasureT-loop
-μ-loop list spares p counts₀ stages₀ tunnels t₀ counts stages t = tunnels - t
+μ-loop list spares p counts₀ stages₀ tunnels from₀ t₀ counts stages from t = tunnels - t
 
-shared-slice-read-tunnels : tie.Need-shared-slice-read-tunnels Inv-loop μ-loop
-shared-slice-read-tunnels c = search needs
+of-requires : tie.Need-of-requires Inv-loop μ-loop
+of-requires c κs = omega (arith, c .before .before .before .before .pre .good .size)
+
+tunnels-at-requires : tie.Need-tunnels-at-requires Inv-loop μ-loop
+tunnels-at-requires c κs = omega (arith, c .of .ensures, c .before .before .before .before .before .pre .good .switches)
 
 loop-holds : tie.Need-loop-holds Inv-loop μ-loop
-loop-holds c = record { low = omega arith; reached = reached-start _ _ _ _ _ _ _ _ (c .before .before .before .before .before .pre) }
+loop-holds c = record { low = omega arith; here = omega (arith, c .tunnels-at .ensures, c .before .of .ensures); reached = reached-start _ _ _ _ _ _ _ _ (c .before .before .before .before .before .before .pre) }
 
 turn-requires : tie.Need-turn-requires Inv-loop μ-loop
-turn-requires c κs = (ready-on _ _ _ _ _ _ _ _ _ _ _ (c .before .before .before .before .before .before .before .before .before .pre) (c .before .before .before .loop .inv .reached), c .before .before .loop-test .taken)
+turn-requires c κs = (ready-on _ _ _ _ _ _ _ _ _ _ _ (c .before .before .before .before .before .before .before .before .before .before .pre) (c .before .before .before .loop .inv .reached), (omega (arith, c .before .before .before .before .before .of .ensures, c .before .before .loop-test .taken), c .before .before .before .loop .inv .here))
+
+add-from : tie.Need-add-from Inv-loop μ-loop
+add-from c = omega (arith, c .before .before .before .before .before .before .before .before .loop .inv .here, c .before .before .before .before .before .before .before .before .before .before .before .before .before .before .before .pre .good .size, c .before .before .before .before .before .before .before .before .before .before .of .ensures, c .before .before .before .before .before .before .before .loop-test .taken)
 
 add-t : tie.Need-add-t Inv-loop μ-loop
 add-t c = search needs
@@ -33,9 +46,12 @@ loop-less : tie.Need-loop-less Inv-loop μ-loop
 loop-less c = search needs
 
 loop-again : tie.Need-loop-again Inv-loop μ-loop
-loop-again c =
-    let l = c .before .before .before .before .before .before .before .before .loop in
-    record { low = omega (arith, c .before .before .before .before .before .before .before .loop-test .taken); reached = reached-on _ _ _ _ _ (l .stages) _ _ (l .inv .reached .stages) (c .before .before .before .before .turn .ensures) }
+loop-again c = let l = c .before .before .before .before .before .before .before .before .loop in
+    record {
+      low = omega (arith, c .before .before .before .before .before .before .before .loop-test .taken);
+      here = omega (arith, l .inv .here);
+      reached = reached-on _ _ _ _ _ (l .stages) _ _ (l .inv .reached .stages) (c .before .before .before .before .turn .ensures);
+    }
 
 same-length : tie.Need-same-length Inv-loop μ-loop
 same-length c = search needs
@@ -47,8 +63,8 @@ returns : tie.Need-returns Inv-loop μ-loop
 unfolding rulesOf
 returns c =
     let l = c .before .loop in
-    let s = c .before .before .before .before .before .before .before in
-    reached-to (s .args .list .now) (s .args .p .kind) (s .args .p .stage) (l .t) _ (at (s .args .stages .now)) (l .counts) (l .stages) (l .inv .reached) (omega (arith, c .loop-test .left, l .inv .low))
+    let a = c .before .before .before .before .before .before .before .before .args in
+    reached-to (a .list .now) (a .p .kind) (a .p .stage) (l .t) _ (at (a .stages .now)) (l .counts) (l .stages) (l .inv .reached) (omega (arith, c .loop-test .left, l .inv .low, c .before .before .before .of .ensures))
 
 pub pass-spec : {M : Type 1} → statement M
 pass-spec =
@@ -56,9 +72,11 @@ pass-spec =
     (tie.spec
     Inv-loop
     μ-loop
-    shared-slice-read-tunnels
+    of-requires
+    tunnels-at-requires
     loop-holds
     turn-requires
+    add-from
     add-t
     loop-less
     loop-again

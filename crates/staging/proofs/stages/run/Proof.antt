@@ -2,37 +2,36 @@
 use Prim.Native.Nat.{_-_, _≤_}
 use mathlib.Core.Path.{_≡_}
 use native.Mathlib.Omega.{arith}
-use borrow.Author.Needs.{needs}
 use Rattle.rules.specs.Rules.{lastStage}
 use Rattle.rules.specs.Lists.{rulesOf}
 use Rattle.staging.specs.Inner.{StagedTo}
-use Rattle.staging.proofs.Runs.{ready-adds, ready-removes, staged-on, staged-at}
+use Rattle.staging.proofs.Runs.{good-share, ready-adds, ready-removes, staged-on, staged-at}
 use Rattle.staging.proofs.Turns.{last-most}
+use borrow.Author.Needs.{needs}
 use Rattle.staging.proofs.stages.run.Statement.{statement}
 use Rattle.staging.proofs.stages.run.Tie as tie
+use Rattle.bound.proofs.last_step.Reads as last-step-reads
+use Rattle.staging.proofs.stages.pass.Reads as pass-reads
 
 abbrev Inv-loop : tie.InvT-loop
-Inv-loop list spares added₀ remaining₀ stages₀ last unit i₀ added remaining stages i = record { low : i ≤ last; staged : StagedTo list i added remaining stages }
+Inv-loop list spares added₀ remaining₀ stages₀ last unit i₀ added remaining stages i = record { low : i ≤ last; is-last : last ≡ lastStage (rulesOf list); staged : StagedTo list i added remaining stages }
 
 abbrev μ-loop : tie.MeasureT-loop
 μ-loop list spares added₀ remaining₀ stages₀ last unit i₀ added remaining stages i = last - i
 
-shared-slice-read-last-stage : tie.Need-shared-slice-read-last-stage Inv-loop μ-loop
-shared-slice-read-last-stage c = search needs
+shared-slice-read-last-step : tie.Need-shared-slice-read-last-step Inv-loop μ-loop
+shared-slice-read-last-step c = search needs
 
-last-stage-requires : tie.Need-last-stage-requires Inv-loop μ-loop
-last-stage-requires c κs = c .before .before .before .before .before .before .pre .0 .0 .slack
-
-is-last : (c : tie.After-last-stage Inv-loop μ-loop) → c .last-stage .result ≡ lastStage (rulesOf (c .before .before .before .before .before .before .before .args .list .now))
-unfolding lastStage rulesOf
-is-last c = c .last-stage .ensures
+last-step-requires : tie.Need-last-step-requires Inv-loop μ-loop
+last-step-requires c κs = good-share _ (c .before .before .before .before .before .before .pre .0 .0)
 
 mul-unit : tie.Need-mul-unit Inv-loop μ-loop
-unfolding rulesOf
-mul-unit c = record { fits = omega (arith, is-last c, last-most (rulesOf (c .before .before .before .before .before .before .before .args .list .now)) (c .before .before .before .before .before .before .before .pre .0 .0 .slack .0)) }
+unfolding lastStage rulesOf
+mul-unit c = record { fits = omega (arith, c .last-step .ensures, last-most (rulesOf (c .before .before .before .before .before .before .before .args .list .now)) (c .before .before .before .before .before .before .before .pre .0 .0 .slack .0)) }
 
 loop-holds : tie.Need-loop-holds Inv-loop μ-loop
-loop-holds c = record { low = omega arith; staged = c .before .before .before .before .before .before .before .pre .1 }
+unfolding lastStage rulesOf
+loop-holds c = record { low = omega arith; is-last = c .last-step .ensures; staged = c .before .before .before .before .before .before .before .pre .1 }
 
 add-i : tie.Need-add-i Inv-loop μ-loop
 add-i c = search needs
@@ -41,28 +40,25 @@ sub-times : tie.Need-sub-times Inv-loop μ-loop
 sub-times c = search needs
 
 pass-requires : tie.Need-pass-requires Inv-loop μ-loop
-pass-requires c κs =
-    let l = c .before .before .before in
-    let s = l .before .before .before .before .before .before .before .before in
-    ready-adds _ _ (s .pre .0 .0) (s .pre .0 .1) _ (is-last (l .before)) _ (c .before .before .loop-test .taken) _ _ _ (l .loop .inv .staged)
+pass-requires c κs = let p = c .before .before .before .before .before .before .before .before .before .before .before .pre .0 in
+    let i = c .before .before .before .loop .inv in
+    ready-adds _ _ (p .0) (p .1) _ (i .is-last) _ (c .before .before .loop-test .taken) _ _ _ (i .staged)
 
 pass-requires-2 : tie.Need-pass-requires-2 Inv-loop μ-loop
-pass-requires-2 c κs =
-    let l = c .before .before .before .before .before .before .before .before .before .before in
-    let s = l .before .before .before .before .before .before .before .before in
-    ready-removes _ _ (s .pre .0 .0) (s .pre .0 .1) _ (is-last (l .before)) _ (c .before .before .before .before .before .before .before .before .before .loop-test .taken) _ _ _ (l .loop .inv .staged) _ _ (c .before .before .before .before .before .before .pass .ensures)
+pass-requires-2 c κs = let p = c .before .before .before .before .before .before .before .before .before .before .before .before .before .before .before .before .before .before .pre .0 in
+    let i = c .before .before .before .before .before .before .before .before .before .before .loop .inv in
+    ready-removes _ _ (p .0) (p .1) _ (i .is-last) _ (c .before .before .before .before .before .before .before .before .before .loop-test .taken) _ _ _ (i .staged) _ _ (c .before .before .before .before .before .before .pass .ensures)
 
 loop-less : tie.Need-loop-less Inv-loop μ-loop
 loop-less c = omega (arith, c .before .before .before .before .before .before .before .before .before .before .before .before .before .before .loop-test .taken)
 
 loop-again : tie.Need-loop-again Inv-loop μ-loop
-loop-again c =
-    let l = c .before .before .before .before .before .before .before .before .before .before .before .before .before .before .before in
-    let s = l .before .before .before .before .before .before .before .before in
+loop-again c = let p = c .before .before .before .before .before .before .before .before .before .before .before .before .before .before .before .before .before .before .before .before .before .before .before .pre .0 in
+    let i = c .before .before .before .before .before .before .before .before .before .before .before .before .before .before .before .loop .inv in
     record {
       low = omega (arith, c .before .before .before .before .before .before .before .before .before .before .before .before .before .before .loop-test .taken);
-      staged =
-          staged-on _ _ (s .pre .0 .0) (s .pre .0 .1) _ (is-last (l .before)) _ (c .before .before .before .before .before .before .before .before .before .before .before .before .before .before .loop-test .taken) _ _ _ (l .loop .inv .staged) _ _ (c .before .before .before .before .before .before .before .before .before .before .before .pass .ensures) _ _ (c .before .before .before .before .pass2 .ensures);
+      is-last = i .is-last;
+      staged = staged-on _ _ (p .0) (p .1) _ (i .is-last) _ (c .before .before .before .before .before .before .before .before .before .before .before .before .before .before .loop-test .taken) _ _ _ (i .staged) _ _ (c .before .before .before .before .before .before .before .before .before .before .before .pass .ensures) _ _ (c .before .before .before .before .pass2 .ensures);
     }
 
 same-length : tie.Need-same-length Inv-loop μ-loop
@@ -75,9 +71,7 @@ same-length-3 : tie.Need-same-length-3 Inv-loop μ-loop
 same-length-3 c = search needs
 
 returns : tie.Need-returns Inv-loop μ-loop
-returns c =
-    let l = c .before in
-    staged-at _ _ _ _ _ _ (l .loop .inv .staged) (omega (arith, is-last (l .before), c .loop-test .left, l .loop .inv .low))
+returns c = let i = c .before .loop .inv in staged-at _ _ _ _ _ _ (i .staged) (omega (arith, i .is-last, c .loop-test .left, i .low))
 
 pub run-spec : {M : Type 1} → statement M
 run-spec =
@@ -85,8 +79,8 @@ run-spec =
     (tie.spec
     Inv-loop
     μ-loop
-    shared-slice-read-last-stage
-    last-stage-requires
+    shared-slice-read-last-step
+    last-step-requires
     mul-unit
     loop-holds
     add-i
