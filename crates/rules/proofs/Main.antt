@@ -7,7 +7,7 @@ use mathlib.Core.List.{List}
 use mathlib.Core.Option.{Option, none, some}
 use native.Mathlib.Nat.{mul-le-mul-right, le-of-mul-le-mul-left}
 use native.Mathlib.Omega.{arith}
-use lib.Dec.{leb, ltb, eqb}
+use lib.Dec.{T, leb, ltb, eqb}
 use lib.ListN.{length}
 use borrow.Author.Tests.{leb-true, leb-false, ltb-true, ltb-false, le-leb, lt-leb, eqb-true, eqb-false}
 use Rattle.model.specs.Search.{onlyIf, orElse}
@@ -85,9 +85,13 @@ module _ (f : Stages) (i : ℕ) (c : ℕ → Bool) (t : ℕ) where
       go false e = ltb-false (f t) i e
 
   -- one that c picks
-  picked-later : c t ≡ true → isDone f i c t ≡ false → i < f t
+  picked-later : T (c t) → isDone f i c t ≡ false → i < f t
   unfolding isDone
-  picked-later p e = leb-false (f t) i (rw p at e)
+  picked-later p e = go (c t) p e
+    where
+      go : (b : Bool) → T b → cond b (leb (f t) i) (ltb (f t) i) ≡ false → i < f t
+      go true p e = leb-false (f t) i e
+      go false p e = absurd p
 
 -- after a stage
 whole-done : (f : Stages) (i t : ℕ) → f t ≤ i → isDone f i whole t ≡ true
@@ -232,7 +236,7 @@ module _ (R : Rules) (l : List ℕ) (v : Valid R) (g : staged R ≡ good l) wher
         let some : at l t ≢ 0 = ⊎-elim (λ e. absurd (n e)) (⊎-elim (added-some t h) (removed-some t h)) (three (R .kind t) (v .kind t h)) in (omega (arith, some), last-le t h);
     begins = begins;
     ends = ends;
-    free = λ i s hi h. free i s _ hi h (λ t _. picked-later (at l) i _ t refl);
+    free = λ i s hi h. free i s _ hi h (λ t _. picked-later (at l) i _ t tt);
     within = within;
     moments = λ i s lo hi h m n. within i s lo hi h (sofar R m n);
   }
