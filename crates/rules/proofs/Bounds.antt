@@ -2,7 +2,7 @@
 use Prim.Native.Nat.{ℕ, zero, suc, _+_, _-_, _*_, _≤_, _<_}
 use mathlib.Core.Path.{_≡_, refl, ap}
 use mathlib.Core.Logic.{_≢_, _⊎_, ⊎-elim}
-use mathlib.Core.Bool.{true, false, not}
+use mathlib.Core.Bool.{true, false}
 use native.Mathlib.Nat.{eq-or-lt-of-le, le-of-suc-le-suc, le-trans, mul-le-mul-left}
 use native.Mathlib.Omega.{arith}
 use borrow.Author.Tests.{not-false, eq-eqb, ne-eqb}
@@ -12,7 +12,7 @@ use Rattle.model.specs.Even.{ceilDiv}
 use Rattle.model.proofs.Bounded.{ceil-ge, ceil-least}
 use Rattle.model.proofs.Searches.{bool-cases}
 use Rattle.rules.specs.Rules.{Rules, remove, isKind, rule, count, lastStage, spare}
-use Rattle.rules.specs.Stage.{Move, adds, removes, Stages, moved, waits, within, goes, given, turn, pass, stage, stages}
+use Rattle.rules.specs.Stage.{Move, adds, removes, Stages, moved, waits, goes, given, turn, pass, stage, stages}
 use Rattle.rules.proofs.Counts.{within-at, count-who, count-moved, count-waits, count-kind}
 use Rattle.rules.proofs.Passes.{waits-is, moved-is, turn-cases, other-moved}
 

@@ -7,17 +7,17 @@ use mathlib.Core.List.{List}
 use mathlib.Core.Option.{Option, none, some}
 use native.Mathlib.Nat.{mul-le-mul-right, le-of-mul-le-mul-left}
 use native.Mathlib.Omega.{arith}
-use lib.Dec.{leb, ltb, eqb}
+use lib.Dec.{T, leb, ltb, eqb}
 use lib.ListN.{length}
 use borrow.Author.Tests.{leb-true, leb-false, ltb-true, ltb-false, le-leb, lt-leb, eqb-true, eqb-false}
-use Rattle.model.specs.Search.{onlyIf, orElse, first}
+use Rattle.model.specs.Search.{onlyIf, orElse}
 use Rattle.model.specs.Listed.{listed}
 use Rattle.model.specs.Outcome.{good, unless, unfit, Place}
 use Rattle.model.proofs.Searches.{bool-cases, and-true, not-true, first-none, none-first, or-none, only-none}
 use Rattle.model.proofs.Listed.{listed-length, listed-at}
 use Rattle.lists.specs.Lists.{at}
 use Rattle.rules.specs.Rules.{Rules, keep, add, remove, isKind, count, lastStage, usable, spare}
-use Rattle.rules.specs.Stage.{adds, removes, Stages, moved, waits, stages, tooMany, unfitAt, staged}
+use Rattle.rules.specs.Stage.{adds, removes, Stages, moved, waits, stages, tooMany, unfitAt, lowestUnfit, staged}
 use Rattle.rules.specs.Lists.{rulesOf, GoodRules}
 use Rattle.rules.specs.Claim.{isDone, holds, whole, sofar, Safe, Claim}
 use Rattle.rules.proofs.Counts.{count-three}
@@ -28,21 +28,21 @@ use Rattle.rules.proofs.Finish.{Valid, Fits, all-in, all-out}
 -- ---- where no refusal is due
 
 -- a list that is given is that of all stages, and both sets fit
-pub staged-good : (R : Rules) (l : List ℕ) → staged R ≡ good l → (first (R .switches) (unfitAt R) ≡ none) × (l ≡ listed (R .tunnels) (stages R (lastStage R)))
+pub staged-good : (R : Rules) (l : List ℕ) → staged R ≡ good l → (lowestUnfit R ≡ none) × (l ≡ listed (R .tunnels) (stages R (lastStage R)))
 unfolding staged
-staged-good R l e = go (first (R .switches) (unfitAt R)) e
+staged-good R l e = go (lowestUnfit R) e
   where
     go : (o : Option Place) → unless unfit o (good (listed (R .tunnels) (stages R (lastStage R)))) ≡ good l → (o ≡ none) × (l ≡ listed (R .tunnels) (stages R (lastStage R)))
     go none e = (refl, cc)
     go (some p) e = let z : _≡_ {A = ℕ} 0 1 = cc in absurd (omega arith)
 
-pub fits-none : (R : Rules) → first (R .switches) (unfitAt R) ≡ none → (s : ℕ) → s < R .switches
+pub fits-none : (R : Rules) → lowestUnfit R ≡ none → (s : ℕ) → s < R .switches
     → (1000 * (count R (isKind R keep) s + count R (isKind R remove) s) ≤ usable R s) × (1000 * (count R (isKind R keep) s + count R (isKind R add) s) ≤ usable R s)
 unfolding unfitAt tooMany
 fits-none R e s h =
     let z = or-none _ _ (first-none (unfitAt R) (R .switches) e s h) in (ltb-false _ _ (only-none _ _ (z .0)), ltb-false _ _ (only-none _ _ (z .1)))
 
-pub fits : (R : Rules) → first (R .switches) (unfitAt R) ≡ none → Fits R
+pub fits : (R : Rules) → lowestUnfit R ≡ none → Fits R
 unfolding spare
 fits R e = record { new = λ s h. omega (arith, fits-none R e s h .1); old = λ s h. omega (arith, fits-none R e s h .0) }
 
@@ -85,9 +85,13 @@ module _ (f : Stages) (i : ℕ) (c : ℕ → Bool) (t : ℕ) where
       go false e = ltb-false (f t) i e
 
   -- one that c picks
-  picked-later : c t ≡ true → isDone f i c t ≡ false → i < f t
+  picked-later : T (c t) → isDone f i c t ≡ false → i < f t
   unfolding isDone
-  picked-later p e = leb-false (f t) i (rw p at e)
+  picked-later p e = go (c t) p e
+    where
+      go : (b : Bool) → T b → cond b (leb (f t) i) (ltb (f t) i) ≡ false → i < f t
+      go true p e = leb-false (f t) i e
+      go false p e = absurd p
 
 -- after a stage
 whole-done : (f : Stages) (i t : ℕ) → f t ≤ i → isDone f i whole t ≡ true
@@ -232,7 +236,7 @@ module _ (R : Rules) (l : List ℕ) (v : Valid R) (g : staged R ≡ good l) wher
         let some : at l t ≢ 0 = ⊎-elim (λ e. absurd (n e)) (⊎-elim (added-some t h) (removed-some t h)) (three (R .kind t) (v .kind t h)) in (omega (arith, some), last-le t h);
     begins = begins;
     ends = ends;
-    free = λ i s hi h. free i s _ hi h (λ t _. picked-later (at l) i _ t refl);
+    free = λ i s hi h. free i s _ hi h (λ t _. picked-later (at l) i _ t tt);
     within = within;
     moments = λ i s lo hi h m n. within i s lo hi h (sofar R m n);
   }
@@ -244,7 +248,7 @@ good-valid l g = record { slack = g .slack; via = g .via; kind = g .kind }
 given : (R : Rules) → ((s : ℕ) → s < R .switches → (tooMany R remove s ≡ false) × (tooMany R add s ≡ false)) → (l : List ℕ) × (staged R ≡ good l)
 unfolding staged unfitAt onlyIf orElse
 given R h =
-    let fit : first (R .switches) (unfitAt R) ≡ none = none-first (unfitAt R) (R .switches) (λ s l. rw (h s l .0, h s l .1)) in
+    let fit : lowestUnfit R ≡ none = none-first (unfitAt R) (R .switches) (λ s l. rw (h s l .0, h s l .1)) in
     (listed (R .tunnels) (stages R (lastStage R)), rw fit)
 
 pub claim : Claim

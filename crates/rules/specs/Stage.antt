@@ -73,6 +73,9 @@ tooMany R other s = ltb (usable R s) (1000 * (count R (isKind R keep) s + count 
 unfoldable pub unfitAt : Rules → ℕ → Option Place
 unfitAt R s = orElse (onlyIf (tooMany R remove s) (record { place = s; second = 0 })) (onlyIf (tooMany R add s) (record { place = s; second = 1 }))
 
+abbrev pub lowestUnfit : Rules → Option Place
+lowestUnfit R = first (R .switches) (unfitAt R)
+
 -- "The answer lists each tunnel's stage, 0 for a kept one."
 unfoldable pub staged : Rules → Outcome (List ℕ)
-staged R = unless unfit (first (R .switches) (unfitAt R)) (good (listed (R .tunnels) (stages R (lastStage R))))
+staged R = unless unfit (lowestUnfit R) (good (listed (R .tunnels) (stages R (lastStage R))))

@@ -9,7 +9,6 @@ use lib.ListN.{length, drop, replicate, length-replicate}
 use Rattle.model.specs.Limits.{mostTunnels, mostSwitches}
 use Rattle.model.specs.Listed.{listed}
 use Rattle.model.specs.Outcome.{good, Place, unless, unfit}
-use Rattle.model.specs.Search.{first}
 use Rattle.model.proofs.Listed.{listed-length}
 use Rattle.lists.specs.Lists.{at}
 use Rattle.lists.specs.Answers.{done, withRoom, lent}
@@ -17,10 +16,10 @@ use Rattle.lists.specs.declared.Answer.{Answer}
 use Rattle.lists.specs.declared.Answer.the-variants.{Done, Refused}
 use Rattle.lists.proofs.Rooms.{give-none, give-all}
 use Rattle.forms.proofs.Answers.{NotDone}
-use Rattle.rules.specs.Rules.{Rules, remove, isKind, count, lastStage}
-use Rattle.rules.specs.Stage.{Move, adds, removes, Stages, moved, stages, unfitAt, staged}
+use Rattle.rules.specs.Rules.{Rules, remove, count, lastStage}
+use Rattle.rules.specs.Stage.{Move, adds, removes, moved, stages, lowestUnfit, staged}
 use Rattle.rules.specs.Lists.{rulesOf}
-use Rattle.staging.specs.Inner.{Counted, counts, StagedTo, told}
+use Rattle.staging.specs.Inner.{OfKind, counts, StagedTo, told}
 use Rattle.rules.proofs.Counts.{count-who, count-kind}
 use Rattle.rules.proofs.Passes.{moved-is}
 
@@ -32,7 +31,7 @@ zeros (suc n) zero = refl
 zeros (suc n) (suc u) = zeros n u
 
 module _ (l r a o : List ℕ) (ea : a ≡ replicate mostSwitches 0) (eo : o ≡ replicate mostTunnels 0)
-    (C : Counted (rulesOf l) (rulesOf l .tunnels) (isKind (rulesOf l) remove) r) where
+    (C : OfKind l remove r) where
   abbrev R : Rules
   R = rulesOf l
 
@@ -62,7 +61,7 @@ told-none (some p) a n e d = let z : _≡_ {A = ℕ} 0 1 = cc in absurd (omega a
 
 module _ (l out : List ℕ) where
   abbrev bad : Option Place
-  bad = first (rulesOf l .switches) (unfitAt (rulesOf l))
+  bad = lowestUnfit (rulesOf l)
 
   abbrev answer : Answer
   answer = done (withRoom (length out) (staged (rulesOf l)))
@@ -99,12 +98,9 @@ module _ (l out : List ℕ) where
       let g = give-none all out (rw all-length h) in
       rw e (ap (λ (n : ℕ). Refused 10 n 0) (sym all-length) ∙ sym (g .0), sym (g .1))
 
-  pub stage-all : bad ≡ none → at l 3 ≤ length out → (f : Stages) → f ≡ stages (rulesOf l) (lastStage (rulesOf l))
-      → (Done (at l 3) ≡ answer) × (listed (at l 3) f ++ drop (at l 3) out ≡ after)
+  pub stage-all : bad ≡ none → at l 3 ≤ length out
+      → (Done (at l 3) ≡ answer) × (listed (at l 3) (stages (rulesOf l) (lastStage (rulesOf l))) ++ drop (at l 3) out ≡ after)
   unfolding staged rulesOf
-  stage-all e h f q =
+  stage-all e h =
       let g = give-all all out (rw all-length h) in
-      rw e (
-        ap Done (sym all-length) ∙ sym (g .0),
-        ap (λ (k : Stages). listed (at l 3) k ++ drop (at l 3) out) q ∙ ap (λ (n : ℕ). all ++ drop n out) (sym all-length) ∙ sym (g .1),
-      )
+      rw e (ap Done (sym all-length) ∙ sym (g .0), ap (λ (n : ℕ). all ++ drop n out) (sym all-length) ∙ sym (g .1))

@@ -2,6 +2,7 @@
 use Prim.Native.Nat.{ℕ, _+_, _-_, _*_, _≤_, _<_}
 use mathlib.Core.Path.{_≡_, sym, ap, _∙_}
 use mathlib.Core.Logic.{⊎-elim}
+use mathlib.Core.Bool.{Bool}
 use mathlib.Core.List.{List}
 use mathlib.Core.Option.{none, some, Option·some-ne-none}
 use native.Mathlib.Nat.{mul-le-mul}
@@ -10,16 +11,16 @@ use lib.ListN.{length, set, replicate, length-set, length-replicate, getD-replic
 use lib.Seq.{getD-set-same, getD-set-other}
 use lib.Dec.{eqb}
 use borrow.Author.Tests.{lt-ltb, le-ltb, eqb-true, eqb-false}
+use Rattle.model.specs.Limits.{mostTunnels, mostSwitches, mostRoom}
 use Rattle.model.specs.Search.{onlyIf, orElse, first}
 use Rattle.model.specs.Outcome.{Place}
 use Rattle.model.proofs.Searches.{bool-cases, first-zero, first-on, first-at}
 use Rattle.lists.specs.Lists.{at}
 use Rattle.lists.specs.declared.Answer.the-variants.{Done, Refused}
 use Rattle.rules.specs.Rules.{Rules, keep, add, remove, isKind, count, usable, spare}
-use Rattle.rules.specs.Stage.{tooMany, unfitAt}
+use Rattle.rules.specs.Stage.{tooMany, unfitAt, lowestUnfit}
 use Rattle.rules.specs.Lists.{rulesOf, GoodRules}
-use Rattle.model.specs.Limits.{mostTunnels, mostSwitches, mostRoom}
-use Rattle.staging.specs.Inner.{Table, Spares, Kinds, told}
+use Rattle.staging.specs.Inner.{Table, Counted, Kinds, Judged}
 use Rattle.staging.proofs.Tallies.{counted-table}
 
 pub record Judging (R : Rules) (n : ℕ) (x : List ℕ) : Type 0 where
@@ -27,88 +28,86 @@ pub record Judging (R : Rules) (n : ℕ) (x : List ℕ) : Type 0 where
   pub table : Table (1000 * mostRoom) x
   pub each : (s : ℕ) → s < n → at x s ≡ spare R s
 
-module _ (R : Rules) (x : List ℕ) where
-  pub judging-start : x ≡ replicate mostSwitches 0 → Judging R 0 x
-  judging-start e = record {
-    fits = first-zero (unfitAt R);
-    table = record {
-      size = ap length e ∙ length-replicate {A = ℕ} mostSwitches 0;
-      most = λ s h. omega (arith, ap (λ (l : List ℕ). at l s) e, getD-replicate {A = ℕ} mostSwitches s 0 0 h);
-    };
-    each = λ s h. absurd (omega (arith, h));
-  }
+pub judging-start : (R : Rules) (x : List ℕ) → x ≡ replicate mostSwitches 0 → Judging R 0 x
+judging-start R x e = record {
+  fits = first-zero (unfitAt R);
+  table = record {
+    size = ap length e ∙ length-replicate {A = ℕ} mostSwitches 0;
+    most = λ s h. omega (arith, ap (λ (l : List ℕ). at l s) e, getD-replicate {A = ℕ} mostSwitches s 0 0 h);
+  };
+  each = λ s h. absurd (omega (arith, h));
+}
 
-  pub judging-end : (n : ℕ) → Judging R n x → n ≡ R .switches → (Done 0 ≡ told (first (R .switches) (unfitAt R))) × (first (R .switches) (unfitAt R) ≡ none → Spares R x)
-  judging-end n J e =
-      let none-bad : first (R .switches) (unfitAt R) ≡ none = rw e at (J .fits) in
-      (rw none-bad, λ _. record { table = J .table; each = λ s h. J .each s (omega (arith, h, e)) })
+pub judging-end : (l x : List ℕ) (n : ℕ) → Judging (rulesOf l) n x → n ≡ at l 2 → Judged l (Done 0) x
+unfolding rulesOf
+judging-end l x n J e =
+    let fit : lowestUnfit (rulesOf l) ≡ none = rw e at (J .fits) in
+    record { answer = rw fit; spares = λ _. record { table = J .table; each = λ s h. J .each s (omega (arith, h, e)) } }
 
-  -- the switch s, of which `kept`, `leaving` and `entering` are the counts
-  module _ (s kept leaving entering : ℕ) (J : Judging R s x) (h : s < R .switches) (ek : kept ≡ count R (isKind R keep) s) (el : leaving ≡ count R (isKind R remove) s)
-      (ee : entering ≡ count R (isKind R add) s) where
-    refused : (p : Place) → unfitAt R s ≡ some p
-        → (Refused 18 (p .place) (p .second) ≡ told (first (R .switches) (unfitAt R))) × (first (R .switches) (unfitAt R) ≡ none → Spares R x)
+-- ---- at switch s
+
+module _ (l kept adding removing : List ℕ) (g : GoodRules l) (K : Kinds l kept adding removing) (s : ℕ) (h : s < at l 2) where
+  abbrev R : Rules
+  R = rulesOf l
+
+  low : s < mostSwitches
+  low = omega (arith, h, g .switches .1)
+
+  counted : (p : ℕ → Bool) (c : List ℕ) → Counted R (R .tunnels) p c → (at c s ≡ count R p s) × (at c s ≤ mostTunnels)
+  unfolding count rulesOf
+  counted p c C = (C .each s low, counted-table R (R .tunnels) p c C (g .tunnels) .most s low)
+
+  pub counts-most : (at kept s ≤ mostTunnels) × (at adding s ≤ mostTunnels) × (at removing s ≤ mostTunnels)
+  counts-most = (counted _ kept (K .keeps) .1, counted _ adding (K .enters) .1, counted _ removing (K .leaves) .1)
+
+  abbrev most : ℕ
+  most = (1000 - at l 1) * at l (4 + s)
+
+  pub usable-most : (1000 - at l 1) * at l (4 + s) ≤ 1000 * mostRoom
+  usable-most = let part : 1000 - at l 1 ≤ 1000 = omega arith in mul-le-mul part (g .room s h)
+
+  -- the set of the kept tunnels and those of another kind
+  set-most : (other : ℕ) (c : List ℕ) → Counted R (R .tunnels) (isKind R other) c → 1000 * (count R (isKind R keep) s + count R (isKind R other) s) ≡ 1000 * at kept s + 1000 * at c s
+  set-most other c C = omega (arith, counted _ kept (K .keeps) .0, counted _ c C .0)
+
+  module _ (x : List ℕ) (J : Judging R s x) where
+    refused : (p : Place) → unfitAt R s ≡ some p → Judged l (Refused 18 (p .place) (p .second)) x
+    unfolding rulesOf
     refused p e =
-        let found : first (R .switches) (unfitAt R) ≡ some p = first-at (unfitAt R) s (R .switches) p (J .fits) e h in
-        (rw found, λ z. absurd (Option·some-ne-none p (sym found ∙ z)))
+        let found : lowestUnfit R ≡ some p = first-at (unfitAt R) s (R .switches) p (J .fits) e h in
+        record { answer = rw found; spares = λ z. absurd (Option·some-ne-none p (sym found ∙ z)) }
 
-    pub judging-old : usable R s < 1000 * kept + 1000 * leaving
-        → (Refused 18 s 0 ≡ told (first (R .switches) (unfitAt R))) × (first (R .switches) (unfitAt R) ≡ none → Spares R x)
-    unfolding unfitAt tooMany onlyIf orElse
-    judging-old b =
-        let many : usable R s < 1000 * (count R (isKind R keep) s + count R (isKind R remove) s) = omega (arith, b, ek, el) in
-        refused (record { place = s; second = 0 }) (rw (lt-ltb _ _ many))
+    pub judging-old : (1000 - at l 1) * at l (4 + s) < 1000 * at kept s + 1000 * at removing s → Judged l (Refused 18 s 0) x
+    unfolding unfitAt tooMany onlyIf orElse usable rulesOf
+    judging-old b = refused (record { place = s; second = 0 }) (rw (set-most remove removing (K .leaves), lt-ltb _ _ b))
 
-    module _ (old : 1000 * kept + 1000 * leaving ≤ usable R s) where
-      few : 1000 * (count R (isKind R keep) s + count R (isKind R remove) s) ≤ usable R s
-      few = omega (arith, old, ek, el)
-
-      pub judging-new : usable R s < 1000 * kept + 1000 * entering
-          → (Refused 18 s 1 ≡ told (first (R .switches) (unfitAt R))) × (first (R .switches) (unfitAt R) ≡ none → Spares R x)
-      unfolding unfitAt tooMany onlyIf orElse
+    module _ (old : 1000 * at kept s + 1000 * at removing s ≤ (1000 - at l 1) * at l (4 + s)) where
+      pub judging-new : (1000 - at l 1) * at l (4 + s) < 1000 * at kept s + 1000 * at adding s → Judged l (Refused 18 s 1) x
+      unfolding unfitAt tooMany onlyIf orElse usable rulesOf
       judging-new b =
-          let many : usable R s < 1000 * (count R (isKind R keep) s + count R (isKind R add) s) = omega (arith, b, ek, ee) in
-          refused (record { place = s; second = 1 }) (rw (le-ltb _ _ few, lt-ltb _ _ many))
+          refused (record { place = s; second = 1 }) (rw (set-most remove removing (K .leaves), set-most add adding (K .enters), le-ltb _ _ old, lt-ltb _ _ b))
 
-      pub judging-on : R .switches ≤ mostSwitches → usable R s ≤ 1000 * mostRoom → 1000 * kept + 1000 * entering ≤ usable R s → Judging R (s + 1) (set x s (usable R s - 1000 * kept))
-      unfolding unfitAt tooMany onlyIf orElse spare
-      judging-on low small new = record {
-        fits = first-on (unfitAt R) s (J .fits) (rw (le-ltb _ _ few, le-ltb _ _ less));
-        table = record { size = length-set x s _ ∙ J .table .size; most = most };
+      pub judging-on : 1000 * at kept s + 1000 * at adding s ≤ (1000 - at l 1) * at l (4 + s) → Judging R (s + 1) (set x s ((1000 - at l 1) * at l (4 + s) - 1000 * at kept s))
+      unfolding unfitAt tooMany onlyIf orElse spare usable rulesOf
+      judging-on new = record {
+        fits = first-on (unfitAt R) s (J .fits) (rw (set-most remove removing (K .leaves), set-most add adding (K .enters), le-ltb _ _ old, le-ltb _ _ new));
+        table = record { size = length-set x s _ ∙ J .table .size; most = small };
         each = each;
       }
         where
-          less : 1000 * (count R (isKind R keep) s + count R (isKind R add) s) ≤ usable R s
-          less = omega (arith, new, ek, ee)
+          here : at (set x s (most - 1000 * at kept s)) s ≡ most - 1000 * at kept s
+          here = getD-set-same x s (most - 1000 * at kept s) 0 (omega (arith, low, J .table .size))
 
-          here : at (set x s (usable R s - 1000 * kept)) s ≡ usable R s - 1000 * kept
-          here = getD-set-same x s (usable R s - 1000 * kept) 0 (omega (arith, h, low, J .table .size))
-
-          most : (u : ℕ) → u < mostSwitches → at (set x s (usable R s - 1000 * kept)) u ≤ 1000 * mostRoom
-          most u l =
+          small : (u : ℕ) → u < mostSwitches → at (set x s (most - 1000 * at kept s)) u ≤ 1000 * mostRoom
+          small u k =
               ⊎-elim
-              (λ e. let q : u ≡ s = eqb-true u s e in rw q (omega (arith, here, small)))
-              (λ e. omega (arith, getD-set-other x s u (usable R s - 1000 * kept) 0 (eqb-false u s e), J .table .most u l))
+              (λ e. let q : u ≡ s = eqb-true u s e in rw q (omega (arith, here, usable-most)))
+              (λ e. omega (arith, getD-set-other x s u (most - 1000 * at kept s) 0 (eqb-false u s e), J .table .most u k))
               (bool-cases (eqb u s))
 
-          each : (u : ℕ) → u < s + 1 → at (set x s (usable R s - 1000 * kept)) u ≡ usable R u - 1000 * count R (isKind R keep) u
-          each u l =
+          each : (u : ℕ) → u < s + 1 → at (set x s (most - 1000 * at kept s)) u ≡ usable R u - 1000 * count R (isKind R keep) u
+          each u k =
               ⊎-elim
-              (λ e. let q : u ≡ s = eqb-true u s e in rw q (here ∙ ap (λ (k : ℕ). usable R s - 1000 * k) ek))
-              (λ e. getD-set-other x s u (usable R s - 1000 * kept) 0 (eqb-false u s e) ∙ J .each u (omega (arith, l, eqb-false u s e)))
+              (λ e. let q : u ≡ s = eqb-true u s e in rw q (here ∙ ap (λ (n : ℕ). most - 1000 * n) (counted _ kept (K .keeps) .0)))
+              (λ e. getD-set-other x s u (most - 1000 * at kept s) 0 (eqb-false u s e) ∙ J .each u (omega (arith, k, eqb-false u s e)))
               (bool-cases (eqb u s))
-
--- what may be used of a switch of a good list
-pub usable-most : (l : List ℕ) → GoodRules l → (s : ℕ) → s < at l 2 → usable (rulesOf l) s ≤ 1000 * mostRoom
-unfolding usable rulesOf
-usable-most l g s h = let part : 1000 - at l 1 ≤ 1000 = omega arith in mul-le-mul part (g .room s h)
-
-pub counts-most : (l kept adding removing : List ℕ) → GoodRules l → Kinds l kept adding removing → (s : ℕ) → s < at l 2 → (at kept s ≤ mostTunnels) × (at adding s ≤ mostTunnels) × (at removing s ≤ mostTunnels)
-unfolding rulesOf
-counts-most l kept adding removing g K s h =
-    let R = rulesOf l in
-    let low : s < mostSwitches = omega (arith, h, g .switches .1) in (
-      counted-table R (R .tunnels) _ kept (K .keeps) (g .tunnels) .most s low,
-      counted-table R (R .tunnels) _ adding (K .enters) (g .tunnels) .most s low,
-      counted-table R (R .tunnels) _ removing (K .leaves) (g .tunnels) .most s low,
-    )

@@ -7,7 +7,7 @@ use mathlib.Core.List.{List}
 use native.Mathlib.Nat.{mul-one, div-one}
 use native.Mathlib.Decide.{decLt}
 use native.Mathlib.Omega.{arith}
-use lib.Bits.{bitAnd}
+use lib.Bits.{bitAnd, and-le-r}
 use lib.Count.{trailingZeros}
 use lib.Dec.{eqb}
 use lib.ListN.{length, set, length-set}
@@ -20,6 +20,9 @@ use Rattle.lists.specs.Lists.{at}
 use Rattle.model.specs.Limits.{mostSwitches}
 use Rattle.staging.specs.Inner.{Shifted, Shiftable, fitsAll}
 use Rattle.rules.proofs.Counts.{every-all, every-not}
+
+pub and-less : (a b : ℕ) → b < a → bitAnd a b < a
+and-less a b h = omega (arith, and-le-r a b, h)
 
 -- ---- is there room at each switch of a set?
 

@@ -14,7 +14,7 @@ use Rattle.lists.specs.Lists.{at}
 use Rattle.lists.specs.declared.Answer.{Answer}
 use Rattle.lists.specs.declared.Answer.the-variants.{Done, Refused}
 use Rattle.rules.specs.Rules.{Rules, keep, add, remove, isKind, rule, lastStage, spare}
-use Rattle.rules.specs.Stage.{Move, adds, removes, kindOf, Stages, moved, waits, every, stages}
+use Rattle.rules.specs.Stage.{Move, adds, removes, kindOf, Stages, moved, waits, every, stages, lowestUnfit}
 use Rattle.rules.specs.Lists.{rulesOf, GoodRules}
 
 -- ---- a number for each switch that there can be
@@ -27,6 +27,15 @@ pub record Table (b : ℕ) (c : List ℕ) : Type 0 where
 pub record Counted (R : Rules) (n : ℕ) (p : ℕ → Bool) (c : List ℕ) : Type 0 where
   pub size : length c ≡ mostSwitches
   pub each : (s : ℕ) → s < mostSwitches → at c s ≡ sumOver n p (rule R s)
+
+-- the counts of all tunnels of a kind
+abbrev pub OfKind : List ℕ → ℕ → List ℕ → Type 0
+OfKind l kind c = Counted (rulesOf l) (rulesOf l .tunnels) (isKind (rulesOf l) kind) c
+
+pub record Kinds (l kept adding removing : List ℕ) : Type 0 where
+  pub keeps : OfKind l keep kept
+  pub enters : OfKind l add adding
+  pub leaves : OfKind l remove removing
 
 -- the table c′ is c with `more` added and `less` taken off at the switches of a set
 pub record Shifted (via more less : ℕ) (c c′ : List ℕ) : Type 0 where
@@ -95,14 +104,13 @@ pub record StagedTo (l : List ℕ) (i : ℕ) (a r o : List ℕ) : Type 0 where
   pub size : length o ≡ mostTunnels
   pub stages : at o ≡ stages (rulesOf l) i
 
--- the counts of each kind
-pub record Kinds (l kept adding removing : List ℕ) : Type 0 where
-  pub keeps : Counted (rulesOf l) (rulesOf l .tunnels) (isKind (rulesOf l) keep) kept
-  pub enters : Counted (rulesOf l) (rulesOf l .tunnels) (isKind (rulesOf l) add) adding
-  pub leaves : Counted (rulesOf l) (rulesOf l .tunnels) (isKind (rulesOf l) remove) removing
-
 -- ---- refusal 18
 
 abbrev pub told : Option Place → Answer
 told none = Done 0
 told (some p) = Refused (number unfit) (p .place) (p .second)
+
+-- a is the refusal that is due, or the spares are there
+pub record Judged (l : List ℕ) (a : Answer) (x : List ℕ) : Type 0 where
+  pub answer : a ≡ told (lowestUnfit (rulesOf l))
+  pub spares : lowestUnfit (rulesOf l) ≡ none → Spares (rulesOf l) x

@@ -1,16 +1,17 @@
 // Do the old and the new set fit, and what is spare beside the kept tunnels?
 ghost use mathlib.Core.Path.{_≡_};
-ghost use mathlib.Core.Option.{none};
 ghost use lib.ListN.{replicate};
-ghost use Rattle.model.specs.Search.{first};
-ghost use Rattle.rules.specs.Stage.{unfitAt};
-ghost use Rattle.rules.specs.Lists.{rulesOf, GoodRules};
+ghost use Rattle.rules.specs.Rules.{remove};
+ghost use Rattle.rules.specs.Lists.{GoodRules};
 ghost use Rattle.model.specs.Limits.{mostSwitches};
-ghost use Rattle.staging.specs.Inner.{Kinds, Spares, told};
+ghost use Rattle.staging.specs.Inner.{OfKind, Kinds, Judged};
+use crate::tables;
+use crate::tables::SWITCHES;
 use lists::Answer;
+use lists::RuleTables;
 
 // Refusal 18 for the first switch that they do not fit, old before new; else done, with the spares in their table.
-pub(crate) fn judge(
+fn by_counts(
     list: &[u64],
     kept: &[u64],
     adding: &[u64],
@@ -19,8 +20,7 @@ pub(crate) fn judge(
 ) -> Answer
     requires { ⌜ GoodRules (now list) × Kinds (now list) (now kept) (now adding) (now removing) ⌝ }
     requires { ⌜ now spares ≡ replicate mostSwitches 0 ⌝ }
-    ensures { λ r. ⌜ r ≡ told (first (rulesOf (now (list .entry)) .switches) (unfitAt (rulesOf (now (list .entry))))) ⌝ }
-    ensures { λ _. ⌜ (first (rulesOf (now (list .entry)) .switches) (unfitAt (rulesOf (now (list .entry)))) ≡ none → Spares (rulesOf (now (list .entry))) (now (spares .exit))) ⌝ }
+    ensures { λ r. ⌜ Judged (now (list .entry)) r (now (spares .exit)) ⌝ }
 {
     let free = 1000 - list[1];
     let switches = list[2] as usize;
@@ -46,4 +46,17 @@ pub(crate) fn judge(
         s += 1;
     }
     Answer::Done(0)
+}
+
+// The same, with the tunnels to remove counted: all of them remain at first.
+pub(crate) fn judge(list: &[u64], remaining: &mut [u64], spares: &mut [u64]) -> Answer
+    requires { ⌜ GoodRules (now list) × (now remaining ≡ replicate mostSwitches 0) × (now spares ≡ replicate mostSwitches 0) ⌝ }
+    ensures { λ r. ⌜ Judged (now (list .entry)) r (now (spares .exit)) × OfKind (now (list .entry)) remove (now (remaining .exit)) ⌝ }
+{
+    let mut kept = [0u64; SWITCHES];
+    let mut adding = [0u64; SWITCHES];
+    tables::count(list, RuleTables::KEEP, &mut kept);
+    tables::count(list, RuleTables::ADD, &mut adding);
+    tables::count(list, RuleTables::REMOVE, remaining);
+    by_counts(list, &kept, &adding, remaining, spares)
 }

@@ -1,17 +1,23 @@
 // The stages: in each, a pass over the tunnels to add and then one over those to remove.
 ghost use mathlib.Core.Path.{_≡_};
+ghost use mathlib.Core.List.{_++_};
 ghost use Prim.Native.Nat.{_-_, _*_, _≤_, _<_};
+ghost use lib.ListN.{length, drop};
 ghost use Rattle.model.specs.Limits.{mostTunnels, mostSteps, mostRoom};
+ghost use Rattle.model.specs.Listed.{listed};
 ghost use Rattle.lists.specs.Lists.{at};
 ghost use Rattle.rules.specs.Stage as model;
 ghost use Rattle.rules.specs.Rules.{add, remove, lastStage};
 ghost use Rattle.rules.specs.Lists.{tunnelAt, rulesOf, GoodRules};
-ghost use Rattle.staging.specs.Inner.{Table, Spares, Ready, Reached, StagedTo, moveOf, goesBy, fitsAll};
+ghost use Rattle.staging.specs.Inner.{Table, OfKind, Spares, Ready, Reached, StagedTo, moveOf, goesBy, fitsAll};
 use crate::tables;
+use crate::tables::SWITCHES;
 use lists::RuleTables;
 
+const TUNNELS: usize = RuleTables::TUNNELS as usize;
+
 // The terms of a pass over the tunnels: the kind that moves, the stage, and its test, by which `unit` times a count is at most `times` what is spare.
-pub(crate) struct Terms {
+struct Terms {
     pub kind: u64,
     pub stage: u64,
     pub times: u64,
@@ -83,13 +89,7 @@ fn pass(list: &[u64], spares: &[u64], p: Terms, counts: &mut [u64], stages: &mut
 }
 
 // All stages, from none. `added` counts the tunnels to add that are in, `remaining` those to remove that are not out.
-pub(crate) fn run(
-    list: &[u64],
-    spares: &[u64],
-    added: &mut [u64],
-    remaining: &mut [u64],
-    stages: &mut [u64],
-)
+fn run(list: &[u64], spares: &[u64], added: &mut [u64], remaining: &mut [u64], stages: &mut [u64])
     requires { ⌜ GoodRules (now list) × Spares (rulesOf (now list)) (now spares) ⌝ }
     requires { ⌜ StagedTo (now list) 0 (now added) (now remaining) (now stages) ⌝ }
     ensures { λ _. ⌜ StagedTo (now (list .entry)) (lastStage (rulesOf (now (list .entry)))) (now (added .exit)) (now (remaining .exit)) (now (stages .exit)) ⌝ }
@@ -125,4 +125,27 @@ pub(crate) fn run(
             stages,
         );
     }
+}
+
+// Copies the first numbers of a list.
+fn copy(stages: &[u64], tunnels: usize, out: &mut [u64])
+    requires { ⌜ (tunnels ≤ length (now stages)) × (tunnels ≤ length (now out)) ⌝ }
+    ensures { λ _. ⌜ now (out .exit) ≡ listed tunnels (at (now (stages .entry))) ++ drop tunnels (now (out .entry)) ⌝ }
+{
+    let mut t: usize = 0;
+    while t < tunnels {
+        out[t] = stages[t];
+        t += 1;
+    }
+}
+
+// Gives each tunnel its stage. The stages are found in a table that starts with none, since the output may hold anything.
+pub(crate) fn give(list: &[u64], spares: &[u64], remaining: &mut [u64], out: &mut [u64])
+    requires { ⌜ GoodRules (now list) × Spares (rulesOf (now list)) (now spares) × OfKind (now list) remove (now remaining) × (at (now list) 3 ≤ length (now out)) ⌝ }
+    ensures { λ _. ⌜ now (out .exit) ≡ listed (at (now (list .entry)) 3) (model.stages (rulesOf (now (list .entry))) (lastStage (rulesOf (now (list .entry))))) ++ drop (at (now (list .entry)) 3) (now (out .entry)) ⌝ }
+{
+    let mut added = [0u64; SWITCHES];
+    let mut stages = [0u64; TUNNELS];
+    run(list, spares, &mut added, remaining, &mut stages);
+    copy(&stages, list[3] as usize, out);
 }

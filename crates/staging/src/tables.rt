@@ -3,9 +3,8 @@ ghost use mathlib.Core.Path.{_≡_};
 ghost use Prim.Native.Nat.{_+_, _*_, _≤_};
 ghost use lib.ListN.{replicate};
 ghost use Rattle.model.specs.Limits.{mostTunnels, mostSteps, mostSwitches, mostRoom};
-ghost use Rattle.rules.specs.Rules.{isKind};
-ghost use Rattle.rules.specs.Lists.{rulesOf, GoodRules};
-ghost use Rattle.staging.specs.Inner.{Table, Counted, Shiftable, Shifted, fitsAll};
+ghost use Rattle.rules.specs.Lists.{GoodRules};
+ghost use Rattle.staging.specs.Inner.{Table, OfKind, Shiftable, Shifted, fitsAll};
 use lists::RuleTables;
 
 // How many numbers a table has.
@@ -51,7 +50,7 @@ pub(crate) fn fits(
 // Counts the tunnels of a kind.
 pub(crate) fn count(list: &[u64], kind: u64, counts: &mut [u64])
     requires { ⌜ GoodRules (now list) × (now counts ≡ replicate mostSwitches 0) ⌝ }
-    ensures { λ _. ⌜ Counted (rulesOf (now (list .entry))) (rulesOf (now (list .entry)) .tunnels) (isKind (rulesOf (now (list .entry))) kind) (now (counts .exit)) ⌝ }
+    ensures { λ _. ⌜ OfKind (now (list .entry)) kind (now (counts .exit)) ⌝ }
 {
     let sizes = RuleTables::of(list);
     let tunnels = sizes.tunnels;

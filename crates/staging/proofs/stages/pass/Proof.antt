@@ -10,9 +10,6 @@ use Rattle.staging.proofs.Turns.{reached-start, ready-on, reached-on, r
 use borrow.Author.Needs.{needs}
 use Rattle.staging.proofs.stages.pass.Statement.{statement}
 use Rattle.staging.proofs.stages.pass.Tie as tie
-use Rattle.lists.proofs.RuleTables.of.Reads as of-reads
-use Rattle.lists.proofs.RuleTables.tunnels_at.Reads as tunnels-at-reads
-use Rattle.staging.proofs.stages.turn.Reads as turn-reads
 
 abbrev Inv-loop : tie.InvT-loop
 Inv-loop list spares p counts₀ stages₀ tunnels from₀ t₀ counts stages from t = record {

@@ -10,8 +10,6 @@ use Rattle.staging.proofs.Turns.{last-most}
 use borrow.Author.Needs.{needs}
 use Rattle.staging.proofs.stages.run.Statement.{statement}
 use Rattle.staging.proofs.stages.run.Tie as tie
-use Rattle.bound.proofs.last_step.Reads as last-step-reads
-use Rattle.staging.proofs.stages.pass.Reads as pass-reads
 
 abbrev Inv-loop : tie.InvT-loop
 Inv-loop list spares added₀ remaining₀ stages₀ last unit i₀ added remaining stages i = record { low : i ≤ last; is-last : last ≡ lastStage (rulesOf list); staged : StagedTo list i added remaining stages }

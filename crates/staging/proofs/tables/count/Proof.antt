@@ -10,9 +10,6 @@ use Rattle.staging.proofs.Tallies.{counted-zero, counted-table, counted
 use borrow.Author.Needs.{needs}
 use Rattle.staging.proofs.tables.count.Statement.{statement}
 use Rattle.staging.proofs.tables.count.Tie as tie
-use Rattle.lists.proofs.RuleTables.of.Reads as of-reads
-use Rattle.lists.proofs.RuleTables.tunnels_at.Reads as tunnels-at-reads
-use Rattle.staging.proofs.tables.shift.Reads as shift-reads
 
 abbrev Inv-loop : tie.InvT-loop
 Inv-loop list kind counts₀ tunnels at₀ t₀ counts at t = record { low : t ≤ tunnels; here : at ≡ tunnelAt list t; counted : Counted (rulesOf list) t (isKind (rulesOf list) kind) counts }

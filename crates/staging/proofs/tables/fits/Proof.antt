@@ -4,10 +4,10 @@ use native.Mathlib.Omega.{arith}
 use borrow.Author.Needs.{needs}
 use native.Mathlib.Nat.{mul-le-mul}
 use lib.Count.{trailingZeros, trailing-le}
-use Rattle.model.proofs.Sets.{next-within, next-less}
+use Rattle.model.proofs.Sets.{next-within}
 use Rattle.lists.specs.Lists.{at}
-use Rattle.model.specs.Limits.{mostSwitches}
-use Rattle.staging.proofs.Shifts.{Fitting, fitting-start, fitting-on, fitting-not, fitting-end}
+use Rattle.model.specs.Limits.{mostTunnels, mostSwitches}
+use Rattle.staging.proofs.Shifts.{and-less, Fitting, fitting-start, fitting-on, fitting-not, fitting-end}
 use Rattle.staging.proofs.tables.fits.Statement.{statement}
 use Rattle.staging.proofs.tables.fits.Tie as tie
 
@@ -32,7 +32,7 @@ low c =
 -- its count, with one more
 tally : (c : tie.After-shared-slice-known2 Inv-loop μ-loop)
     → let s = c .before .before .before .before in
-    at (s .args .counts .now) (trailingZeros 64 (c .before .before .before .loop .left)) + s .args .more ≤ 97
+    at (s .args .counts .now) (trailingZeros 64 (c .before .before .before .loop .left)) + s .args .more ≤ mostTunnels + 1
 tally c =
     let s = c .before .before .before .before in
     omega (arith, s .pre .0 .0 .most _ (low (c .before .before)), s .pre .1 .1)
@@ -70,10 +70,7 @@ sub-left : tie.Need-sub-left Inv-loop μ-loop
 sub-left c = search needs
 
 loop-less : tie.Need-loop-less Inv-loop μ-loop
-loop-less c =
-    let s = c .before .before .before .before .before in
-    let i = c .before .before .before .before .loop in
-    next-less (s .args .via) (i .inv .switch) (i .left) (s .fits .via .fits) (i .inv .left-from) (c .before .before .before .loop-test .taken)
+loop-less c = and-less _ _ (omega (arith, c .before .before .before .loop-test .taken))
 
 loop-again : tie.Need-loop-again Inv-loop μ-loop
 loop-again c =

@@ -4,10 +4,9 @@ use mathlib.Core.Path.{_≡_}
 use native.Mathlib.Omega.{arith}
 use borrow.Author.Needs.{needs}
 use lib.Count.{trailingZeros, trailing-le}
-use Rattle.model.proofs.Sets.{next-less}
 use Rattle.lists.specs.Lists.{at}
 use Rattle.model.specs.Limits.{mostSwitches}
-use Rattle.staging.proofs.Shifts.{Shifting, shifting-start, next-low, next-same, shifting-on, shifting-end}
+use Rattle.staging.proofs.Shifts.{and-less, Shifting, shifting-start, next-low, next-same, shifting-on, shifting-end}
 use Rattle.staging.proofs.tables.shift.Statement.{statement}
 use Rattle.staging.proofs.tables.shift.Tie as tie
 
@@ -60,10 +59,7 @@ sub-set : tie.Need-sub-set Inv-loop μ-loop
 sub-set c = search needs
 
 loop-less : tie.Need-loop-less Inv-loop μ-loop
-loop-less c =
-    let s = c .before .before .before in
-    let i = c .before .before .loop in
-    next-less (s .args .via) (i .inv .switch) (i .set) (s .fits .via .fits) (i .inv .left-from) (c .before .loop-test .taken)
+loop-less c = and-less _ _ (omega (arith, c .before .loop-test .taken))
 
 loop-again : tie.Need-loop-again Inv-loop μ-loop
 loop-again c =

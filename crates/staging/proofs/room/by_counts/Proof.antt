@@ -1,19 +1,31 @@
--- `staging::room::judge` meets its contract: the switches passed are not too full, and what is spare at each is in its table. Assumes nothing.
-use Prim.Native.Nat.{_+_, _-_, _*_, _≤_, _<_}
+-- `staging::room::by_counts` meets its contract: the switches passed are not too full, and what is spare at each is in its table. Assumes nothing.
+use Prim.Native.Nat.{_+_, _-_, _*_, _≤_}
 use native.Mathlib.Omega.{arith}
-use borrow.Author.Needs.{needs}
+use Rattle.model.specs.Limits.{mostTunnels, mostRoom}
 use Rattle.lists.specs.Lists.{at}
-use Rattle.rules.specs.Rules.{count, usable}
 use Rattle.rules.specs.Lists.{rulesOf}
 use Rattle.staging.proofs.Fitting.{Judging, judging-start, judging-old, judging-new, judging-on, judging-end, usable-most, counts-most}
-use Rattle.staging.proofs.room.judge.Statement.{statement}
-use Rattle.staging.proofs.room.judge.Tie as tie
+use borrow.Author.Needs.{needs}
+use Rattle.staging.proofs.room.by_counts.Statement.{statement}
+use Rattle.staging.proofs.room.by_counts.Tie as tie
 
 abbrev Inv-loop : tie.InvT-loop
 Inv-loop list kept adding removing spares₀ free switches s₀ spares s = record { low : s ≤ switches; judging : Judging (rulesOf list) s spares }
 
 abbrev μ-loop : tie.MeasureT-loop
 μ-loop list kept adding removing spares₀ free switches s₀ spares s = switches - s
+
+-- what may be used of this switch, and its counts
+usable-here : (c : tie.In-loop Inv-loop μ-loop)
+    → let l = c .before .before .before .before .args .list .now in
+    (1000 - at l 1) * at l (4 + c .before .loop .s) ≤ 1000 * mostRoom
+usable-here c = let p = c .before .before .before .before .pre .0 in usable-most _ _ _ _ (p .0) (p .1) (c .before .loop .s) (c .loop-test .taken)
+
+counts-here : (c : tie.In-loop Inv-loop μ-loop)
+    → let a = c .before .before .before .before .args in
+    let s = c .before .loop .s in
+    (at (a .kept .now) s ≤ mostTunnels) × (at (a .adding .now) s ≤ mostTunnels) × (at (a .removing .now) s ≤ mostTunnels)
+counts-here c = let p = c .before .before .before .before .pre .0 in counts-most _ _ _ _ (p .0) (p .1) (c .before .loop .s) (c .loop-test .taken)
 
 shared-slice-read-free : tie.Need-shared-slice-read-free Inv-loop μ-loop
 shared-slice-read-free c = search needs
@@ -26,19 +38,6 @@ shared-slice-read-switches c = search needs
 
 loop-holds : tie.Need-loop-holds Inv-loop μ-loop
 loop-holds c = record { low = omega arith; judging = judging-start _ _ (c .before .before .pre .1) }
-
--- what may be used of this switch, and its counts
-usable-here : (c : tie.In-loop Inv-loop μ-loop)
-    → let l = c .before .before .before .before .args .list .now in
-    (1000 - at l 1) * at l (4 + c .before .loop .s) ≤ 65535000
-unfolding usable rulesOf count
-usable-here c = usable-most _ (c .before .before .before .before .pre .0 .0) (c .before .loop .s) (c .loop-test .taken)
-
-counts-here : (c : tie.In-loop Inv-loop μ-loop)
-    → let a = c .before .before .before .before .args in
-    let t = c .before .loop .s in
-    (at (a .kept .now) t ≤ 96) × (at (a .adding .now) t ≤ 96) × (at (a .removing .now) t ≤ 96)
-counts-here c = let p = c .before .before .before .before .pre .0 in counts-most _ _ _ _ (p .0) (p .1) (c .before .loop .s) (c .loop-test .taken)
 
 add-usable : tie.Need-add-usable Inv-loop μ-loop
 add-usable c = search needs
@@ -77,13 +76,7 @@ same-length : tie.Need-same-length Inv-loop μ-loop
 same-length c = search needs
 
 returns : tie.Need-returns Inv-loop μ-loop
-unfolding usable rulesOf count
-returns c =
-    let l = c .before .before .before .before .before in
-    let s = l .before .before .before in
-    let k = s .pre .0 .1 in
-    let low : l .loop .s < 64 = omega (arith, c .before .before .before .before .loop-test .taken, s .pre .0 .0 .switches .1) in
-    judging-old _ _ _ _ _ _ (l .loop .inv .judging) (c .before .before .before .before .loop-test .taken) (k .keeps .each _ low) (k .leaves .each _ low) (k .enters .each _ low) (c .if1 .taken)
+returns c = let p = c .before .before .before .before .before .before .before .before .pre .0 in judging-old _ _ _ _ (p .0) (p .1) _ (c .before .before .before .before .loop-test .taken) _ (c .before .before .before .before .before .loop .inv .judging) (c .if1 .taken)
 
 mul-if2 : tie.Need-mul-if2 Inv-loop μ-loop
 mul-if2 c = search needs
@@ -101,13 +94,7 @@ same-length-2 : tie.Need-same-length-2 Inv-loop μ-loop
 same-length-2 c = search needs
 
 returns-2 : tie.Need-returns-2 Inv-loop μ-loop
-unfolding usable rulesOf count
-returns-2 c =
-    let l = c .before .before .before .before .before .before .before in
-    let s = l .before .before .before in
-    let k = s .pre .0 .1 in
-    let low : l .loop .s < 64 = omega (arith, c .before .before .before .before .before .before .loop-test .taken, s .pre .0 .0 .switches .1) in
-    judging-new _ _ _ _ _ _ (l .loop .inv .judging) (c .before .before .before .before .before .before .loop-test .taken) (k .keeps .each _ low) (k .leaves .each _ low) (k .enters .each _ low) (c .before .before .if1 .left) (c .if2 .taken)
+returns-2 c = let p = c .before .before .before .before .before .before .before .before .before .before .pre .0 in judging-new _ _ _ _ (p .0) (p .1) _ (c .before .before .before .before .before .before .loop-test .taken) _ (c .before .before .before .before .before .before .before .loop .inv .judging) (c .before .before .if1 .left) (c .if2 .taken)
 
 sub-spares : tie.Need-sub-spares Inv-loop μ-loop
 sub-spares c = search needs
@@ -125,26 +112,20 @@ loop-less : tie.Need-loop-less Inv-loop μ-loop
 loop-less c = search needs
 
 loop-again : tie.Need-loop-again Inv-loop μ-loop
-unfolding usable rulesOf count
-loop-again c =
-    let l = c .before .before .before .before .before .before .before in
-    let s = l .before .before .before in
-    let k = s .pre .0 .1 in
-    let low : l .loop .s < 64 = omega (arith, c .before .before .before .before .before .before .loop-test .taken, s .pre .0 .0 .switches .1) in
+loop-again c = let p = c .before .before .before .before .before .before .before .before .before .before .pre .0 in
     record {
       low = omega (arith, c .before .before .before .before .before .before .loop-test .taken);
-      judging = judging-on _ _ _ _ _ _ (l .loop .inv .judging) (c .before .before .before .before .before .before .loop-test .taken) (k .keeps .each _ low) (k .leaves .each _ low) (k .enters .each _ low) (c .before .before .if1 .left) (s .pre .0 .0 .switches .1) (usable-here (c .before .before .before .before .before .before)) (c .if2 .left);
+      judging = judging-on _ _ _ _ (p .0) (p .1) _ (c .before .before .before .before .before .before .loop-test .taken) _ (c .before .before .before .before .before .before .before .loop .inv .judging) (c .before .before .if1 .left) (c .if2 .left);
     }
 
 same-length-3 : tie.Need-same-length-3 Inv-loop μ-loop
 same-length-3 c = search needs
 
 returns-3 : tie.Need-returns-3 Inv-loop μ-loop
-unfolding usable rulesOf count
 returns-3 c = judging-end _ _ _ (c .before .loop .inv .judging) (omega (arith, c .loop-test .left, c .before .loop .inv .low))
 
-pub judge-spec : {M : Type 1} → statement M
-judge-spec =
+pub by-counts-spec : {M : Type 1} → statement M
+by-counts-spec =
     tie.close
     (tie.spec
     Inv-loop
