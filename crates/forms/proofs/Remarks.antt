@@ -12,7 +12,7 @@ use borrow.Author.Tests.{lt-ltb, le-ltb, lt-leb}
 use Rattle.model.specs.Outcome.{Outcome, good, refused, Cause, malformed, outOfRange, missing}
 use Rattle.model.proofs.Searches.{both}
 use Rattle.forms.specs.Line.{lines, concat, beforeFeed, isRemark, isReal, fits, mostInRemark, mostRemarks, filter, remarks, realLines, plain, lineValue, isPassed}
-use Rattle.forms.specs.Form.{fieldOf, admitsOf, secondOf}
+use Rattle.forms.specs.Form.{fieldOf, admitsOf, secondOf, hasRemarks}
 use Rattle.forms.specs.Read.{walk, walkLines, readLines, onField, onValue, atEnd, atItem}
 use Rattle.forms.specs.Laws.{allFit, InOrder, numberIn, moved, firstBad, orEarlier, Remarked}
 use Rattle.forms.specs.declared.form.Form.{Form}
@@ -60,6 +60,14 @@ unfolding numberIn
 number-same form [] n e = refl
 number-same form (l ∷ ls) zero e = refl
 number-same form (l ∷ ls) (suc n) e = let p = none-first form l ls e in rw (p .0) (ap suc (number-same form ls n (p .1)))
+
+pub none-remarks : (form : Form) → hasRemarks form ≡ false → (text : List ℕ) → remarks form text ≡ []
+unfolding filter
+none-remarks form e text = go (lines text)
+  where
+    go : (ls : List (List ℕ)) → filter (isRemark form) ls ≡ []
+    go [] = refl
+    go (l ∷ ls) = rw e (go ls)
 
 pub plain-same : (form : Form) (text : List ℕ) → remarks form text ≡ [] → plain form text ≡ text
 plain-same form text e = ap concat (filter-all form (lines text) e) ∙ lines-concat text
@@ -327,6 +335,7 @@ pub remarked : (form : Form) → Remarked form
 remarked form =
     record {
       unremarked = λ text e. (plain-same form text e, read-unremarked form text e);
+      none-remarks = none-remarks form;
       plain-unremarked = plain-unremarked form;
       passed-over = λ text o. rw (plain-read form text) (read-passed form text o);
       in-turn = λ text. rw (plain-read form text) (read-by-turns form text);

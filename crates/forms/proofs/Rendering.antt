@@ -85,7 +85,15 @@ line-short (Line k r) v = omega (arith, line-length k r v, key-length k, digits-
     digits-few true = omega arith
     digits-few false = omega (arith, width-ten v)
 
--- the lines from i on, where none of them is longer than B
+-- the lines from i on, of which the first is not longer than B
+pub line-then : (form : Form) (l : List ℕ) (i B : ℕ) → i < length l → length (lineOf (fieldOf form (take i l)) (getD l i 0)) ≤ B
+    → length (renderFrom form (take i l) (drop i l)) ≤ B + length (renderFrom form (take (i + 1) l) (drop (i + 1) l))
+line-then form l i B h b =
+    let n : length (renderFrom form (take i l) (drop i l)) ≡ length (lineOf (fieldOf form (take i l)) (getD l i 0)) + length (renderFrom form (take (i + 1) l) (drop (i + 1) l))
+    = ap length (render-step form l i h) ∙ length-append (lineOf (fieldOf form (take i l)) (getD l i 0)) _ in
+    omega (arith, b)
+
+-- or none of them is
 lines-within : (form : Form) (l : List ℕ) (B k i : ℕ) → length l ≡ i + k
     → ((j : ℕ) → i ≤ j → j < length l → length (lineOf (fieldOf form (take j l)) (getD l j 0)) ≤ B)
     → length (renderFrom form (take i l) (drop i l)) ≤ k * B
@@ -93,19 +101,14 @@ lines-within form l B zero i e f = rw (render-end form (take i l) l i (omega ari
 lines-within form l B (suc k) i e f =
     let h : i < length l = omega arith in
     let r = lines-within form l B k (i + 1) (omega arith) (λ j a b. f j (omega arith) b) in
-    let n : length (renderFrom form (take i l) (drop i l)) ≡ length (lineOf (fieldOf form (take i l)) (getD l i 0)) + length (renderFrom form (take (i + 1) l) (drop (i + 1) l))
-    = ap length (render-step form l i h) ∙ length-append (lineOf (fieldOf form (take i l)) (getD l i 0)) _ in
-    omega (arith, f i (omega arith) h)
+    omega (arith, line-then form l i B h (f i (omega arith) h))
 
 module _ (form : Form) (l : List ℕ) where
   any-lines : length (renderFrom form [] l) ≤ length l * 27
   any-lines = lines-within form l 27 (length l) 0 (omega arith) (λ j a b. line-short (fieldOf form (take j l)) (getD l j 0))
 
   one-line : (i : ℕ) → i < length l → length (renderFrom form (take i l) (drop i l)) ≤ 27 + length (renderFrom form (take (i + 1) l) (drop (i + 1) l))
-  one-line i h =
-      let n : length (renderFrom form (take i l) (drop i l)) ≡ length (lineOf (fieldOf form (take i l)) (getD l i 0)) + length (renderFrom form (take (i + 1) l) (drop (i + 1) l))
-      = ap length (render-step form l i h) ∙ length-append (lineOf (fieldOf form (take i l)) (getD l i 0)) _ in
-      omega (arith, line-short (fieldOf form (take i l)) (getD l i 0))
+  one-line i h = line-then form l i 27 h (line-short (fieldOf form (take i l)) (getD l i 0))
 
 sound-length : (form : Form) (l : List ℕ) → Sound form l → length l ≤ mostOf form
 sound-length form l s = go (decLt (mostOf form) (length l))

@@ -2,7 +2,7 @@
 -- proofs/Remarks.antt.
 use Prim.Native.Nat.{ℕ, zero, suc, _+_, _≤_}
 use mathlib.Core.Path.{_≡_}
-use mathlib.Core.Bool.{Bool, true, cond, _&&_}
+use mathlib.Core.Bool.{Bool, true, false, cond, _&&_}
 use mathlib.Core.List.{List, [], _∷_}
 use mathlib.Core.Option.{Option, none, some}
 use lib.Dec.{T, ltb}
@@ -10,7 +10,7 @@ use lib.ListN.{length, take}
 use Rattle.model.specs.Outcome.{Outcome, good, refused, Cause, malformed}
 use Rattle.lists.specs.Answers.{withRoom}
 use Rattle.forms.specs.Line.{lines, lineValue, isRemark, fits, mostRemarks, isPassed, remarks, plain}
-use Rattle.forms.specs.Form.{secondOf}
+use Rattle.forms.specs.Form.{secondOf, hasRemarks}
 use Rattle.forms.specs.Read.{walk, readLines, judgeNumbers, readText, judgeList}
 use Rattle.forms.specs.Write.{render, writeText}
 use Rattle.forms.specs.declared.form.Form.{Form}
@@ -53,6 +53,8 @@ orEarlier s (some n) (refused c place second) = cond (ltb place n) (refused c pl
 pub record Remarked (form : Form) : Type 0 where
   -- without remarks a text is read as it was before there were any
   pub unremarked : (text : List ℕ) → remarks form text ≡ [] → (plain form text ≡ text) × (readLines form text ≡ walk lineValue form 1 [] (lines text))
+  -- all texts of a form that has no remarks are such texts
+  pub none-remarks : hasRemarks form ≡ false → (text : List ℕ) → remarks form text ≡ []
   -- the plain text is such a text
   pub plain-unremarked : (text : List ℕ) → remarks form (plain form text) ≡ []
   -- where its remarks are in order a text is read as the plain text; a refusal names the line by its number in the text

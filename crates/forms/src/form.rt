@@ -31,7 +31,7 @@ pub enum Field {
     End,
 }
 
-// The most numbers that a list of either form has: those of a plan of 50 steps for 96 tunnels.
+// The most numbers that a list of any form has: those of a plan of 50 steps for 96 tunnels.
 pub const NUMBERS: usize = 4 + (Network::STEPS as usize - 1) * Network::TUNNELS as usize;
 
 // The keys, by number.

@@ -1,5 +1,5 @@
-// The seven operations and sharing for C and Rust, and in a module of its own the desks: `rt staticlib pavuneshil` makes
-// libpavuneshil.a of them. Each has no precondition.
+// The seven operations and sharing for C and Rust, and in modules of their own the desks and the operations on rule tables:
+// `rt staticlib pavuneshil` makes libpavuneshil.a of them. Each has no precondition.
 // A slice passes as a pointer and a length, `answer` as a pointer to four numbers: the kind, then the values, as `four`
 // gives them. What is lent is left as the operations leave it.
 ghost use mathlib.Core.Path.{_≡_};
@@ -15,12 +15,13 @@ ghost use Rattle.forms.specs.Read.{readText};
 ghost use Rattle.forms.specs.Write.{writeText};
 
 mod desks_for_c;
+mod rules_for_c;
 
 use bound::StepBound;
 use lists::Answer;
 
 // An answer as four numbers.
-fn numbers(a: Answer) -> [u64; 4]
+pub(crate) fn numbers(a: Answer) -> [u64; 4]
     ensures { λ r. ⌜ r ≡ four a ⌝ }
 {
     match a {

@@ -1,4 +1,5 @@
 pub mod Judged
+pub mod Longest
 pub mod Counts
 pub mod Passes
 pub mod Bounds

@@ -16,10 +16,15 @@ use Rattle.model.specs.Outcome.{good, unless, unfit, Place}
 use Rattle.model.proofs.Searches.{bool-cases, and-true, not-true, first-none, none-first, or-none, only-none}
 use Rattle.model.proofs.Listed.{listed-length, listed-at}
 use Rattle.lists.specs.Lists.{at}
+use Rattle.forms.specs.Read.{judgeList}
+use Rattle.forms.specs.declared.form.Form.the-variants as forms
+use Rattle.forms.proofs.Walks.{then-good}
 use Rattle.rules.specs.Rules.{Rules, keep, add, remove, isKind, count, lastStage, usable, spare}
 use Rattle.rules.specs.Stage.{adds, removes, Stages, moved, waits, stages, tooMany, unfitAt, lowestUnfit, staged}
-use Rattle.rules.specs.Lists.{rulesOf, GoodRules}
-use Rattle.rules.specs.Claim.{isDone, holds, whole, sofar, Safe, Claim}
+use Rattle.rules.specs.Lists.{rulesOf, stagedList, GoodRules}
+use Rattle.rules.specs.Claim.{isDone, holds, whole, sofar, Safe, Fit, Claim}
+use Rattle.rules.proofs.Judged.{good-rules}
+use Rattle.rules.proofs.Longest.{longest}
 use Rattle.rules.proofs.Counts.{count-three}
 use Rattle.rules.proofs.Passes.{kind-is, is-kind, not-kind, is-waiting, is-moved, stages-le, stages-kept, given-early, given-late}
 use Rattle.rules.proofs.Bounds.{last-pos, last-slack, added-most, remaining-most}
@@ -245,11 +250,22 @@ good-valid : (l : List ℕ) → GoodRules l → Valid (rulesOf l)
 unfolding rulesOf
 good-valid l g = record { slack = g .slack; via = g .via; kind = g .kind }
 
-given : (R : Rules) → ((s : ℕ) → s < R .switches → (tooMany R remove s ≡ false) × (tooMany R add s ≡ false)) → (l : List ℕ) × (staged R ≡ good l)
+given : (R : Rules) → Fit R → staged R ≡ good (listed (R .tunnels) (stages R (lastStage R)))
 unfolding staged unfitAt onlyIf orElse
-given R h =
-    let fit : lowestUnfit R ≡ none = none-first (unfitAt R) (R .switches) (λ s l. rw (h s l .0, h s l .1)) in
-    (listed (R .tunnels) (stages R (lastStage R)), rw fit)
+given R f =
+    let fit : lowestUnfit R ≡ none = none-first (unfitAt R) (R .switches) (λ s h. rw (f .old s h, f .new s h)) in
+    rw fit
+
+list-safe : (input l : List ℕ) → stagedList input ≡ good l → Safe (rulesOf input) l
+list-safe input l e =
+    let p = then-good (judgeList forms.Rules input) (λ g. staged (rulesOf g)) l e in
+    let j = good-rules input (p .0) (p .1) in
+    safe (rulesOf input) l (good-valid input (j .1)) (rw (j .0) at (p .2))
 
 pub claim : Claim
-claim = record { safe = λ input l g e. safe (rulesOf input) l (good-valid input g) e; given = given }
+claim =
+    record {
+      safe = list-safe;
+      given = λ input j f. let R = rulesOf input in (listed (R .tunnels) (stages R (lastStage R)), rw j (given R f));
+      longest = longest;
+    }

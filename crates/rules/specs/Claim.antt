@@ -8,9 +8,11 @@ use lib.Dec.{leb, ltb}
 use lib.ListN.{length}
 use Rattle.model.specs.Outcome.{good}
 use Rattle.lists.specs.Lists.{at}
+use Rattle.forms.specs.Read.{readText, judgeList}
+use Rattle.forms.specs.declared.form.Form.the-variants as forms
 use Rattle.rules.specs.Rules.{Rules, keep, add, remove, isKind, count, lastStage, usable}
-use Rattle.rules.specs.Stage.{Move, Stages, tooMany, staged}
-use Rattle.rules.specs.Lists.{rulesOf, GoodRules}
+use Rattle.rules.specs.Stage.{Move, Stages, tooMany}
+use Rattle.rules.specs.Lists.{rulesOf, stagedList}
 
 -- ---- the rules that the switches hold
 
@@ -49,8 +51,19 @@ pub record Safe (R : Rules) (l : List ℕ) : Type 0 where
   -- "even between adding and removing", and at each moment of both, where they go in number order
   pub moments : (i s : ℕ) → 1 ≤ i → i ≤ lastStage R → s < R .switches → (m : Move) (n : ℕ) → count R (holds R (at l) i (sofar R m n)) s ≤ R .room s
 
+-- both sets fit at every switch
+pub record Fit (R : Rules) : Type 0 where
+  pub old : (s : ℕ) → s < R .switches → tooMany R remove s ≡ false
+  pub new : (s : ℕ) → s < R .switches → tooMany R add s ≡ false
+
+-- the longest text: 4 lines with 41 bytes, 64 of 11, and 96 times 21 and 7
+abbrev pub mostRuleBytes : ℕ
+mostRuleBytes = 3433
+
 pub record Claim : Type 0 where
-  -- the stages that are given to a list that is judged good
-  pub safe : (input l : List ℕ) → GoodRules input → staged (rulesOf input) ≡ good l → Safe (rulesOf input) l
-  -- and they are given wherever both sets fit
-  pub given : (R : Rules) → ((s : ℕ) → s < R .switches → (tooMany R remove s ≡ false) × (tooMany R add s ≡ false)) → (l : List ℕ) × (staged R ≡ good l)
+  -- the stages that are given, whatever the list
+  pub safe : (input l : List ℕ) → stagedList input ≡ good l → Safe (rulesOf input) l
+  -- and they are given to every list that is judged good and whose sets fit
+  pub given : (input : List ℕ) → judgeList forms.Rules input ≡ good input → Fit (rulesOf input) → (l : List ℕ) × (stagedList input ≡ good l)
+  -- no valid text is longer
+  pub longest : (text l : List ℕ) → readText forms.Rules text ≡ good l → length text ≤ mostRuleBytes

@@ -5,8 +5,12 @@ use mathlib.Core.Logic.{_≢_}
 use mathlib.Core.List.{List}
 use lib.ListN.{length}
 use Rattle.model.specs.Limits.{mostTunnels, mostSwitches, mostRoom, leastShare, mostShare}
+use Rattle.model.specs.Outcome.{Outcome, andThen}
 use Rattle.lists.specs.Lists.{at}
+use Rattle.forms.specs.Read.{judgeList}
+use Rattle.forms.specs.declared.form.Form.the-variants as forms
 use Rattle.rules.specs.Rules.{Rules, keep, remove}
+use Rattle.rules.specs.Stage.{staged}
 
 -- "Input lines: `rules` 1, `slack` 20..500, `switches` 1..64, `tunnels` 0..96; for each switch `room` 0..65,535; for each tunnel `via` [..] and `kind`": where
 -- the two lines of tunnel t begin
@@ -22,6 +26,10 @@ rulesOf l = record {
   via = λ t. at l (tunnelAt l t);
   kind = λ t. at l (tunnelAt l t + 1);
 }
+
+-- what staging a list comes to: 18 "after refusals 1 to 3"; a list has no lines, so that it never meets 1
+abbrev pub stagedList : List ℕ → Outcome (List ℕ)
+stagedList l = andThen (judgeList forms.Rules l) (λ g. staged (rulesOf g))
 
 -- what a list that is judged good says of its numbers
 pub record GoodRules (l : List ℕ) : Type 0 where

@@ -1,7 +1,6 @@
 -- `writers::write::put_lines` meets its contract.
 use Prim.Native.Nat.{ℕ, _≤_, _+_, _-_}
-use mathlib.Core.Path.{_≡_, refl, sym, ap, _∙_}
-use mathlib.Core.List.{List}
+use mathlib.Core.Path.{_≡_, refl, sym, ap}
 use native.Mathlib.Nat.{zero-add, le-of-lt}
 use native.Mathlib.Omega.{arith}
 use lib.ListN.{length, getD}

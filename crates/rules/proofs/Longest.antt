@@ -1,0 +1,90 @@
+-- The longest text of rule tables: how many bytes its lines have at most.
+use mathlib.Core.Path.{_≡_, refl, sym, ap, _∙_}
+use mathlib.Core.List.{List, []}
+use Prim.Native.Nat.{ℕ, zero, suc, _+_, _*_, _^_, _≤_, _<_}
+use native.Mathlib.Nat.{le-of-lt}
+use native.Mathlib.Omega.{arith}
+use lib.ListN.{length, getD, take, drop}
+use Rattle.model.specs.Limits.{mostTunnels, mostSwitches, mostRoom, leastShare, mostShare}
+use Rattle.model.specs.Outcome.{good}
+use Rattle.lists.specs.Lists.{at}
+use Rattle.forms.specs.Keys.{keys, placeIn, prefixOf}
+use Rattle.forms.specs.Form.{fieldOf, rulesLines, Sound}
+use Rattle.forms.specs.Read.{readText}
+use Rattle.forms.specs.Write.{lineOf, renderFrom, render}
+use Rattle.forms.specs.declared.form.Form.the-variants.{Rules}
+use Rattle.forms.specs.declared.form.Range.the-variants.{Between, Set}
+use Rattle.forms.specs.declared.form.Field.{Field}
+use Rattle.forms.specs.declared.form.Field.the-variants.{Line, End}
+use Rattle.forms.proofs.Forms.{between, sound-at, rules-head-field, rules-body-field, body-room, body-rule}
+use Rattle.forms.proofs.Numbers.{width-most}
+use Rattle.forms.proofs.Rendering.{render-end, line-length, line-then}
+use Rattle.forms.proofs.Remarks.{none-remarks, plain-same}
+use Rattle.forms.proofs.Round.{read-good, file-form}
+use Rattle.forms.proofs.Walks.{judged-good}
+use Rattle.rules.specs.Lists.{GoodRules}
+use Rattle.rules.specs.Claim.{mostRuleBytes}
+use Rattle.rules.proofs.Judged.{good-rules}
+
+module _ (l : List ℕ) (g : GoodRules l) (s : Sound Rules l) where
+  -- how many bytes the lines from i on have
+  abbrev from : ℕ → ℕ
+  from i = length (renderFrom Rules (take i l) (drop i l))
+
+  -- a line whose number has at most d digits, and a line of a set
+  number-then : (k low high d i : ℕ) → fieldOf Rules (take i l) ≡ Line k (Between low high) → 1 ≤ d → d ≤ 10 → high < 10 ^ d → i < length l
+      → from i ≤ length (prefixOf k) + d + 1 + from (i + 1)
+  number-then k low high d i e one ten small h =
+      let v : at l i ≤ high = between low high (at l i) (rw e at (sound-at Rules l i h s)) .1 in
+      line-then Rules l i (length (prefixOf k) + d + 1) h
+      (rw e (omega (arith, line-length k (Between low high) (at l i), width-most (at l i) d one ten (omega (arith, v, small)))))
+
+  set-then : (k n i : ℕ) → fieldOf Rules (take i l) ≡ Line k (Set n) → i < length l → from i ≤ length (prefixOf k) + 17 + from (i + 1)
+  set-then k n i e h = line-then Rules l i (length (prefixOf k) + 17) h (rw e (omega (arith, line-length k (Set n) (at l i))))
+
+  -- the lines of the tunnels from t on, of which k are left, and before them those of the switches
+  tunnels-then : (k t : ℕ) → t + k ≡ at l 3 → from (4 + at l 2 + 2 * t) ≤ k * 28
+  tunnels-then zero t e = rw (render-end Rules (take (4 + at l 2 + 2 * t) l) l (4 + at l 2 + 2 * t) (omega (arith, g .size))) (omega arith)
+  tunnels-then (suc k) t e =
+      let h : 4 + at l 2 + 2 * t + 1 < length l = omega (arith, g .size) in
+      let i : ℕ = 4 + at l 2 + 2 * t in
+      let in-t : t < at l 3 = omega arith in
+      let via : fieldOf Rules (take (4 + at l 2 + 2 * t) l) ≡ Line (placeIn keys "via=") (Set (at l 2))
+      = rules-body-field l i (omega arith) (at l 2 + 2 * t + 0) (omega arith) ∙ body-rule (at l 2) (at l 3) t 0 in-t (omega arith) in
+      let kind : fieldOf Rules (take (4 + at l 2 + 2 * t + 1) l) ≡ Line (placeIn keys "kind=") (Between 1 3)
+      = rules-body-field l (i + 1) (omega arith) (at l 2 + 2 * t + 1) (omega arith) ∙ body-rule (at l 2) (at l 3) t 1 in-t (omega arith) in
+      let n : 4 + at l 2 + 2 * t + 1 + 1 ≡ 4 + at l 2 + 2 * (t + 1) = omega arith in
+      let rest : from (4 + at l 2 + 2 * t + 1 + 1) ≤ k * 28 = rw n (tunnels-then k (t + 1) (omega arith)) in
+      omega (arith, set-then (placeIn keys "via=") (at l 2) (4 + at l 2 + 2 * t) via (omega arith), number-then (placeIn keys "kind=") 1 3 1 (4 + at l 2 + 2 * t + 1) kind (omega arith) (omega arith) (omega arith) h)
+
+  switches-then : (k s : ℕ) → s + k ≡ at l 2 → from (4 + s) ≤ k * 11 + at l 3 * 28
+  switches-then zero s e =
+      let n : 4 + s ≡ 4 + at l 2 + 2 * 0 = omega arith in
+      rw n (omega (arith, tunnels-then (at l 3) 0 (omega arith)))
+  switches-then (suc k) s e =
+      let h : 4 + s < length l = omega (arith, g .size) in
+      let in-s : s < at l 2 = omega arith in
+      let field : fieldOf Rules (take (4 + s) l) ≡ Line (placeIn keys "room=") (Between 0 mostRoom)
+      = rules-body-field l (4 + s) (le-of-lt h) s refl ∙ body-room (at l 2) (at l 3) s in-s in
+      let n : 4 + s + 1 ≡ 4 + (s + 1) = omega arith in
+      let rest : from (4 + s + 1) ≤ k * 11 + at l 3 * 28 = rw n (switches-then k (s + 1) (omega arith)) in
+      omega (arith, number-then (placeIn keys "room=") 0 mostRoom 5 (4 + s) field (omega arith) (omega arith) (omega arith) h)
+
+  head-then : from 0 ≤ 41 + from 4
+  head-then =
+      let four : 4 ≤ length l = omega (arith, g .size) in
+      let field : (i : ℕ) → i < 4 → fieldOf Rules (take i l) ≡ getD rulesLines i End = λ i h. rules-head-field l i (omega arith) h in
+      let one = number-then (placeIn keys "rules=") 1 1 1 0 (field 0 (omega arith)) (omega arith) (omega arith) (omega arith) (omega arith) in
+      let two = number-then (placeIn keys "slack=") leastShare mostShare 3 1 (field 1 (omega arith)) (omega arith) (omega arith) (omega arith) (omega arith) in
+      let three = number-then (placeIn keys "switches=") 1 mostSwitches 2 2 (field 2 (omega arith)) (omega arith) (omega arith) (omega arith) (omega arith) in
+      omega (arith, one, two, three, number-then (placeIn keys "tunnels=") 0 mostTunnels 2 3 (field 3 (omega arith)) (omega arith) (omega arith) (omega arith) (omega arith))
+
+  most : length (render Rules l) ≤ mostRuleBytes
+  unfolding render
+  most = omega (arith, head-then, switches-then (at l 2) 0 (omega arith), g .switches .1, g .tunnels)
+
+pub longest : (text l : List ℕ) → readText Rules text ≡ good l → length text ≤ mostRuleBytes
+longest text l e =
+    let j = judged-good Rules l l (read-good Rules text l e) in
+    let same : render Rules l ≡ text = file-form Rules .render-read text l e ∙ plain-same Rules text (none-remarks Rules refl text) in
+    rw (← same) (most l (good-rules l l (read-good Rules text l e) .1) (j .whole .sound))
