@@ -9,12 +9,15 @@ use lib.ListN.{length, getD}
 use borrow.Author.Tests.{lt-ltb, le-ltb}
 use Rattle.model.specs.Limits.{mostTunnels, mostSwitches, mostRoom, leastShare, mostShare}
 use Rattle.model.specs.Outcome.{good}
+use Rattle.lists.specs.Answers.{done}
 use Rattle.lists.specs.Lists.{at}
+use Rattle.lists.specs.declared.Answer.the-variants.{Done}
 use Rattle.forms.specs.Form.{Whole, allows, fieldOf, rulesLines, ruleLines, rulesBody}
 use Rattle.forms.specs.Read.{judgeList}
 use Rattle.forms.specs.declared.form.Form.the-variants.{Rules}
 use Rattle.forms.specs.declared.form.Field.the-variants.{End}
 use Rattle.forms.proofs.Forms.{between, rules-head-at, rules-body-at, body-room, body-rule, rules-end}
+use Rattle.forms.proofs.Answers.{done-good}
 use Rattle.forms.proofs.Good.{lines-no-end, set-in}
 use Rattle.forms.proofs.Walks.{judged-good}
 use Rattle.rules.specs.Rules.{keep, remove}
@@ -84,3 +87,10 @@ pub good-rules : (l g : List ℕ) → judgeList Rules l ≡ good g → (g ≡ l)
 good-rules l g e =
     let j = judged-good Rules l g e in
     (j .same, ranges l (j .whole))
+
+-- what the answer of a judge tells of a list
+pub judged-done : (l : List ℕ) (n : ℕ) → done (judgeList Rules l) ≡ Done n → (judgeList Rules l ≡ good l) × GoodRules l
+judged-done l n e =
+    let p = done-good (judgeList Rules l) n e in
+    let j = good-rules l (p .0) (p .1) in
+    (p .1 ∙ ap good (j .0), j .1)

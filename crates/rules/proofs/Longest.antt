@@ -1,6 +1,6 @@
 -- The longest text of rule tables: how many bytes its lines have at most.
-use mathlib.Core.Path.{_≡_, refl, sym, ap, _∙_}
-use mathlib.Core.List.{List, []}
+use mathlib.Core.Path.{_≡_, refl, _∙_}
+use mathlib.Core.List.{List}
 use Prim.Native.Nat.{ℕ, zero, suc, _+_, _*_, _^_, _≤_, _<_}
 use native.Mathlib.Nat.{le-of-lt}
 use native.Mathlib.Omega.{arith}
@@ -11,10 +11,9 @@ use Rattle.lists.specs.Lists.{at}
 use Rattle.forms.specs.Keys.{keys, placeIn, prefixOf}
 use Rattle.forms.specs.Form.{fieldOf, rulesLines, Sound}
 use Rattle.forms.specs.Read.{readText}
-use Rattle.forms.specs.Write.{lineOf, renderFrom, render}
+use Rattle.forms.specs.Write.{renderFrom, render}
 use Rattle.forms.specs.declared.form.Form.the-variants.{Rules}
 use Rattle.forms.specs.declared.form.Range.the-variants.{Between, Set}
-use Rattle.forms.specs.declared.form.Field.{Field}
 use Rattle.forms.specs.declared.form.Field.the-variants.{Line, End}
 use Rattle.forms.proofs.Forms.{between, sound-at, rules-head-field, rules-body-field, body-room, body-rule}
 use Rattle.forms.proofs.Numbers.{width-most}
