@@ -254,7 +254,8 @@ fn rules_body(switches: u64, tunnels: u64, n: u64) -> Field
     Field::End
 }
 
-fn rules_field(done: &[u64]) -> Field
+// What stands after some numbers of rule tables.
+pub fn rules_field(done: &[u64]) -> Field
     ensures { λ r. ⌜ r ≡ fieldOf Form.Rules (now (done .entry)) ⌝ }
 {
     let n = done.len();

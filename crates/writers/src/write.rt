@@ -102,16 +102,16 @@ fn field_len(keys: &[u8], field: Field, v: u64) -> usize
     name + width(v) + 1
 }
 
-// The same for the list of any form, line by line.
-fn lines_len(form: Form, keys: &[u8], list: &[u64]) -> usize
+// How many bytes rule tables are written as, line by line.
+fn rules_len(keys: &[u8], list: &[u64]) -> usize
     requires { ⌜ now keys ≡ keyBytes ⌝ }
-    requires { ⌜ Whole form (now list) ⌝ }
-    ensures { λ r. ⌜ r ≡ length (render form (now (list .entry))) ⌝ }
+    requires { ⌜ Whole Form.Rules (now list) ⌝ }
+    ensures { λ r. ⌜ r ≡ length (render Form.Rules (now (list .entry))) ⌝ }
 {
     let mut sum: usize = 0;
     let mut i: usize = 0;
     while i < list.len() {
-        let field = form::field_after(form, &list[..i]);
+        let field = form::rules_field(&list[..i]);
         sum += field_len(keys, field, list[i]);
         i += 1;
     }
@@ -130,7 +130,7 @@ fn needed(form: Form, list: &[u64], room: usize) -> usize
     match form {
         Form::Network => network_len(list),
         Form::Plan => plan_len(list),
-        Form::Rules => lines_len(form, &form::KEYS, list),
+        Form::Rules => rules_len(&form::KEYS, list),
     }
 }
 
@@ -416,17 +416,17 @@ fn put_field(out: &mut [u8], at: usize, keys: &[u8], field: Field, v: u64) -> us
     }
 }
 
-// Puts the list of any form, line by line: for a form of few lines, which need no loops of their own.
-fn put_lines(out: &mut [u8], form: Form, keys: &[u8], list: &[u64]) -> usize
+// Puts rule tables, line by line: their lines are few, and have no loops of their own.
+fn put_rules(out: &mut [u8], keys: &[u8], list: &[u64]) -> usize
     requires { ⌜ now keys ≡ keyBytes ⌝ }
-    requires { ⌜ Whole form (now list) ⌝ }
-    requires { ⌜ length (render form (now list)) ≤ length (now out) ⌝ }
-    ensures { λ r. ⌜ Puts (render form (now (list .entry))) 0 (now (out .entry)) (now (out .exit)) r ⌝ }
+    requires { ⌜ Whole Form.Rules (now list) ⌝ }
+    requires { ⌜ length (render Form.Rules (now list)) ≤ length (now out) ⌝ }
+    ensures { λ r. ⌜ Puts (render Form.Rules (now (list .entry))) 0 (now (out .entry)) (now (out .exit)) r ⌝ }
 {
     let mut p: usize = 0;
     let mut i: usize = 0;
     while i < list.len() {
-        let field = form::field_after(form, &list[..i]);
+        let field = form::rules_field(&list[..i]);
         p = put_field(out, p, keys, field, list[i]);
         i += 1;
     }
@@ -450,7 +450,7 @@ fn write_good(form: Form, list: &[u64], out: &mut [u8]) -> Answer
     match form {
         Form::Network => Answer::Done(put_network(out, list)),
         Form::Plan => Answer::Done(put_plan(out, list)),
-        Form::Rules => Answer::Done(put_lines(out, form, &form::KEYS, list)),
+        Form::Rules => Answer::Done(put_rules(out, &form::KEYS, list)),
     }
 }
 

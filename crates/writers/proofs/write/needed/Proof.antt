@@ -27,11 +27,11 @@ plan-len-requires c κs = rw (c .enum-told2 .given .1) at (c .before .before .be
 enum-told-3 : tie.Need-enum-told-3
 enum-told-3 c = search needs
 
-slice-aggregate-lines-len : tie.Need-slice-aggregate-lines-len
-slice-aggregate-lines-len c = search needs
+slice-aggregate-rules-len : tie.Need-slice-aggregate-rules-len
+slice-aggregate-rules-len c = search needs
 
-lines-len-requires : tie.Need-lines-len-requires
-lines-len-requires c κs = (refl, c .before .before .before .before .before .pre)
+rules-len-requires : tie.Need-rules-len-requires
+rules-len-requires c κs = (refl, rw (c .before .enum-told3 .given .1) at (c .before .before .before .before .before .pre))
 
 returns-2 : tie.Need-returns-2
 returns-2 c =
@@ -45,7 +45,7 @@ returns-3 c =
 
 returns-4 : tie.Need-returns-4
 returns-4 c =
-    let m = c .lines-len .ensures in
+    let m = rw (← c .before .before .enum-told3 .given .1) at (c .rules-len .ensures) in
     (λ h. m, λ h. omega (arith, m))
 
 pub needed-spec : {M : Type 1} → statement M
@@ -58,8 +58,8 @@ needed-spec =
     enum-told-2
     plan-len-requires
     enum-told-3
-    slice-aggregate-lines-len
-    lines-len-requires
+    slice-aggregate-rules-len
+    rules-len-requires
     returns-2
     returns-3
     returns-4)

@@ -43,11 +43,14 @@ put-plan-requires c κs =
 enum-told-3 : tie.Need-enum-told-3
 enum-told-3 c = search needs
 
-slice-aggregate-put-lines : tie.Need-slice-aggregate-put-lines
-slice-aggregate-put-lines c = search needs
+slice-aggregate-put-rules : tie.Need-slice-aggregate-put-rules
+slice-aggregate-put-rules c = search needs
 
-put-lines-requires : tie.Need-put-lines-requires
-put-lines-requires c κs = let e = c .before .before .before .before in (refl, (e .before .before .before .before .pre, room e))
+put-rules-requires : tie.Need-put-rules-requires
+put-rules-requires c κs =
+    let told = c .before .before .enum-told3 .given .1 in
+    let e = c .before .before .before .before in
+    (refl, (rw told at (e .before .before .before .before .pre), rw told at (room e)))
 
 same-length : tie.Need-same-length
 same-length c = search needs
@@ -65,7 +68,7 @@ same-length-3 : tie.Need-same-length-3
 same-length-3 c = search needs
 
 returns-4 : tie.Need-returns-4
-returns-4 c = given _ _ (room (c .before .before .before .before .before .before .before)) (c .before .before .put-lines .ensures)
+returns-4 c = given _ _ (room (c .before .before .before .before .before .before .before)) (rw (← c .before .before .before .before .before .enum-told3 .given .1) at (c .before .before .put-rules .ensures))
 
 pub write-good-spec : {M : Type 1} → statement M
 write-good-spec =
@@ -78,8 +81,8 @@ write-good-spec =
     enum-told-2
     put-plan-requires
     enum-told-3
-    slice-aggregate-put-lines
-    put-lines-requires
+    slice-aggregate-put-rules
+    put-rules-requires
     same-length
     returns-2
     same-length-2

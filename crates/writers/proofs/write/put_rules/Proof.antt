@@ -1,4 +1,4 @@
--- `writers::write::put_lines` meets its contract.
+-- `writers::write::put_rules` meets its contract.
 use Prim.Native.Nat.{ℕ, _≤_, _+_, _-_}
 use mathlib.Core.Path.{_≡_, refl, sym, ap}
 use native.Mathlib.Nat.{zero-add, le-of-lt}
@@ -6,26 +6,26 @@ use native.Mathlib.Omega.{arith}
 use lib.ListN.{length, getD}
 use lib.Seq.{length-take-le}
 use Rattle.forms.specs.Write.{lineOf}
-use Rattle.forms.proofs.Forms.{sound-take}
+use Rattle.forms.specs.declared.form.Form.the-variants.{Rules}
 use Rattle.forms.proofs.Rendering.{at-most}
 use Rattle.writers.specs.Write.{Puts, Writable, linesFrom, lineAt}
 use Rattle.writers.proofs.Writing.{puts-length}
 use Rattle.writers.proofs.Runs.{all-lines, no-lines, run-within, next-fits, next-put, writable, line-here}
 use borrow.Author.Needs.{needs}
-use Rattle.writers.proofs.write.put_lines.Statement.{statement}
-use Rattle.writers.proofs.write.put_lines.Tie as tie
+use Rattle.writers.proofs.write.put_rules.Statement.{statement}
+use Rattle.writers.proofs.write.put_rules.Tie as tie
 
 abbrev Inv-loop : tie.InvT-loop
-Inv-loop out₀ form keys list p₀ i₀ out p i = record { few : i ≤ length list; put : Puts (linesFrom form list 0 i) 0 out₀ out p }
+Inv-loop out₀ keys list p₀ i₀ out p i = record { few : i ≤ length list; put : Puts (linesFrom Rules list 0 i) 0 out₀ out p }
 
 abbrev μ-loop : tie.MeasureT-loop
-μ-loop out₀ form keys list p₀ i₀ out p i = length list - i
+μ-loop out₀ keys list p₀ i₀ out p i = length list - i
 
-fits : (s : tie.Start Inv-loop μ-loop) → 0 + length (linesFrom (s .args .form) (s .args .list .now) 0 (length (s .args .list .now))) ≤ length (s .args .out .now)
-fits s = omega (arith, s .pre .1 .1, ap length (all-lines (s .args .form) (s .args .list .now)))
+fits : (s : tie.Start Inv-loop μ-loop) → 0 + length (linesFrom Rules (s .args .list .now) 0 (length (s .args .list .now))) ≤ length (s .args .out .now)
+fits s = omega (arith, s .pre .1 .1, ap length (all-lines Rules (s .args .list .now)))
 
 -- in a turn
-module _ (c : tie.After-field-after Inv-loop μ-loop) where
+module _ (c : tie.After-rules-field Inv-loop μ-loop) where
   abbrev turn : tie.In-loop Inv-loop μ-loop
   turn = c .before .before
 
@@ -35,23 +35,23 @@ module _ (c : tie.After-field-after Inv-loop μ-loop) where
   abbrev value : ℕ
   value = getD (start .args .list .now) (turn .before .loop .i) 0
 
-  can : Writable (c .field-after .result) value
-  can = writable _ _ _ (turn .loop-test .taken) (start .pre .1 .0 .sound) _ (c .field-after .ensures)
+  can : Writable (c .rules-field .result) value
+  can = writable _ _ _ (turn .loop-test .taken) (start .pre .1 .0 .sound) _ (c .rules-field .ensures)
 
-  line : lineAt (start .args .form) (start .args .list .now) (turn .before .loop .i) ≡ lineOf (c .field-after .result) value
-  line = line-here _ _ _ (turn .loop-test .taken) (start .pre .1 .0 .sound) _ (c .field-after .ensures)
+  line : lineAt Rules (start .args .list .now) (turn .before .loop .i) ≡ lineOf (c .rules-field .result) value
+  line = line-here _ _ _ (turn .loop-test .taken) (start .pre .1 .0 .sound) _ (c .rules-field .ensures)
 
-  room : turn .before .loop .p + length (lineOf (c .field-after .result) value) ≤ length (turn .before .loop .out)
+  room : turn .before .loop .p + length (lineOf (c .rules-field .result) value) ≤ length (turn .before .loop .out)
   room = next-fits _ _ 0 _ (fits start) _ _ (turn .loop-test .taken) (sym (zero-add _)) line (turn .before .loop .inv .put)
 
 loop-holds : tie.Need-loop-holds Inv-loop μ-loop
 loop-holds c = record { few = search needs; put = no-lines _ _ 0 0 _ }
 
-slice-aggregate-field-after : tie.Need-slice-aggregate-field-after Inv-loop μ-loop
-slice-aggregate-field-after c = sym (length-take-le _ _ (le-of-lt (c .before .loop-test .taken)))
+slice-aggregate-rules-field : tie.Need-slice-aggregate-rules-field Inv-loop μ-loop
+slice-aggregate-rules-field c = sym (length-take-le _ _ (le-of-lt (c .before .loop-test .taken)))
 
-field-after-requires : tie.Need-field-after-requires Inv-loop μ-loop
-field-after-requires c κs = let t = c .before in sound-take _ _ _ (le-of-lt (t .loop-test .taken)) (t .before .before .before .before .before .pre .1 .0 .sound)
+rules-field-requires : tie.Need-rules-field-requires Inv-loop μ-loop
+rules-field-requires c κs = search needs
 
 mul-put-field : tie.Need-mul-put-field Inv-loop μ-loop
 mul-put-field c = let t = c .before .before .before in omega (arith, at-most _ _ _ (t .loop-test .taken) (start (c .before) .pre .1 .0 .sound))
@@ -81,23 +81,23 @@ same-length : tie.Need-same-length Inv-loop μ-loop
 same-length c =
     let s = c .before .before .before .before .before in
     let v = c .before .loop .inv in
-    puts-length (run-within (s .args .form) (s .args .list .now) 0 _ _ 0 (s .args .out .now) (v .few) (fits s)) (v .put)
+    puts-length (run-within Rules (s .args .list .now) 0 _ _ 0 (s .args .out .now) (v .few) (fits s)) (v .put)
 
 returns : tie.Need-returns Inv-loop μ-loop
 returns c =
     let s = c .before .before .before .before .before in
     let e : c .before .loop .i ≡ length (s .args .list .now) = omega (arith, c .before .loop .inv .few, c .loop-test .left) in
-    rw (e, all-lines (s .args .form) (s .args .list .now)) at (c .before .loop .inv .put)
+    rw (e, all-lines Rules (s .args .list .now)) at (c .before .loop .inv .put)
 
-pub put-lines-spec : {M : Type 1} → statement M
-put-lines-spec =
+pub put-rules-spec : {M : Type 1} → statement M
+put-rules-spec =
     tie.close
     (tie.spec
     Inv-loop
     μ-loop
     loop-holds
-    slice-aggregate-field-after
-    field-after-requires
+    slice-aggregate-rules-field
+    rules-field-requires
     mul-put-field
     shared-slice-read-put-field
     put-field-requires

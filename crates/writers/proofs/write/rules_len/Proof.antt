@@ -1,4 +1,4 @@
--- `writers::write::lines_len` meets its contract.
+-- `writers::write::rules_len` meets its contract.
 use Prim.Native.Nat.{ℕ, _≤_, _<_, _+_, _*_, _-_}
 use mathlib.Core.Path.{_≡_, sym, ap, _∙_}
 use native.Mathlib.Nat.{le-of-lt}
@@ -7,22 +7,22 @@ use lib.ListN.{length, getD}
 use lib.Seq.{length-take-le}
 use Rattle.forms.specs.Form.{mostNumbers}
 use Rattle.forms.specs.Write.{lineOf}
-use Rattle.forms.proofs.Forms.{sound-take}
+use Rattle.forms.specs.declared.form.Form.the-variants.{Rules}
 use Rattle.forms.proofs.Rendering.{at-most, line-short}
 use Rattle.writers.specs.Write.{linesFrom}
 use Rattle.writers.proofs.Runs.{lines-none, all-lines, writable, length-more}
 use borrow.Author.Needs.{needs}
-use Rattle.writers.proofs.write.lines_len.Statement.{statement}
-use Rattle.writers.proofs.write.lines_len.Tie as tie
+use Rattle.writers.proofs.write.rules_len.Statement.{statement}
+use Rattle.writers.proofs.write.rules_len.Tie as tie
 
 abbrev Inv-loop : tie.InvT-loop
-Inv-loop form keys list sum₀ i₀ sum i = record { few : i ≤ length list; sum-is : sum ≡ length (linesFrom form list 0 i); small : sum ≤ 27 * i }
+Inv-loop keys list sum₀ i₀ sum i = record { few : i ≤ length list; sum-is : sum ≡ length (linesFrom Rules list 0 i); small : sum ≤ 27 * i }
 
 abbrev μ-loop : tie.MeasureT-loop
-μ-loop form keys list sum₀ i₀ sum i = length list - i
+μ-loop keys list sum₀ i₀ sum i = length list - i
 
 -- in a turn
-module _ (c : tie.After-field-after Inv-loop μ-loop) where
+module _ (c : tie.After-rules-field Inv-loop μ-loop) where
   abbrev turn : tie.In-loop Inv-loop μ-loop
   turn = c .before .before
 
@@ -33,22 +33,22 @@ module _ (c : tie.After-field-after Inv-loop μ-loop) where
   few = at-most _ _ _ (turn .loop-test .taken) (start .pre .1 .sound)
 
   abbrev line : ℕ
-  line = length (lineOf (c .field-after .result) (getD (start .args .list .now) (turn .before .loop .i) 0))
+  line = length (lineOf (c .rules-field .result) (getD (start .args .list .now) (turn .before .loop .i) 0))
 
   short : line ≤ 27
-  short = line-short (c .field-after .result) _
+  short = line-short (c .rules-field .result) _
 
-  more : length (linesFrom (start .args .form) (start .args .list .now) 0 (turn .before .loop .i + 1)) ≡ length (linesFrom (start .args .form) (start .args .list .now) 0 (turn .before .loop .i)) + line
-  more = length-more _ _ _ (turn .loop-test .taken) (start .pre .1 .sound) _ (c .field-after .ensures)
+  more : length (linesFrom Rules (start .args .list .now) 0 (turn .before .loop .i + 1)) ≡ length (linesFrom Rules (start .args .list .now) 0 (turn .before .loop .i)) + line
+  more = length-more _ _ _ (turn .loop-test .taken) (start .pre .1 .sound) _ (c .rules-field .ensures)
 
 loop-holds : tie.Need-loop-holds Inv-loop μ-loop
 loop-holds c = record { few = search needs; sum-is = sym (ap length (lines-none _ _ 0)); small = search needs }
 
-slice-aggregate-field-after : tie.Need-slice-aggregate-field-after Inv-loop μ-loop
-slice-aggregate-field-after c = sym (length-take-le _ _ (le-of-lt (c .before .loop-test .taken)))
+slice-aggregate-rules-field : tie.Need-slice-aggregate-rules-field Inv-loop μ-loop
+slice-aggregate-rules-field c = sym (length-take-le _ _ (le-of-lt (c .before .loop-test .taken)))
 
-field-after-requires : tie.Need-field-after-requires Inv-loop μ-loop
-field-after-requires c κs = let t = c .before in sound-take _ _ _ (le-of-lt (t .loop-test .taken)) (t .before .before .before .before .pre .1 .sound)
+rules-field-requires : tie.Need-rules-field-requires Inv-loop μ-loop
+rules-field-requires c κs = search needs
 
 mul-field-len : tie.Need-mul-field-len Inv-loop μ-loop
 mul-field-len c = omega (arith, few c)
@@ -59,7 +59,7 @@ shared-slice-read-field-len c = turn (c .before) .loop-test .taken
 field-len-requires : tie.Need-field-len-requires Inv-loop μ-loop
 field-len-requires c κs =
     let f = c .before in
-    (start f .pre .0, writable _ _ _ (turn f .loop-test .taken) (start f .pre .1 .sound) _ (f .field-after .ensures))
+    (start f .pre .0, writable _ _ _ (turn f .loop-test .taken) (start f .pre .1 .sound) _ (f .rules-field .ensures))
 
 add-sum : tie.Need-add-sum Inv-loop μ-loop
 add-sum c = let f = c .before .before in omega (arith, few f, turn f .before .loop .inv .small, c .field-len .ensures, short f)
@@ -84,17 +84,17 @@ returns : tie.Need-returns Inv-loop μ-loop
 returns c =
     let s = c .before .before .before .before in
     let e : c .before .loop .i ≡ length (s .args .list .now) = omega (arith, c .before .loop .inv .few, c .loop-test .left) in
-    c .before .loop .inv .sum-is ∙ ap (λ (n : ℕ). length (linesFrom (s .args .form) (s .args .list .now) 0 n)) e ∙ ap length (all-lines (s .args .form) (s .args .list .now))
+    c .before .loop .inv .sum-is ∙ ap (λ (n : ℕ). length (linesFrom Rules (s .args .list .now) 0 n)) e ∙ ap length (all-lines Rules (s .args .list .now))
 
-pub lines-len-spec : {M : Type 1} → statement M
-lines-len-spec =
+pub rules-len-spec : {M : Type 1} → statement M
+rules-len-spec =
     tie.close
     (tie.spec
     Inv-loop
     μ-loop
     loop-holds
-    slice-aggregate-field-after
-    field-after-requires
+    slice-aggregate-rules-field
+    rules-field-requires
     mul-field-len
     shared-slice-read-field-len
     field-len-requires
