@@ -2,14 +2,14 @@
 use Prim.Native.Nat.{ℕ, suc, _+_, _-_, _*_, _^_, _≤_, _<_}
 use mathlib.Core.Path.{_≡_, refl, sym, ap, fun-ext, subst, _∙_}
 use mathlib.Core.Logic.{_≢_, ⊎-elim}
-use mathlib.Core.Bool.{Bool, true, false, cond, not, _&&_, _||_, true≢false}
+use mathlib.Core.Bool.{Bool, Bool·beq, true, false, cond, not, _&&_, _||_, true≢false}
 use mathlib.Core.List.{List}
 use native.Mathlib.Numerals.{add-one}
 use native.Mathlib.Omega.{arith}
 use lib.Dec.{leb, eqb}
 use lib.ListN.{set, length-set}
 use lib.Seq.{getD-set-same, getD-set-other}
-use borrow.Author.Tests.{le-leb, leb-true, eq-eqb, ne-eqb, eqb-true, eqb-false}
+use borrow.Author.Tests.{le-leb, leb-true, ne-eqb, eqb-true, eqb-false}
 use Rattle.model.specs.Limits.{leastShare, mostTunnels, mostSwitches, mostSteps}
 use Rattle.model.specs.Sets.{inSet}
 use Rattle.model.proofs.Bounded.{ceil-most}
@@ -68,9 +68,21 @@ module _ (R : Rules) (f : Stages) (t i kind times unit : ℕ) (c x : List ℕ) (
       → goesBy kind (fitsAll (R .via t) unit (remove - kind) times c x) ≡ goes R m i f t
   unfolding goesBy goes counts timesOf count
   goes-told adds e b C =
-      rw (e, b) (fits-within R t unit 1 i c x (λ s. count R (moved R adds f) s + 1) low v u (λ s l. ap (λ (k : ℕ). k + 1) (C .each s (omega (arith, l, low)))) (X .each))
+      rw (e, b)
+      (beq-true _
+      ∙ fits-within R t unit 1 i c x (λ s. count R (moved R adds f) s + 1) low v u (λ s l. ap (λ (k : ℕ). k + 1) (C .each s (omega (arith, l, low)))) (X .each))
+    where
+      beq-true : (b : Bool) → Bool·beq b true ≡ b
+      beq-true true = refl
+      beq-true false = refl
   goes-told removes e b C =
-      rw (e, b) (ap not (fits-within R t unit 0 (lastStage R - i) c x (count R (waits R removes f)) low v u (λ s l. omega (arith, C .each s (omega (arith, l, low)))) (X .each)))
+      rw (e, b)
+      (beq-false (fitsAll (R .via t) unit 0 (lastStage R - i) c x)
+      ∙ ap not (fits-within R t unit 0 (lastStage R - i) c x (count R (waits R removes f)) low v u (λ s l. omega (arith, C .each s (omega (arith, l, low)))) (X .each)))
+    where
+      beq-false : (b : Bool) → Bool·beq b false ≡ not b
+      beq-false true = refl
+      beq-false false = refl
 
   -- the counts can be shifted
   pub goes-shift : (m : Move) → kind ≡ kindOf m → waits R m f t ≡ true → Counted R (R .tunnels) (counts R m f) c → Table mostTunnels c
@@ -106,14 +118,6 @@ module _ (R : Rules) (f : Stages) (t i kind times unit : ℕ) (c x : List ℕ) (
       none : (b : Bool) → _≡_ {A = ℕ} (cond b 0 0) 0
       none true = refl
       none false = refl
-
-pub goes-add : (kind : ℕ) (b : Bool) → kind ≡ add → b ≡ goesBy kind b
-unfolding goesBy
-goes-add kind b e = rw (eq-eqb kind add e)
-
-pub goes-remove : (kind : ℕ) (b : Bool) → kind ≢ add → not b ≡ goesBy kind b
-unfolding goesBy
-goes-remove kind b e = rw (ne-eqb kind add e)
 
 -- ---- a turn, in lists
 
@@ -167,14 +171,14 @@ module _ (l x : List ℕ) (kind stage times unit : ℕ) (c o : List ℕ) (r : Re
         none true = refl
         none false = refl
 
-    told : goesBy kind (fitsAll (at l i) unit (remove - kind) times c x) ≡ goes R m stage f t
+    told : (b : Bool) → b ≡ fitsAll (at l i) unit (remove - kind) times c x → goesBy kind b ≡ goes R m stage f t
     unfolding rulesOf
-    told =
-        rw here
-        (goes-told R f t stage kind times unit c x (r .good .switches .1) h (r .good .via t h .1) (r .pass .scale) (r .spares) m (r .pass .moves) (r .pass .bound) (r .counted))
+    told b e =
+        ap (goesBy kind) (rw here at e)
+        ∙ (goes-told R f t stage kind times unit c x (r .good .switches .1) h (r .good .via t h .1) (r .pass .scale) (r .spares) m (r .pass .moves) (r .pass .bound) (r .counted))
 
-    pub turn-not : goesBy kind (fitsAll (at l i) unit (remove - kind) times c x) ≡ false → Reached l m (turn R m stage f t) c o
-    turn-not e = stays (rw (sym told ∙ e) (none (waits R m f t)))
+    pub turn-not : (b : Bool) → b ≡ fitsAll (at l i) unit (remove - kind) times c x → goesBy kind b ≡ false → Reached l m (turn R m stage f t) c o
+    turn-not b q e = stays (rw (sym (told b q) ∙ e) (none (waits R m f t)))
       where
         none : (b : Bool) → (b && false) ≡ false
         none true = refl
@@ -201,10 +205,10 @@ module _ (l x : List ℕ) (kind stage times unit : ℕ) (c o : List ℕ) (r : Re
           (λ (e : eqb u t ≡ false). rw e (getD-set-other o t u stage 0 (eqb-false u t e)))
           (bool-cases (eqb u t)))
 
-      pub turn-on : (c′ : List ℕ) → goesBy kind (fitsAll (at l i) unit (remove - kind) times c x) ≡ true → Shifted (at l i) (remove - kind) (kind - add) c c′
+      pub turn-on : (c′ : List ℕ) (b : Bool) → b ≡ fitsAll (at l i) unit (remove - kind) times c x → goesBy kind b ≡ true → Shifted (at l i) (remove - kind) (kind - add) c c′
           → Reached l m (turn R m stage f t) c′ (set o t stage)
       unfolding rulesOf
-      turn-on c′ e S =
+      turn-on c′ b q e S =
           let j : ℕ = stage - 1 in
           let back : suc j ≡ stage = omega (arith, r .pass .inside .0) in
           record {
@@ -213,7 +217,7 @@ module _ (l x : List ℕ) (kind stage times unit : ℕ) (c o : List ℕ) (r : Re
                 (rw back at
                 (goes-counted R f t j kind times unit c x (r .good .switches .1) h (r .good .via t h .1) (r .pass .scale) (r .spares) m c′ (r .pass .moves) waiting (r .counted) (rw here at S)));
             size = length-set o t stage ∙ r .size;
-            stages = stored ∙ sym (turn-goes R m stage f t waiting (sym told ∙ e));
+            stages = stored ∙ sym (turn-goes R m stage f t waiting (sym (told b q) ∙ e));
           }
 
 -- ---- the turns of a pass

@@ -1,7 +1,7 @@
 -- What the inner functions of the code ask for and give.
 use Prim.Native.Nat.{ℕ, _+_, _-_, _*_, _≤_, _<_}
 use mathlib.Core.Path.{_≡_}
-use mathlib.Core.Bool.{Bool, true, cond, not, _||_}
+use mathlib.Core.Bool.{Bool, Bool·beq, true, cond, not, _||_}
 use mathlib.Core.List.{List}
 use mathlib.Core.Option.{Option, none, some}
 use lib.Dec.{leb, eqb}
@@ -81,7 +81,7 @@ fitsAll via unit more times c x = every mostSwitches (λ s. not (inSet via s) ||
 
 -- a tunnel to add goes where there is room, one to remove where there is not
 unfoldable pub goesBy : ℕ → Bool → Bool
-goesBy kind b = cond (eqb kind add) b (not b)
+goesBy kind b = Bool·beq b (eqb kind add)
 
 -- what a turn and a pass start from: good tables, the spares, the stages so far in o, and the counts of the kind that moves in c
 pub record Ready (l x : List ℕ) (kind stage times unit : ℕ) (c o : List ℕ) : Type 0 where
