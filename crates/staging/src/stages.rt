@@ -45,22 +45,12 @@ fn turn(
         return;
     }
     let via = list[from];
-    let fits = tables::fits(
-        counts,
-        spares,
-        via,
-        p.unit,
-        RuleTables::REMOVE - kind,
-        p.times,
-    );
+    let more = RuleTables::REMOVE - kind;
+    let fits = tables::fits(counts, spares, via, p.unit, more, p.times);
+    // One to add goes where it fits, one to remove, which is counted, where it does not.
     if fits == (kind == RuleTables::ADD) {
         stages[t] = p.stage;
-        tables::shift(
-            counts,
-            via,
-            RuleTables::REMOVE - kind,
-            kind - RuleTables::ADD,
-        );
+        tables::shift(counts, via, more, kind - RuleTables::ADD);
     }
 }
 

@@ -46,7 +46,7 @@ mul-usable : tie.Need-mul-usable Inv-loop μ-loop
 mul-usable c = search needs
 
 shared-slice-read-usable : tie.Need-shared-slice-read-usable Inv-loop μ-loop
-shared-slice-read-usable c = search needs
+shared-slice-read-usable c = omega (arith, c .before .before .before .before .before .pre .0 .0 .size, c .before .loop-test .taken)
 
 mul-usable-2 : tie.Need-mul-usable-2 Inv-loop μ-loop
 mul-usable-2 c = record { fits = omega (arith, usable-here (c .before)) }
@@ -55,7 +55,7 @@ mul-used : tie.Need-mul-used Inv-loop μ-loop
 mul-used c = search needs
 
 shared-slice-read-used : tie.Need-shared-slice-read-used Inv-loop μ-loop
-shared-slice-read-used c = search needs
+shared-slice-read-used c = omega (arith, c .before .before .before .before .before .before .pre .0 .1 .keeps .size, c .before .before .loop-test .taken, c .before .before .before .before .before .before .pre .0 .0 .switches)
 
 mul-used-2 : tie.Need-mul-used-2 Inv-loop μ-loop
 mul-used-2 c = record { fits = omega (arith, counts-here (c .before .before)) }
@@ -64,7 +64,7 @@ mul-if1 : tie.Need-mul-if1 Inv-loop μ-loop
 mul-if1 c = search needs
 
 shared-slice-read-if1 : tie.Need-shared-slice-read-if1 Inv-loop μ-loop
-shared-slice-read-if1 c = search needs
+shared-slice-read-if1 c = omega (arith, c .before .before .before .before .before .before .before .pre .0 .1 .leaves .size, c .before .before .before .loop-test .taken, c .before .before .before .before .before .before .before .pre .0 .0 .switches)
 
 mul-if1-2 : tie.Need-mul-if1-2 Inv-loop μ-loop
 mul-if1-2 c = record { fits = omega (arith, counts-here (c .before .before .before)) }
@@ -82,7 +82,7 @@ mul-if2 : tie.Need-mul-if2 Inv-loop μ-loop
 mul-if2 c = search needs
 
 shared-slice-read-if2 : tie.Need-shared-slice-read-if2 Inv-loop μ-loop
-shared-slice-read-if2 c = search needs
+shared-slice-read-if2 c = omega (arith, c .before .before .before .before .before .before .before .before .before .pre .0 .1 .enters .size, c .before .before .before .before .before .loop-test .taken, c .before .before .before .before .before .before .before .before .before .pre .0 .0 .switches)
 
 mul-if2-2 : tie.Need-mul-if2-2 Inv-loop μ-loop
 mul-if2-2 c = record { fits = omega (arith, counts-here (c .before .before .before .before .before)) }
@@ -97,13 +97,13 @@ returns-2 : tie.Need-returns-2 Inv-loop μ-loop
 returns-2 c = let p = c .before .before .before .before .before .before .before .before .before .before .pre .0 in judging-new _ _ _ _ (p .0) (p .1) _ (c .before .before .before .before .before .before .loop-test .taken) _ (c .before .before .before .before .before .before .before .loop .inv .judging) (c .before .before .if1 .left) (c .if2 .taken)
 
 sub-spares : tie.Need-sub-spares Inv-loop μ-loop
-sub-spares c = search needs
+sub-spares c = omega (arith, c .if2 .left)
 
 mul-spares : tie.Need-mul-spares Inv-loop μ-loop
 mul-spares c = search needs
 
 slice-write-spares : tie.Need-slice-write-spares Inv-loop μ-loop
-slice-write-spares c = search needs
+slice-write-spares c = omega (arith, c .before .before .before .before .before .before .before .loop .inv .judging .table .size, c .before .before .before .before .before .before .loop-test .taken, c .before .before .before .before .before .before .before .before .before .before .pre .0 .0 .switches)
 
 add-s : tie.Need-add-s Inv-loop μ-loop
 add-s c = search needs
