@@ -25,6 +25,10 @@ module _ (R : Rules) where
   unfolding isKind
   not-kind k t e = ne-eqb (R .kind t) k e
 
+  pub is-not-kind : (k t : ℕ) → isKind R k t ≡ false → R .kind t ≢ k
+  unfolding isKind
+  is-not-kind k t e = eqb-false (R .kind t) k e
+
   module _ (m : Move) (f : Stages) (t : ℕ) where
     pub waits-is : waits R m f t ≡ true → (R .kind t ≡ kindOf m) × (f t ≡ 0)
     unfolding waits
