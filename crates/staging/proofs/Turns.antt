@@ -20,9 +20,9 @@ use Rattle.rules.specs.Rules.{Rules, add, remove, isKind, rule, count, lastStag
 use Rattle.rules.specs.Stage.{Move, adds, removes, kindOf, Stages, moved, waits, within, goes, given, turn, pass}
 use Rattle.rules.specs.Lists.{tunnelAt, rulesOf}
 use Rattle.staging.specs.Inner.{Table, Counted, Shifted, Shiftable, Spares, moveOf, counts, timesOf, fitsAll, goesBy, Ready, Reached}
-use Rattle.rules.proofs.Counts.{every-at, every-all, within-at, within-all, count-some, count-moved, count-waits}
+use Rattle.rules.proofs.Counts.{and-none, every-at, every-all, within-at, within-all, count-some, count-moved, count-waits}
 use Rattle.rules.proofs.Passes.{is-waiting, not-kind, turn-goes, turn-stays}
-use Rattle.staging.proofs.Tallies.{counted-table}
+use Rattle.staging.proofs.Tallies.{cond-zero, counted-table}
 
 pub last-most : (R : Rules) → leastShare ≤ R .slack → lastStage R < mostSteps
 unfolding lastStage
@@ -61,7 +61,7 @@ module _ (R : Rules) (t unit more times : ℕ) (c x : List ℕ) (n : ℕ → ℕ
 
 -- ---- a turn
 
-module _ (R : Rules) (f : Stages) (t i kind times unit : ℕ) (c x : List ℕ) (low : R .switches ≤ mostSwitches) (h : t < R .tunnels) (v : R .via t < 2 ^ R .switches)
+module _ (R : Rules) (f : Stages) (t i kind times unit : ℕ) (c x : List ℕ) (low : R .switches ≤ mostSwitches) (v : R .via t < 2 ^ R .switches)
     (u : unit ≡ 1000 * lastStage R) (X : Spares R x) where
   -- the code's test is that of the move
   pub goes-told : (m : Move) → kind ≡ kindOf m → times ≡ timesOf R m i → Counted R (R .tunnels) (counts R m f) c
@@ -84,6 +84,8 @@ module _ (R : Rules) (f : Stages) (t i kind times unit : ℕ) (c x : List ℕ) (
       beq-false true = refl
       beq-false false = refl
 
+-- where it goes
+module _ (R : Rules) (f : Stages) (t i kind : ℕ) (c : List ℕ) (h : t < R .tunnels) where
   -- the counts can be shifted
   pub goes-shift : (m : Move) → kind ≡ kindOf m → waits R m f t ≡ true → Counted R (R .tunnels) (counts R m f) c → Table mostTunnels c
       → Shiftable (R .via t) (remove - kind) (kind - add) c
@@ -101,23 +103,15 @@ module _ (R : Rules) (f : Stages) (t i kind times unit : ℕ) (c x : List ℕ) (
     each =
         λ s l.
         let moves : at c′ s + cond (inSet (R .via t) s) 0 0 ≡ at c s + cond (inSet (R .via t) s) 1 0 = rw e at (S .each s l) in
-        omega (arith, moves, none (inSet (R .via t) s), C .each s l, count-moved R s adds f t i h w);
+        omega (arith, moves, cond-zero (inSet (R .via t) s), C .each s l, count-moved R s adds f t i h w);
   }
-    where
-      none : (b : Bool) → _≡_ {A = ℕ} (cond b 0 0) 0
-      none true = refl
-      none false = refl
   goes-counted removes c′ e w C S = record {
     size = S .size ∙ C .size;
     each =
         λ s l.
         let moves : at c′ s + cond (inSet (R .via t) s) 1 0 ≡ at c s + cond (inSet (R .via t) s) 0 0 = rw e at (S .each s l) in
-        omega (arith, moves, none (inSet (R .via t) s), C .each s l, count-waits R s removes f t i h w);
+        omega (arith, moves, cond-zero (inSet (R .via t) s), C .each s l, count-waits R s removes f t i h w);
   }
-    where
-      none : (b : Bool) → _≡_ {A = ℕ} (cond b 0 0) 0
-      none true = refl
-      none false = refl
 
 -- ---- a turn, in lists
 
@@ -175,14 +169,10 @@ module _ (l x : List ℕ) (kind stage times unit : ℕ) (c o : List ℕ) (r : Re
     unfolding rulesOf
     told b e =
         ap (goesBy kind) (rw here at e)
-        ∙ (goes-told R f t stage kind times unit c x (r .good .switches .1) h (r .good .via t h .1) (r .pass .scale) (r .spares) m (r .pass .moves) (r .pass .bound) (r .counted))
+        ∙ (goes-told R f t stage kind times unit c x (r .good .switches .1) (r .good .via t h .1) (r .pass .scale) (r .spares) m (r .pass .moves) (r .pass .bound) (r .counted))
 
     pub turn-not : (b : Bool) → b ≡ fitsAll (at l i) unit (remove - kind) times c x → goesBy kind b ≡ false → Reached l m (turn R m stage f t) c o
-    turn-not b q e = stays (rw (sym (told b q) ∙ e) (none (waits R m f t)))
-      where
-        none : (b : Bool) → (b && false) ≡ false
-        none true = refl
-        none false = refl
+    turn-not b q e = stays (rw (sym (told b q) ∙ e) (and-none (waits R m f t)))
 
     module _ (k : at l (i + 1) ≡ kind) (z : at o t ≡ 0) where
       waiting : waits R m f t ≡ true
@@ -191,9 +181,7 @@ module _ (l x : List ℕ) (kind stage times unit : ℕ) (c o : List ℕ) (r : Re
 
       pub turn-shift : Shiftable (at l i) (remove - kind) (kind - add) c
       unfolding rulesOf
-      turn-shift =
-          rw here
-          (goes-shift R f t stage kind times unit c x (r .good .switches .1) h (r .good .via t h .1) (r .pass .scale) (r .spares) m (r .pass .moves) waiting (r .counted) table)
+      turn-shift = rw here (goes-shift R f t stage kind c h m (r .pass .moves) waiting (r .counted) table)
 
       stored : at (set o t stage) ≡ given true t stage f
       unfolding given
@@ -212,10 +200,7 @@ module _ (l x : List ℕ) (kind stage times unit : ℕ) (c o : List ℕ) (r : Re
           let j : ℕ = stage - 1 in
           let back : suc j ≡ stage = omega (arith, r .pass .inside .0) in
           record {
-            counted =
-                rw stored
-                (rw back at
-                (goes-counted R f t j kind times unit c x (r .good .switches .1) h (r .good .via t h .1) (r .pass .scale) (r .spares) m c′ (r .pass .moves) waiting (r .counted) (rw here at S)));
+            counted = rw stored (rw back at (goes-counted R f t j kind c h m c′ (r .pass .moves) waiting (r .counted) (rw here at S)));
             size = length-set o t stage ∙ r .size;
             stages = stored ∙ sym (turn-goes R m stage f t waiting (sym (told b q) ∙ e));
           }
