@@ -94,7 +94,12 @@ same-length-2 : tie.Need-same-length-2 Inv-loop μ-loop
 same-length-2 c = search needs
 
 returns-2 : tie.Need-returns-2 Inv-loop μ-loop
-returns-2 c = let p = c .before .before .before .before .before .before .before .before .before .before .pre .0 in judging-new _ _ _ _ (p .0) (p .1) _ (c .before .before .before .before .before .before .loop-test .taken) _ (c .before .before .before .before .before .before .before .loop .inv .judging) (c .before .before .if1 .left) (c .if2 .taken)
+returns-2 c =
+    let c1 = c .before .before in
+    let c2 = c1 .before .before .before .before in
+    let c3 = c2 .before in
+    let c4 = c3 .before .before .before in
+    let p = c4 .pre .0 in judging-new _ _ _ _ (p .0) (p .1) _ (c2 .loop-test .taken) _ (c3 .loop .inv .judging) (c1 .if1 .left) (c .if2 .taken)
 
 sub-spares : tie.Need-sub-spares Inv-loop μ-loop
 sub-spares c = omega (arith, c .if2 .left)
@@ -103,7 +108,11 @@ mul-spares : tie.Need-mul-spares Inv-loop μ-loop
 mul-spares c = search needs
 
 slice-write-spares : tie.Need-slice-write-spares Inv-loop μ-loop
-slice-write-spares c = omega (arith, c .before .before .before .before .before .before .before .loop .inv .judging .table .size, c .before .before .before .before .before .before .loop-test .taken, c .before .before .before .before .before .before .before .before .before .before .pre .0 .0 .switches)
+slice-write-spares c =
+    let c1 = c .before .before .before .before .before .before in
+    let c2 = c1 .before in
+    let c3 = c2 .before .before .before in
+    omega (arith, c2 .loop .inv .judging .table .size, c1 .loop-test .taken, c3 .pre .0 .0 .switches)
 
 add-s : tie.Need-add-s Inv-loop μ-loop
 add-s c = search needs
