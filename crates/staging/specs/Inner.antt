@@ -4,7 +4,7 @@ use mathlib.Core.Path.{_≡_}
 use mathlib.Core.Bool.{Bool, Bool·beq, true, cond, not, _||_}
 use mathlib.Core.List.{List}
 use mathlib.Core.Option.{Option, none, some}
-use lib.Dec.{leb, eqb}
+use lib.Dec.{leb, ltb, eqb}
 use lib.ListN.{length}
 use Rattle.model.specs.Limits.{mostTunnels, mostSwitches, mostRoom}
 use Rattle.model.specs.Sum.{sumOver}
@@ -105,6 +105,10 @@ pub record StagedTo (l : List ℕ) (i : ℕ) (a r o : List ℕ) : Type 0 where
   pub stages : at o ≡ stages (rulesOf l) i
 
 -- ---- refusal 18
+
+-- the second of the refusal at a switch, 2 where there is none
+unfoldable pub unfitBy : ℕ → ℕ → ℕ → ℕ → ℕ
+unfitBy usable kept removing adding = cond (ltb usable (1000 * (kept + removing))) 0 (cond (ltb usable (1000 * (kept + adding))) 1 2)
 
 abbrev pub told : Option Place → Answer
 told none = Done 0
