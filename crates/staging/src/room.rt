@@ -25,7 +25,7 @@ fn unfit(usable: u64, kept: u64, removing: u64, adding: u64) -> u64
     2
 }
 
-// Refusal 18 for the first switch that they do not fit, old before new; else done, with the spares in their table.
+// Refusal 18 for the first switch that a set does not fit, the old one before the new; else done, with the spares in their table.
 fn by_counts(
     list: &[u64],
     kept: &[u64],
@@ -42,7 +42,8 @@ fn by_counts(
     let mut s: usize = 0;
     while s < switches {
         let usable = free * list[4 + s];
-        let second = unfit(usable, kept[s], removing[s], adding[s]);
+        let held = kept[s];
+        let second = unfit(usable, held, removing[s], adding[s]);
         if second < 2 {
             return Answer::Refused {
                 number: 18,
@@ -50,7 +51,7 @@ fn by_counts(
                 second,
             };
         }
-        spares[s] = usable - 1000 * kept[s];
+        spares[s] = usable - 1000 * held;
         s += 1;
     }
     Answer::Done(0)

@@ -37,6 +37,12 @@ shared-slice-read-usable c = search needs
 mul-usable-2 : tie.Need-mul-usable-2 Inv-loop μ-loop
 mul-usable-2 c = let p = c .before .before .before .before .before .before .before .before .before .before .pre .0 in record { fits = omega (arith, usable-most _ _ _ _ (p .0) (p .1) (c .before .before .loop .s) (c .before .loop-test .taken)) }
 
+mul-held : tie.Need-mul-held Inv-loop μ-loop
+mul-held c = search needs
+
+shared-slice-read-held : tie.Need-shared-slice-read-held Inv-loop μ-loop
+shared-slice-read-held c = search needs
+
 mul-unfit : tie.Need-mul-unfit Inv-loop μ-loop
 mul-unfit c = search needs
 
@@ -48,12 +54,6 @@ mul-unfit-2 c = search needs
 
 shared-slice-read-unfit-2 : tie.Need-shared-slice-read-unfit-2 Inv-loop μ-loop
 shared-slice-read-unfit-2 c = search needs
-
-mul-unfit-3 : tie.Need-mul-unfit-3 Inv-loop μ-loop
-mul-unfit-3 c = search needs
-
-shared-slice-read-unfit-3 : tie.Need-shared-slice-read-unfit-3 Inv-loop μ-loop
-shared-slice-read-unfit-3 c = search needs
 
 unfit-requires : tie.Need-unfit-requires Inv-loop μ-loop
 unfit-requires c κs = let p = c .before .before .before .before .before .before .before .before .before .before .before .before .before .pre .0 in
@@ -71,14 +71,8 @@ returns c =
     let p = c4 .pre .0 in judging-not _ _ _ _ (p .0) (p .1) _ (c2 .loop-test .taken) _ (c1 .unfit .ensures) _ (c3 .loop .inv .judging) (c .if1 .taken)
 
 mul-spares : tie.Need-mul-spares Inv-loop μ-loop
-mul-spares c = search needs
-
-shared-slice-read-spares : tie.Need-shared-slice-read-spares Inv-loop μ-loop
-shared-slice-read-spares c = search needs
-
-mul-spares-2 : tie.Need-mul-spares-2 Inv-loop μ-loop
-mul-spares-2 c =
-    let c1 = c .before .before .before .before .before .before .before in
+mul-spares c =
+    let c1 = c .before .before .before .before .before .before in
     let c2 = c1 .before in
     let c3 = c2 .before .before .before .before .before .before .before .before in
     let p = c3 .pre .0 in record { fits = omega (arith, counts-most _ _ _ _ (p .0) (p .1) (c2 .loop .s) (c1 .loop-test .taken)) }
@@ -86,14 +80,13 @@ mul-spares-2 c =
 sub-spares : tie.Need-sub-spares Inv-loop μ-loop
 sub-spares c =
     let c1 = c .before in
-    let c2 = c1 .before in
-    let c3 = c2 .before .before .before .before .before in
-    let c4 = c3 .before in
-    let c5 = c4 .before .before .before .before .before .before .before .before in
-    let p = c5 .pre .0 in kept-most _ _ _ _ (p .0) (p .1) _ (c3 .loop-test .taken) _ (c2 .unfit .ensures) _ (c4 .loop .inv .judging) (c1 .if1 .left)
+    let c2 = c1 .before .before .before .before .before in
+    let c3 = c2 .before in
+    let c4 = c3 .before .before .before .before .before .before .before .before in
+    let p = c4 .pre .0 in kept-most _ _ _ _ (p .0) (p .1) _ (c2 .loop-test .taken) _ (c1 .unfit .ensures) _ (c3 .loop .inv .judging) (c .if1 .left)
 
-mul-spares-3 : tie.Need-mul-spares-3 Inv-loop μ-loop
-mul-spares-3 c = search needs
+mul-spares-2 : tie.Need-mul-spares-2 Inv-loop μ-loop
+mul-spares-2 c = search needs
 
 slice-write-spares : tie.Need-slice-write-spares Inv-loop μ-loop
 slice-write-spares c = search needs
@@ -105,10 +98,10 @@ loop-less : tie.Need-loop-less Inv-loop μ-loop
 loop-less c = search needs
 
 loop-again : tie.Need-loop-again Inv-loop μ-loop
-loop-again c = let p = c .before .before .before .before .before .before .before .before .before .before .before .before .before .before .before .before .pre .0 in
+loop-again c = let p = c .before .before .before .before .before .before .before .before .before .before .before .before .before .before .before .pre .0 in
     record {
-      low = omega (arith, c .before .before .before .before .before .before .before .loop-test .taken);
-      judging = judging-on _ _ _ _ (p .0) (p .1) _ (c .before .before .before .before .before .before .before .loop-test .taken) _ (c .before .before .unfit .ensures) _ (c .before .before .before .before .before .before .before .before .loop .inv .judging) (c .before .if1 .left);
+      low = omega (arith, c .before .before .before .before .before .before .loop-test .taken);
+      judging = judging-on _ _ _ _ (p .0) (p .1) _ (c .before .before .before .before .before .before .loop-test .taken) _ (c .before .unfit .ensures) _ (c .before .before .before .before .before .before .before .loop .inv .judging) (c .if1 .left);
     }
 
 same-length-2 : tie.Need-same-length-2 Inv-loop μ-loop
@@ -131,20 +124,18 @@ by-counts-spec =
     mul-usable
     shared-slice-read-usable
     mul-usable-2
+    mul-held
+    shared-slice-read-held
     mul-unfit
     shared-slice-read-unfit
     mul-unfit-2
     shared-slice-read-unfit-2
-    mul-unfit-3
-    shared-slice-read-unfit-3
     unfit-requires
     same-length
     returns
     mul-spares
-    shared-slice-read-spares
-    mul-spares-2
     sub-spares
-    mul-spares-3
+    mul-spares-2
     slice-write-spares
     add-s
     loop-less

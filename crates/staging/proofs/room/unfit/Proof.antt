@@ -2,7 +2,6 @@
 use mathlib.Core.Path.{refl}
 use borrow.Author.Tests.{lt-ltb, le-ltb}
 use Rattle.staging.specs.Inner.{unfitBy}
-use native.Mathlib.Omega.{arith}
 use borrow.Author.Needs.{needs}
 use Rattle.staging.proofs.room.unfit.Statement.{statement}
 use Rattle.staging.proofs.room.unfit.Tie as tie
