@@ -1,20 +1,20 @@
 -- What bounds the counts: after stage i, those added are at most i parts of k of what is spare at a switch, and those that remain at most the other k - i.
 use Prim.Native.Nat.{ℕ, zero, suc, _+_, _-_, _*_, _≤_, _<_}
 use mathlib.Core.Path.{_≡_, refl, ap}
-use mathlib.Core.Logic.{_≢_, _⊎_, ⊎-elim}
+use mathlib.Core.Logic.{_⊎_, ⊎-elim}
 use mathlib.Core.Bool.{true, false}
-use native.Mathlib.Nat.{eq-or-lt-of-le, le-of-suc-le-suc, le-trans, mul-le-mul-left}
+use native.Mathlib.Nat.{le-trans, mul-le-mul-left}
 use native.Mathlib.Omega.{arith}
-use borrow.Author.Tests.{not-false, eq-eqb, ne-eqb}
+use borrow.Author.Tests.{not-false}
 use Rattle.model.specs.Limits.{leastShare, mostShare}
 use Rattle.model.specs.Sets.{inSet}
 use Rattle.model.specs.Even.{ceilDiv}
 use Rattle.model.proofs.Bounded.{ceil-ge, ceil-least}
 use Rattle.model.proofs.Searches.{bool-cases}
 use Rattle.rules.specs.Rules.{Rules, remove, isKind, rule, count, lastStage, spare}
-use Rattle.rules.specs.Stage.{Move, adds, removes, Stages, moved, waits, goes, given, turn, pass, stage, stages}
-use Rattle.rules.proofs.Counts.{within-at, count-who, count-moved, count-waits, count-kind}
-use Rattle.rules.proofs.Passes.{waits-is, moved-is, turn-cases, other-moved}
+use Rattle.rules.specs.Stage.{adds, removes, Stages, moved, waits, goes, given, turn, pass, stage, stages}
+use Rattle.rules.proofs.Counts.{within-at, count-who, count-moved, count-kind}
+use Rattle.rules.proofs.Passes.{moved-is, turn-cases, pass-stayed, pass-fewer, other-moved}
 
 -- ---- the last stage
 
@@ -29,16 +29,6 @@ module _ (R : Rules) (h : (leastShare ≤ R .slack) × (R .slack ≤ mostShare))
 
   pub last-pos : 1 ≤ lastStage R
   last-pos = omega (arith, last-more, ceil-least (R .slack) (omega (arith, h)) (h .1))
-
--- ---- what a stage given changes
-
-pub given-at : (f : Stages) (t i u : ℕ) → u ≡ t → given true t i f u ≡ i
-unfolding given
-given-at f t i u e = rw (eq-eqb u t e)
-
-pub given-waits : (R : Rules) (m : Move) (f : Stages) (t i u : ℕ) → u ≢ t → waits R m (given true t i f) u ≡ true → waits R m f u ≡ true
-unfolding waits given
-given-waits R m f t i u h w = rw (ne-eqb u t h) at w
 
 -- one rule at a switch that is crossed, none at others
 pub rule-one : (R : Rules) (s t : ℕ) → inSet (R .via t) s ≡ true → rule R s t ≡ 1
@@ -109,36 +99,12 @@ module _ (R : Rules) (s : ℕ) (h : s < R .switches) where
 
   -- ---- removing
 
-  -- of the tunnels passed, one that still waits across the switch was tested when no fewer remained
-  stayed : (i d : ℕ) (f : Stages) (n : ℕ) → suc i + d ≡ k → n ≤ R .tunnels → (u : ℕ) → u < n → waits R removes (pass R removes (suc i) f n) u ≡ true → inSet (R .via u) s ≡ true
-      → 1000 * k * remaining (pass R removes (suc i) f n) ≤ d * spare R s
-  unfolding pass
-  stayed i d f zero q l u b w e = absurd (omega (arith, b))
-  stayed i d f (suc n) q l u b w e =
-      let g : Stages = pass R removes (suc i) f n in
-      let rest : (v : ℕ) → v < n → waits R removes g v ≡ true → inSet (R .via v) s ≡ true → 1000 * k * remaining g ≤ d * spare R s
-      = stayed i d f n q (omega (arith, l)) in
-      ⊎-elim
-      (λ c.
-      let less = count-waits R s removes g n i (omega (arith, l)) (c .0) in
-      let w' : waits R removes (given true n (suc i) g) u ≡ true = rw (c .2) at w in
-      let fewer : remaining (given true n (suc i) g) ≤ remaining g = omega (arith, less) in
-      rw (c .2)
-      (⊎-elim
-      (λ (z : u ≡ n). absurd (omega (arith, waits-is R removes (given true n (suc i) g) u w' .1, given-at g n (suc i) u z)))
-      (λ (z : u < n). le-trans (mul-le-mul-left (1000 * k) fewer) (rest u z (given-waits R removes g n (suc i) u (λ y. omega (arith, y, z)) w') e))
-      (eq-or-lt-of-le (le-of-suc-le-suc b))))
-      (λ c.
-      let w' : waits R removes g u ≡ true = rw (c .1) at w in
-      rw (c .1)
-      (⊎-elim
-      (λ (z : u ≡ n).
-      let here : waits R removes g n ≡ true = rw z at w' in
-      let stays : goes R removes (suc i) g n ≡ false = rw here at (c .0) in
-      remaining-test (suc i) d g n q stays (rw z at e))
-      (λ (z : u < n). rest u z w' e)
-      (eq-or-lt-of-le (le-of-suc-le-suc b))))
-      (turn-cases R removes (suc i) g n)
+  -- after a pass, a tunnel across the switch that still waits was tested when no fewer remained
+  stayed : (i d : ℕ) (f : Stages) (u : ℕ) → suc i + d ≡ k → u < R .tunnels → waits R removes (pass R removes (suc i) f (R .tunnels)) u ≡ true → inSet (R .via u) s ≡ true
+      → 1000 * k * remaining (pass R removes (suc i) f (R .tunnels)) ≤ d * spare R s
+  stayed i d f u q l w e =
+      le-trans (mul-le-mul-left (1000 * k) (pass-fewer R removes i f s u (R .tunnels) (omega (arith, l)) (omega arith)))
+      (remaining-test (suc i) d _ u q (pass-stayed R removes (suc i) f (R .tunnels) (omega arith) u l w .1) e)
 
   pub remaining-most : (i d : ℕ) → i + d ≡ k → 1000 * count R (isKind R remove) s ≤ spare R s → 1000 * k * remaining (stages R i) ≤ d * spare R s
   unfolding stages stage
@@ -152,5 +118,5 @@ module _ (R : Rules) (s : ℕ) (h : s < R .switches) where
       let last : Stages = pass R removes (suc i) g n in
       ⊎-elim
       (λ (e : remaining last ≡ 0). rw e (omega arith))
-      (λ r. stayed i d g n q (omega arith) (r .0) (r .1) (r .2) (r .3))
+      (λ r. stayed i d g (r .0) q (r .1) (r .2) (r .3))
       (count-who R s (waits R removes last))

@@ -22,32 +22,20 @@ rules slack rooms vias kinds = record {
   kind = λ t. getD kinds t 0;
 }
 
--- slack 250 makes three stages: of four rules to add and four to remove, with one kept, room for 7
-three-stages : staged (rules 250 (7 ∷ []) (1 ∷ 1 ∷ 1 ∷ 1 ∷ 1 ∷ 1 ∷ 1 ∷ 1 ∷ 1 ∷ []) (3 ∷ 2 ∷ 1 ∷ 3 ∷ 2 ∷ 3 ∷ 2 ∷ 3 ∷ 2 ∷ [])) ≡ good (1 ∷ 1 ∷ 0 ∷ 1 ∷ 2 ∷ 2 ∷ 3 ∷ 3 ∷ 3 ∷ [])
-unfolding rules staged stages stage pass turn given goes within every waits moved unfitAt tooMany spare usable lastStage count rule isKind sumOver first orElse onlyIf listed ceilDiv
-three-stages = refl
+record Cases : Type 0 where
+  -- slack 250 makes three stages: of four rules to add and four to remove, with one kept, room for 7
+  three-stages : staged (rules 250 (7 ∷ []) (1 ∷ 1 ∷ 1 ∷ 1 ∷ 1 ∷ 1 ∷ 1 ∷ 1 ∷ 1 ∷ []) (3 ∷ 2 ∷ 1 ∷ 3 ∷ 2 ∷ 3 ∷ 2 ∷ 3 ∷ 2 ∷ [])) ≡ good (1 ∷ 1 ∷ 0 ∷ 1 ∷ 2 ∷ 2 ∷ 3 ∷ 3 ∷ 3 ∷ [])
+  -- a tunnel across both switches waits for the fuller one, and a later tunnel goes before it
+  two-switches : staged (rules 333 (4 ∷ 6 ∷ []) (1 ∷ 3 ∷ 2 ∷ 2 ∷ 3 ∷ []) (2 ∷ 2 ∷ 2 ∷ 3 ∷ 3 ∷ [])) ≡ good (2 ∷ 3 ∷ 1 ∷ 2 ∷ 2 ∷ [])
+  -- slack 500 makes one stage: all at once
+  one-stage : staged (rules 500 (4 ∷ []) (1 ∷ 1 ∷ 1 ∷ 1 ∷ []) (2 ∷ 3 ∷ 2 ∷ 3 ∷ [])) ≡ good (1 ∷ 1 ∷ 1 ∷ 1 ∷ [])
+  -- no tunnels
+  nothing : staged (rules 20 (0 ∷ []) [] []) ≡ good []
+  -- the old set and the new one do not fit the lowest switch: the old one is named
+  old-first : staged (rules 500 (1 ∷ 0 ∷ []) (3 ∷ 3 ∷ []) (3 ∷ 2 ∷ [])) ≡ refused unfit 0 0
+  -- the new set at switch 0 comes before the old one at switch 1
+  lowest-first : staged (rules 500 (2 ∷ 1 ∷ []) (1 ∷ 1 ∷ 2 ∷ []) (2 ∷ 2 ∷ 3 ∷ [])) ≡ refused unfit 0 1
 
--- a tunnel across both switches waits for the fuller one, and a later tunnel goes before it
-two-switches : staged (rules 333 (4 ∷ 6 ∷ []) (1 ∷ 3 ∷ 2 ∷ 2 ∷ 3 ∷ []) (2 ∷ 2 ∷ 2 ∷ 3 ∷ 3 ∷ [])) ≡ good (2 ∷ 3 ∷ 1 ∷ 2 ∷ 2 ∷ [])
+cases : Cases
 unfolding rules staged stages stage pass turn given goes within every waits moved unfitAt tooMany spare usable lastStage count rule isKind sumOver first orElse onlyIf listed ceilDiv
-two-switches = refl
-
--- slack 500 makes one stage: all at once
-one-stage : staged (rules 500 (4 ∷ []) (1 ∷ 1 ∷ 1 ∷ 1 ∷ []) (2 ∷ 3 ∷ 2 ∷ 3 ∷ [])) ≡ good (1 ∷ 1 ∷ 1 ∷ 1 ∷ [])
-unfolding rules staged stages stage pass turn given goes within every waits moved unfitAt tooMany spare usable lastStage count rule isKind sumOver first orElse onlyIf listed ceilDiv
-one-stage = refl
-
--- no tunnels
-nothing : staged (rules 20 (0 ∷ []) [] []) ≡ good []
-unfolding rules staged stages stage pass turn given goes within every waits moved unfitAt tooMany spare usable lastStage count rule isKind sumOver first orElse onlyIf listed ceilDiv
-nothing = refl
-
--- the old set and the new one do not fit the lowest switch: the old one is named
-old-first : staged (rules 500 (1 ∷ 0 ∷ []) (3 ∷ 3 ∷ []) (3 ∷ 2 ∷ [])) ≡ refused unfit 0 0
-unfolding rules staged stages stage pass turn given goes within every waits moved unfitAt tooMany spare usable lastStage count rule isKind sumOver first orElse onlyIf listed ceilDiv
-old-first = refl
-
--- the new set at switch 0 comes before the old one at switch 1
-lowest-first : staged (rules 500 (2 ∷ 1 ∷ []) (1 ∷ 1 ∷ 2 ∷ []) (2 ∷ 2 ∷ 3 ∷ [])) ≡ refused unfit 0 1
-unfolding rules staged stages stage pass turn given goes within every waits moved unfitAt tooMany spare usable lastStage count rule isKind sumOver first orElse onlyIf listed ceilDiv
-lowest-first = refl
+cases = record { three-stages = refl; two-switches = refl; one-stage = refl; nothing = refl; old-first = refl; lowest-first = refl }

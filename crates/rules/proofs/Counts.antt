@@ -28,6 +28,10 @@ unfolding every
 every-all zero p h = refl
 every-all (suc n) p h = rw (every-all n p (λ i k. h i (omega arith)), h n (omega arith))
 
+pub and-none : (b : Bool) → (b && false) ≡ false
+and-none true = refl
+and-none false = refl
+
 pub every-not : (n : ℕ) (p : ℕ → Bool) (i : ℕ) → i < n → p i ≡ false → every n p ≡ false
 unfolding every
 every-not zero p i h e = absurd (omega arith)
@@ -36,10 +40,6 @@ every-not (suc n) p i h e =
     (λ (k : i ≡ n). let z : p n ≡ false = ap p (sym k) ∙ e in rw z (and-none (every n p)))
     (λ (k : i < n). rw (every-not n p i k e))
     (eq-or-lt-of-le (le-of-suc-le-suc h))
-  where
-    and-none : (b : Bool) → (b && false) ≡ false
-    and-none true = refl
-    and-none false = refl
 
 module _ (R : Rules) (times : ℕ) (n : ℕ → ℕ) (t : ℕ) where
   pub within-at : within R times n t ≡ true → (s : ℕ) → s < R .switches → inSet (R .via t) s ≡ true → 1000 * lastStage R * n s ≤ times * spare R s

@@ -1,9 +1,9 @@
 -- "all is done after stage k": every tunnel to add is in by then, and every one to remove is out.
 use Prim.Native.Nat.{ℕ, zero, suc, _+_, _*_, _^_, _≤_, _<_}
 use mathlib.Core.Path.{_≡_, refl, sym, _∙_}
-use mathlib.Core.Logic.{_≢_, ⊎-elim}
-use mathlib.Core.Bool.{true, false, _&&_, true≢false}
-use native.Mathlib.Nat.{eq-or-lt-of-le, le-of-suc-le-suc, mul-le-mul-left}
+use mathlib.Core.Logic.{_≢_}
+use mathlib.Core.Bool.{true, false, true≢false}
+use native.Mathlib.Nat.{mul-le-mul-left}
 use native.Mathlib.Omega.{arith}
 use borrow.Author.Tests.{eq-eqb}
 use lib.Count.{trailingZeros}
@@ -11,10 +11,10 @@ use Rattle.model.specs.Limits.{leastShare, mostShare}
 use Rattle.model.specs.Sets.{inSet}
 use Rattle.model.proofs.Sets.{at-lowest, set-within}
 use Rattle.rules.specs.Rules.{Rules, keep, add, remove, isKind, count, lastStage, spare}
-use Rattle.rules.specs.Stage.{adds, removes, Stages, moved, waits, goes, given, pass, stage, stages}
+use Rattle.rules.specs.Stage.{adds, removes, Stages, moved, waits, goes, pass, stage, stages}
 use Rattle.rules.proofs.Counts.{within-all, count-some, count-kind}
-use Rattle.rules.proofs.Passes.{waits-is, is-waiting, turn-cases, pass-other}
-use Rattle.rules.proofs.Bounds.{last-pos, remaining-most, given-at, given-waits}
+use Rattle.rules.proofs.Passes.{is-waiting, pass-stayed, pass-other}
+use Rattle.rules.proofs.Bounds.{last-pos, remaining-most}
 
 -- what a good list says of its figures
 pub record Valid (R : Rules) : Type 0 where
@@ -47,28 +47,10 @@ module _ (R : Rules) (v : Valid R) (fits : Fits R) where
       let few : count R (moved R adds f) s + 1 ≤ count R (isKind R add) s = omega (arith, count-kind R s adds f, count-some R s (waits R adds f) t h w e) in
       omega (arith, mul-le-mul-left (1000 * k) few, mul-le-mul-left k (fits .new s l)))
 
-  in-last : (f : Stages) (n : ℕ) → n ≤ R .tunnels → (u : ℕ) → u < n → waits R adds (pass R adds k f n) u ≢ true
-  unfolding pass
-  in-last f zero l u b w = omega (arith, b)
-  in-last f (suc n) l u b w =
-      let g : Stages = pass R adds k f n in
-      let rest : (u : ℕ) → u < n → waits R adds g u ≢ true = in-last f n (omega (arith, l)) in
-      ⊎-elim
-      (λ c.
-      let w' : waits R adds (given true n k g) u ≡ true = rw (c .2) at w in
-      ⊎-elim
-      (λ (z : u ≡ n). omega (arith, waits-is R adds (given true n k g) u w' .1, given-at g n k u z, last-pos R (v .slack)))
-      (λ (z : u < n). rest u z (given-waits R adds g n k u (λ y. omega (arith, y, z)) w'))
-      (eq-or-lt-of-le (le-of-suc-le-suc b)))
-      (λ c.
-      let w' : waits R adds g u ≡ true = rw (c .1) at w in
-      ⊎-elim
-      (λ (z : u ≡ n).
-      let here : waits R adds g n ≡ true = rw z at w' in
-      let stays : (true && true) ≡ false = rw (here, goes-last g n (omega (arith, l)) here) at (c .0) in true≢false stays)
-      (λ (z : u < n). rest u z w')
-      (eq-or-lt-of-le (le-of-suc-le-suc b)))
-      (turn-cases R adds k g n)
+  in-last : (f : Stages) (u : ℕ) → u < R .tunnels → waits R adds (pass R adds k f (R .tunnels)) u ≢ true
+  in-last f u h w =
+      let c = pass-stayed R adds k f (R .tunnels) (last-pos R (v .slack)) u h w in
+      true≢false (sym (goes-last (pass R adds k f u) u h (c .0)) ∙ c .1)
 
   pub all-in : (t : ℕ) → t < R .tunnels → R .kind t ≡ add → stages R k t ≢ 0
   unfolding stages stage
@@ -79,7 +61,7 @@ module _ (R : Rules) (v : Valid R) (fits : Fits R) where
       go (suc j) q z =
           let g : Stages = pass R adds (suc j) (stages R j) (R .tunnels) in
           let same : pass R removes (suc j) g (R .tunnels) t ≡ g t = pass-other R removes (suc j) g (R .tunnels) t (λ y. omega (arith, y, e)) in
-          in-last (stages R j) (R .tunnels) (omega arith) t h (rw (← q) (is-waiting R adds g t e (sym same ∙ z)))
+          in-last (stages R j) t h (rw (← q) (is-waiting R adds g t e (sym same ∙ z)))
 
   pub all-out : (t : ℕ) → t < R .tunnels → R .kind t ≡ remove → stages R k t ≢ 0
   all-out t h e z =

@@ -2,7 +2,7 @@
 use Prim.Native.Nat.{ℕ, zero, suc, _+_, _-_, _*_, _≤_, _<_}
 use mathlib.Core.Path.{_≡_, refl, sym, ap, _∙_}
 use mathlib.Core.Logic.{_≢_, _⊎_, inl, inr, ⊎-elim}
-use mathlib.Core.Bool.{Bool, true, false, cond, not, _&&_, _||_}
+use mathlib.Core.Bool.{Bool, true, false, cond, not, true≢false}
 use mathlib.Core.List.{List}
 use mathlib.Core.Option.{Option, none, some}
 use native.Mathlib.Nat.{mul-le-mul-right, le-of-mul-le-mul-left}
@@ -13,7 +13,7 @@ use borrow.Author.Tests.{leb-true, leb-false, ltb-true, ltb-false, le-leb, lt-le
 use Rattle.model.specs.Search.{onlyIf, orElse}
 use Rattle.model.specs.Listed.{listed}
 use Rattle.model.specs.Outcome.{good, unless, unfit, Place}
-use Rattle.model.proofs.Searches.{bool-cases, and-true, not-true, first-none, none-first, or-none, only-none}
+use Rattle.model.proofs.Searches.{bool-cases, not-true, first-none, none-first, or-none, only-none}
 use Rattle.model.proofs.Listed.{listed-length, listed-at}
 use Rattle.lists.specs.Lists.{at}
 use Rattle.forms.specs.Read.{judgeList}
@@ -26,7 +26,7 @@ use Rattle.rules.specs.Claim.{isDone, holds, whole, sofar, Safe, Fit, Cl
 use Rattle.rules.proofs.Judged.{good-rules}
 use Rattle.rules.proofs.Longest.{longest}
 use Rattle.rules.proofs.Counts.{count-three}
-use Rattle.rules.proofs.Passes.{kind-is, is-kind, not-kind, is-waiting, is-moved, stages-le, stages-kept, given-early, given-late}
+use Rattle.rules.proofs.Passes.{kind-is, is-kind, not-kind, is-not-kind, is-waiting, is-moved, stages-le, stages-kept, given-early, given-late}
 use Rattle.rules.proofs.Bounds.{last-pos, last-slack, added-most, remaining-most}
 use Rattle.rules.proofs.Finish.{Valid, Fits, all-in, all-out}
 
@@ -109,46 +109,36 @@ whole-not f i t h = lt-leb (f t) i h
 
 -- ---- what the switches hold
 
-module _ (R : Rules) (f : Stages) (i : ℕ) (c : ℕ → Bool) (t : ℕ) where
-  held : holds R f i c t ≡ true
-      → (isKind R keep t ≡ true) ⊎ (((R .kind t ≡ add) × (isDone f i c t ≡ true)) ⊎ ((R .kind t ≡ remove) × (isDone f i c t ≡ false)))
-  unfolding holds
-  held e = go (bool-cases (isKind R keep t)) (bool-cases (isKind R add t && isDone f i c t)) e
-    where
-      go : (isKind R keep t ≡ true) ⊎ (isKind R keep t ≡ false) → ((isKind R add t && isDone f i c t) ≡ true) ⊎ ((isKind R add t && isDone f i c t) ≡ false)
-          → (isKind R keep t || (isKind R add t && isDone f i c t) || (isKind R remove t && not (isDone f i c t))) ≡ true
-          → (isKind R keep t ≡ true) ⊎ (((R .kind t ≡ add) × (isDone f i c t ≡ true)) ⊎ ((R .kind t ≡ remove) × (isDone f i c t ≡ false)))
-      go (inl a) b e = inl a
-      go (inr a) (inl b) e = let s = and-true (isKind R add t) (isDone f i c t) b in inr (inl (kind-is R add t (s .0), s .1))
-      go (inr a) (inr b) e =
-          let last : (isKind R remove t && not (isDone f i c t)) ≡ true = rw (a, b) at e in
-          let s = and-true (isKind R remove t) (not (isDone f i c t)) last in
-          inr (inr (kind-is R remove t (s .0), not-true (isDone f i c t) (s .1)))
-
-  -- of a tunnel of each kind
-  holds-kept : R .kind t ≡ keep → holds R f i c t ≡ true
-  unfolding holds
-  holds-kept e = rw (is-kind R keep t e)
-
-  holds-add : R .kind t ≡ add → holds R f i c t ≡ isDone f i c t
-  unfolding holds
-  holds-add e =
-      rw (not-kind R keep t (λ z. omega (arith, z, e)), is-kind R add t e, not-kind R remove t (λ z. omega (arith, z, e))) (or-none' (isDone f i c t))
-    where
-      or-none' : (b : Bool) → (b || false) ≡ b
-      or-none' true = refl
-      or-none' false = refl
-
-  holds-remove : R .kind t ≡ remove → holds R f i c t ≡ not (isDone f i c t)
-  unfolding holds
-  holds-remove e = rw (not-kind R keep t (λ z. omega (arith, z, e)), not-kind R add t (λ z. omega (arith, z, e)), is-kind R remove t e)
-
 three : (n : ℕ) → (keep ≤ n) × (n ≤ remove) → (n ≡ keep) ⊎ ((n ≡ add) ⊎ (n ≡ remove))
 three n h =
     ⊎-elim (λ e. inl (eqb-true n keep e))
     (λ a.
     ⊎-elim (λ e. inr (inl (eqb-true n add e))) (λ b. inr (inr (omega (arith, h, eqb-false n keep a, eqb-false n add b)))) (bool-cases (eqb n add)))
     (bool-cases (eqb n keep))
+
+module _ (R : Rules) (f : Stages) (i : ℕ) (c : ℕ → Bool) (t : ℕ) (v : (keep ≤ R .kind t) × (R .kind t ≤ remove)) where
+  -- a tunnel whose move is done is held if it is in the new set, another if it is in the old one
+  holds-new : isDone f i c t ≡ true → holds R f i c t ≡ not (isKind R remove t)
+  unfolding holds isKind
+  holds-new d =
+      ⊎-elim (λ (e : R .kind t ≡ keep). rw e) (⊎-elim (λ (e : R .kind t ≡ add). rw (e, d)) (λ (e : R .kind t ≡ remove). rw (e, d))) (three (R .kind t) v)
+
+  holds-old : isDone f i c t ≡ false → holds R f i c t ≡ not (isKind R add t)
+  unfolding holds isKind
+  holds-old d =
+      ⊎-elim (λ (e : R .kind t ≡ keep). rw e) (⊎-elim (λ (e : R .kind t ≡ add). rw (e, d)) (λ (e : R .kind t ≡ remove). rw (e, d))) (three (R .kind t) v)
+
+  held : holds R f i c t ≡ true
+      → (isKind R keep t ≡ true) ⊎ (((R .kind t ≡ add) × (isDone f i c t ≡ true)) ⊎ ((R .kind t ≡ remove) × (isDone f i c t ≡ false)))
+  held h =
+      ⊎-elim
+      (λ d.
+      let other = not-true _ (sym (holds-new d) ∙ h) in
+      ⊎-elim (λ e. inl (is-kind R keep t e)) (⊎-elim (λ e. inr (inl (e, d))) (λ e. absurd (true≢false (sym (is-kind R remove t e) ∙ other)))) (three (R .kind t) v))
+      (λ d.
+      let other = not-true _ (sym (holds-old d) ∙ h) in
+      ⊎-elim (λ e. inl (is-kind R keep t e)) (⊎-elim (λ e. absurd (true≢false (sym (is-kind R add t e) ∙ other))) (λ e. inr (inr (e, d)))) (three (R .kind t) v))
+      (bool-cases (isDone f i c t))
 
 -- ---- the stages of a list that is given
 
@@ -162,11 +152,10 @@ module _ (R : Rules) (l : List ℕ) (v : Valid R) (g : staged R ≡ good l) wher
   told : (t : ℕ) → t < R .tunnels → at l t ≡ stages R k t
   told t h = ap (λ (m : List ℕ). at m t) (staged-good R l g .1) ∙ listed-at (R .tunnels) (stages R k) t h
 
-  added-some : (t : ℕ) → t < R .tunnels → R .kind t ≡ add → at l t ≢ 0
-  added-some t h e z = all-in R v fit t h e (sym (told t h) ∙ z)
-
-  removed-some : (t : ℕ) → t < R .tunnels → R .kind t ≡ remove → at l t ≢ 0
-  removed-some t h e z = all-out R v fit t h e (sym (told t h) ∙ z)
+  has-stage : (t : ℕ) → t < R .tunnels → R .kind t ≢ keep → at l t ≢ 0
+  has-stage t h n z =
+      let none = sym (told t h) ∙ z in
+      ⊎-elim n (⊎-elim (λ e. all-in R v fit t h e none) (λ e. all-out R v fit t h e none)) (three (R .kind t) (v .kind t h))
 
   last-le : (t : ℕ) → t < R .tunnels → at l t ≤ k
   last-le t h = omega (arith, told t h, stages-le R k t)
@@ -189,7 +178,7 @@ module _ (R : Rules) (l : List ℕ) (v : Valid R) (g : staged R ≡ good l) wher
       (λ a.
       let late : j < stages R k t = omega (arith, out t h (a .1), told t h) in
       inr (inr (is-waiting R removes (stages R j) t (a .0) (given-late R j k t hj late)))))
-      (held R (at l) i c t e))
+      (held R (at l) i c t (v .kind t h) e))
 
   -- where what is not done by then comes in a later stage
   free : (i s : ℕ) (c : ℕ → Bool) → i ≤ k → s < R .switches → ((t : ℕ) → t < R .tunnels → isDone (at l) i c t ≡ false → i < at l t)
@@ -217,30 +206,20 @@ module _ (R : Rules) (l : List ℕ) (v : Valid R) (g : staged R ≡ good l) wher
   begins : (t : ℕ) → t < R .tunnels → holds R (at l) 0 whole t ≡ not (isKind R add t)
   begins t h =
       ⊎-elim
-      (λ e. holds-kept R (at l) 0 whole t e ∙ sym (ap not (not-kind R add t (λ z. omega (arith, z, e)))))
-      (⊎-elim
-      (λ e. holds-add R (at l) 0 whole t e ∙ whole-not (at l) 0 t (omega (arith, added-some t h e)) ∙ sym (ap not (is-kind R add t e)))
-      (λ e. holds-remove R (at l) 0 whole t e ∙ ap not (whole-not (at l) 0 t (omega (arith, removed-some t h e))) ∙ sym (ap not (not-kind R add t (λ z. omega (arith, z, e))))))
-      (three (R .kind t) (v .kind t h))
-
-  ends : (t : ℕ) → t < R .tunnels → holds R (at l) k whole t ≡ not (isKind R remove t)
-  ends t h =
-      ⊎-elim
-      (λ e. holds-kept R (at l) k whole t e ∙ sym (ap not (not-kind R remove t (λ z. omega (arith, z, e)))))
-      (⊎-elim
-      (λ e. holds-add R (at l) k whole t e ∙ whole-done (at l) k t (last-le t h) ∙ sym (ap not (not-kind R remove t (λ z. omega (arith, z, e)))))
-      (λ e. holds-remove R (at l) k whole t e ∙ ap not (whole-done (at l) k t (last-le t h)) ∙ sym (ap not (is-kind R remove t e))))
-      (three (R .kind t) (v .kind t h))
+      (λ e.
+      let kept = kind-is R keep t e in
+      holds-new R (at l) 0 whole t (v .kind t h) (whole-done (at l) 0 t (omega (arith, told t h, stages-kept R k t kept)))
+      ∙ ap not (not-kind R remove t (λ z. omega (arith, z, kept)) ∙ sym (not-kind R add t (λ z. omega (arith, z, kept)))))
+      (λ e. holds-old R (at l) 0 whole t (v .kind t h) (whole-not (at l) 0 t (omega (arith, has-stage t h (is-not-kind R keep t e)))))
+      (bool-cases (isKind R keep t))
 
   safe : Safe R l
   safe = record {
     size = ap length (staged-good R l g .1) ∙ listed-length (R .tunnels) (stages R k);
     kept = λ t h e. told t h ∙ stages-kept R k t e;
-    moved =
-        λ t h n.
-        let some : at l t ≢ 0 = ⊎-elim (λ e. absurd (n e)) (⊎-elim (added-some t h) (removed-some t h)) (three (R .kind t) (v .kind t h)) in (omega (arith, some), last-le t h);
+    moved = λ t h n. (omega (arith, has-stage t h n), last-le t h);
     begins = begins;
-    ends = ends;
+    ends = λ t h. holds-new R (at l) k whole t (v .kind t h) (whole-done (at l) k t (last-le t h));
     free = λ i s hi h. free i s _ hi h (λ t _. picked-later (at l) i _ t tt);
     within = within;
     moments = λ i s lo hi h m n. within i s lo hi h (sofar R m n);

@@ -10,7 +10,7 @@ use borrow.Author.Tests.{le-leb, lt-leb, eq-eqb, ne-eqb, eqb-true, eqb-false}
 use Rattle.model.proofs.Searches.{bool-cases, and-true, not-true}
 use Rattle.rules.specs.Rules.{Rules, keep, isKind, count}
 use Rattle.rules.specs.Stage.{Move, adds, removes, kindOf, Stages, moved, waits, goes, given, turn, pass, stage, stages}
-use Rattle.rules.proofs.Counts.{count-cong, count-kind}
+use Rattle.rules.proofs.Counts.{count-cong, count-kind, count-waits}
 
 module _ (R : Rules) where
   pub kind-is : (k t : ℕ) → isKind R k t ≡ true → R .kind t ≡ k
@@ -24,6 +24,10 @@ module _ (R : Rules) where
   pub not-kind : (k t : ℕ) → R .kind t ≢ k → isKind R k t ≡ false
   unfolding isKind
   not-kind k t e = ne-eqb (R .kind t) k e
+
+  pub is-not-kind : (k t : ℕ) → isKind R k t ≡ false → R .kind t ≢ k
+  unfolding isKind
+  is-not-kind k t e = eqb-false (R .kind t) k e
 
   module _ (m : Move) (f : Stages) (t : ℕ) where
     pub waits-is : waits R m f t ≡ true → (R .kind t ≡ kindOf m) × (f t ≡ 0)
@@ -41,6 +45,16 @@ module _ (R : Rules) where
     pub is-moved : R .kind t ≡ kindOf m → f t ≢ 0 → moved R m f t ≡ true
     unfolding moved
     is-moved e z = rw (is-kind (kindOf m) t e, ne-eqb (f t) 0 z)
+
+  -- ---- what a stage given changes
+
+  given-at : (f : Stages) (t i u : ℕ) → u ≡ t → given true t i f u ≡ i
+  unfolding given
+  given-at f t i u e = rw (eq-eqb u t e)
+
+  given-waits : (m : Move) (f : Stages) (t i u : ℕ) → u ≢ t → waits R m (given true t i f) u ≡ true → waits R m f u ≡ true
+  unfolding waits given
+  given-waits m f t i u h w = rw (ne-eqb u t h) at w
 
   -- ---- a turn
 
@@ -96,6 +110,41 @@ module _ (R : Rules) where
     -- a tunnel that has a stage keeps it
     pub pass-keeps : (n u : ℕ) → f u ≢ 0 → pass R m i f n u ≡ f u
     pass-keeps n u h = ⊎-elim (λ e. e) (λ e. absurd (h (e .1))) (pass-at n u)
+
+  -- a tunnel that still waits after its turn did not go then
+  pub pass-stayed : (m : Move) (i : ℕ) (f : Stages) (n : ℕ) → 1 ≤ i → (u : ℕ) → u < n → waits R m (pass R m i f n) u ≡ true
+      → (waits R m (pass R m i f u) u ≡ true) × (goes R m i (pass R m i f u) u ≡ false)
+  unfolding pass
+  pass-stayed m i f zero p u h w = absurd (omega (arith, h))
+  pass-stayed m i f (suc n) p u h w =
+      let g : Stages = pass R m i f n in
+      ⊎-elim
+      (λ c.
+      let w' : waits R m (given true n i g) u ≡ true = rw (c .2) at w in
+      ⊎-elim
+      (λ (z : u ≡ n). absurd (omega (arith, p, waits-is m (given true n i g) u w' .1, given-at g n i u z)))
+      (λ (z : u < n). pass-stayed m i f n p u z (given-waits m g n i u (λ y. omega (arith, y, z)) w'))
+      (eq-or-lt-of-le (le-of-suc-le-suc h)))
+      (λ c.
+      let w' : waits R m g u ≡ true = rw (c .1) at w in
+      ⊎-elim
+      (λ (z : u ≡ n). let here : waits R m g n ≡ true = rw z at w' in rw z (here, rw here at (c .0)))
+      (λ (z : u < n). pass-stayed m i f n p u z w')
+      (eq-or-lt-of-le (le-of-suc-le-suc h)))
+      (turn-cases m i g n)
+
+  -- the later in a pass, the fewer wait
+  pub pass-fewer : (m : Move) (i : ℕ) (f : Stages) (s u n : ℕ) → u ≤ n → n ≤ R .tunnels → count R (waits R m (pass R m (suc i) f n)) s ≤ count R (waits R m (pass R m (suc i) f u)) s
+  unfolding pass
+  pass-fewer m i f s u zero h l = let e : u ≡ 0 = omega (arith, h) in rw e (omega arith)
+  pass-fewer m i f s u (suc n) h l =
+      ⊎-elim
+      (λ (e : u ≡ suc n). rw e (omega arith))
+      (λ k.
+      let rest = pass-fewer m i f s u n (le-of-suc-le-suc k) (omega (arith, l)) in
+      let g : Stages = pass R m (suc i) f n in
+      ⊎-elim (λ c. rw (c .2) (omega (arith, rest, count-waits R s m g n i (omega (arith, l)) (c .0)))) (λ c. rw (c .1) rest) (turn-cases m (suc i) g n))
+      (eq-or-lt-of-le h)
 
   -- those of the other move, counted
   module _ (m o : Move) (i : ℕ) (f : Stages) (n s : ℕ) (d : kindOf o ≢ kindOf m) where

@@ -66,10 +66,11 @@ unfoldable pub stages : Rules → ℕ → Stages
 stages R zero t = 0
 stages R (suc i) t = stage R (suc i) (stages R i) t
 
--- "18: old or new set does not fit (1000 - slack) × room / 1000 [..] place lowest switch, then second 0 old before 1 new": nothing is rounded
+-- "18: old or new set does not fit (1000 - slack) × room / 1000": the kept tunnels and those of one other kind; nothing is rounded
 unfoldable pub tooMany : Rules → ℕ → ℕ → Bool
 tooMany R other s = ltb (usable R s) (1000 * (count R (isKind R keep) s + count R (isKind R other) s))
 
+-- "place lowest switch, then second 0 old before 1 new"
 unfoldable pub unfitAt : Rules → ℕ → Option Place
 unfitAt R s = orElse (onlyIf (tooMany R remove s) (record { place = s; second = 0 })) (onlyIf (tooMany R add s) (record { place = s; second = 1 }))
 

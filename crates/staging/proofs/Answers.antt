@@ -19,7 +19,7 @@ use Rattle.forms.proofs.Answers.{NotDone}
 use Rattle.rules.specs.Rules.{Rules, remove, count, lastStage}
 use Rattle.rules.specs.Stage.{Move, adds, removes, moved, stages, lowestUnfit, staged}
 use Rattle.rules.specs.Lists.{rulesOf}
-use Rattle.staging.specs.Inner.{OfKind, counts, StagedTo, told}
+use Rattle.staging.specs.Inner.{OfKind, Spares, counts, StagedTo, told, Judged}
 use Rattle.rules.proofs.Counts.{count-who, count-kind}
 use Rattle.rules.proofs.Passes.{moved-is}
 
@@ -59,9 +59,12 @@ told-none : (o : Option Place) (a : Answer) (n : ℕ) → a ≡ told o → a ≡
 told-none none a n e d = refl
 told-none (some p) a n e d = let z : _≡_ {A = ℕ} 0 1 = cc in absurd (omega arith)
 
-module _ (l out : List ℕ) where
+module _ (l out : List ℕ) (a : Answer) (x : List ℕ) (J : Judged l a x) where
   abbrev bad : Option Place
   bad = lowestUnfit (rulesOf l)
+
+  abbrev all : List ℕ
+  all = listed (rulesOf l .tunnels) (stages (rulesOf l) (lastStage (rulesOf l)))
 
   abbrev answer : Answer
   answer = done (withRoom (length out) (staged (rulesOf l)))
@@ -69,38 +72,33 @@ module _ (l out : List ℕ) where
   abbrev after : List ℕ
   after = lent (withRoom (length out) (staged (rulesOf l))) out
 
-  pub fits-done : (a : Answer) (n : ℕ) → a ≡ told bad → a ≡ Done n → bad ≡ none
-  fits-done a n e d = told-none bad a n e d
-
-  pub stage-refused : (a : Answer) → a ≡ told bad → NotDone a → (a ≡ answer) × (out ≡ after)
+  pub stage-refused : NotDone a → (a ≡ answer) × (out ≡ after)
   unfolding staged
-  stage-refused a e t = go bad e
+  stage-refused t = go bad (J .answer)
     where
-      go : (o : Option Place) → a ≡ told o
-          → let s = unless unfit o (good (listed (rulesOf l .tunnels) (stages (rulesOf l) (lastStage (rulesOf l))))) in
-          (a ≡ done (withRoom (length out) s)) × (out ≡ lent (withRoom (length out) s) out)
-      go none e = absurd (not-done a 0 e t)
-        where
-          not-done : (a : Answer) (n : ℕ) → a ≡ Done n → NotDone a → ⊥
-          not-done a n e t = ⊎-elim (λ k. omega arith) (λ k. omega arith) (rw e at t)
+      go : (o : Option Place) → a ≡ told o → (a ≡ done (withRoom (length out) (unless unfit o (good all)))) × (out ≡ lent (withRoom (length out) (unless unfit o (good all))) out)
+      go none e = absurd (⊎-elim (λ k. omega arith) (λ k. omega arith) (rw e at t))
       go (some p) e = (e, refl)
 
-  abbrev all : List ℕ
-  all = listed (rulesOf l .tunnels) (stages (rulesOf l) (lastStage (rulesOf l)))
+  module _ (n : ℕ) (d : a ≡ Done n) where
+    fit : bad ≡ none
+    fit = told-none bad a n (J .answer) d
 
-  all-length : length all ≡ at l 3
-  unfolding rulesOf
-  all-length = listed-length (at l 3) _
+    pub stage-spares : Spares (rulesOf l) x
+    stage-spares = J .spares fit
 
-  pub stage-none : bad ≡ none → length out < at l 3 → (Refused 10 (at l 3) 0 ≡ answer) × (out ≡ after)
-  unfolding staged
-  stage-none e h =
-      let g = give-none all out (rw all-length h) in
-      rw e (ap (λ (n : ℕ). Refused 10 n 0) (sym all-length) ∙ sym (g .0), sym (g .1))
+    all-length : length all ≡ at l 3
+    unfolding rulesOf
+    all-length = listed-length (at l 3) _
 
-  pub stage-all : bad ≡ none → at l 3 ≤ length out
-      → (Done (at l 3) ≡ answer) × (listed (at l 3) (stages (rulesOf l) (lastStage (rulesOf l))) ++ drop (at l 3) out ≡ after)
-  unfolding staged rulesOf
-  stage-all e h =
-      let g = give-all all out (rw all-length h) in
-      rw e (ap Done (sym all-length) ∙ sym (g .0), ap (λ (n : ℕ). all ++ drop n out) (sym all-length) ∙ sym (g .1))
+    pub stage-none : length out < at l 3 → (Refused 10 (at l 3) 0 ≡ answer) × (out ≡ after)
+    unfolding staged
+    stage-none h =
+        let g = give-none all out (rw all-length h) in
+        rw fit (ap (λ (n : ℕ). Refused 10 n 0) (sym all-length) ∙ sym (g .0), sym (g .1))
+
+    pub stage-all : at l 3 ≤ length out → (Done (at l 3) ≡ answer) × (listed (at l 3) (stages (rulesOf l) (lastStage (rulesOf l))) ++ drop (at l 3) out ≡ after)
+    unfolding staged rulesOf
+    stage-all h =
+        let g = give-all all out (rw all-length h) in
+        rw fit (ap Done (sym all-length) ∙ sym (g .0), ap (λ (n : ℕ). all ++ drop n out) (sym all-length) ∙ sym (g .1))

@@ -1,16 +1,16 @@
 -- Laws of the judging of the switches, one after the other: none so far is too full, and what is spare at each is in the table.
 use Prim.Native.Nat.{ℕ, _+_, _-_, _*_, _≤_, _<_}
-use mathlib.Core.Path.{_≡_, sym, ap, _∙_}
+use mathlib.Core.Path.{_≡_, refl, sym, ap, _∙_}
 use mathlib.Core.Logic.{⊎-elim}
-use mathlib.Core.Bool.{Bool}
+use mathlib.Core.Bool.{Bool, true, false, cond}
 use mathlib.Core.List.{List}
 use mathlib.Core.Option.{none, some, Option·some-ne-none}
 use native.Mathlib.Nat.{mul-le-mul}
 use native.Mathlib.Omega.{arith}
 use lib.ListN.{length, set, replicate, length-set, length-replicate, getD-replicate}
 use lib.Seq.{getD-set-same, getD-set-other}
-use lib.Dec.{eqb}
-use borrow.Author.Tests.{lt-ltb, le-ltb, eqb-true, eqb-false}
+use lib.Dec.{ltb, eqb}
+use borrow.Author.Tests.{ltb-false, eqb-true, eqb-false}
 use Rattle.model.specs.Limits.{mostTunnels, mostSwitches, mostRoom}
 use Rattle.model.specs.Search.{onlyIf, orElse, first}
 use Rattle.model.specs.Outcome.{Place}
@@ -20,7 +20,7 @@ use Rattle.lists.specs.declared.Answer.the-variants.{Done, Refused}
 use Rattle.rules.specs.Rules.{Rules, keep, add, remove, isKind, count, usable, spare}
 use Rattle.rules.specs.Stage.{tooMany, unfitAt, lowestUnfit}
 use Rattle.rules.specs.Lists.{rulesOf, GoodRules}
-use Rattle.staging.specs.Inner.{Table, Counted, Kinds, Judged}
+use Rattle.staging.specs.Inner.{Table, Counted, Kinds, unfitBy, Judged}
 use Rattle.staging.proofs.Tallies.{counted-table}
 
 pub record Judging (R : Rules) (n : ℕ) (x : List ℕ) : Type 0 where
@@ -46,6 +46,20 @@ judging-end l x n J e =
 
 -- ---- at switch s
 
+abbrev spot : ℕ → ℕ → Place
+spot s n = record { place = s; second = n }
+
+pick : (a b : Bool) (s n : ℕ) → n ≡ cond a 0 (cond b 1 2) → n < 2 → orElse (onlyIf a (spot s 0)) (onlyIf b (spot s 1)) ≡ some (spot s n)
+unfolding onlyIf orElse
+pick true b s n e h = rw e refl
+pick false true s n e h = rw e refl
+pick false false s n e h = absurd (omega (arith, e, h))
+
+pick-none : (a b : Bool) (n : ℕ) → n ≡ cond a 0 (cond b 1 2) → 2 ≤ n → (a ≡ false) × (b ≡ false)
+pick-none true b n e h = absurd (omega (arith, e, h))
+pick-none false true n e h = absurd (omega (arith, e, h))
+pick-none false false n e h = (refl, refl)
+
 module _ (l kept adding removing : List ℕ) (g : GoodRules l) (K : Kinds l kept adding removing) (s : ℕ) (h : s < at l 2) where
   abbrev R : Rules
   R = rulesOf l
@@ -66,31 +80,33 @@ module _ (l kept adding removing : List ℕ) (g : GoodRules l) (K : Kinds l kept
   pub usable-most : (1000 - at l 1) * at l (4 + s) ≤ 1000 * mostRoom
   usable-most = let part : 1000 - at l 1 ≤ 1000 = omega arith in mul-le-mul part (g .room s h)
 
-  -- the set of the kept tunnels and those of another kind
-  set-most : (other : ℕ) (c : List ℕ) → Counted R (R .tunnels) (isKind R other) c → 1000 * (count R (isKind R keep) s + count R (isKind R other) s) ≡ 1000 * at kept s + 1000 * at c s
-  set-most other c C = omega (arith, counted _ kept (K .keeps) .0, counted _ c C .0)
+  -- the test of a set is by its counts
+  test-same : (other : ℕ) (c : List ℕ) → Counted R (R .tunnels) (isKind R other) c → tooMany R other s ≡ ltb most (1000 * (at kept s + at c s))
+  unfolding tooMany usable rulesOf
+  test-same other c C = rw (sym (counted _ kept (K .keeps) .0), sym (counted _ c C .0)) refl
 
-  module _ (x : List ℕ) (J : Judging R s x) where
-    refused : (p : Place) → unfitAt R s ≡ some p → Judged l (Refused 18 (p .place) (p .second)) x
-    unfolding rulesOf
-    refused p e =
-        let found : lowestUnfit R ≡ some p = first-at (unfitAt R) s (R .switches) p (J .fits) e h in
-        record { answer = rw found; spares = λ z. absurd (Option·some-ne-none p (sym found ∙ z)) }
+  module _ (second : ℕ) (e : second ≡ unfitBy ((1000 - at l 1) * at l (4 + s)) (at kept s) (at removing s) (at adding s)) (x : List ℕ) (J : Judging R s x) where
+    pub judging-not : second < 2 → Judged l (Refused 18 s second) x
+    unfolding rulesOf unfitAt unfitBy
+    judging-not b =
+        let found : lowestUnfit R ≡ some (spot s second) = first-at (unfitAt R) s (R .switches) _ (J .fits) here h in
+        record { answer = rw found; spares = λ z. absurd (Option·some-ne-none (spot s second) (sym found ∙ z)) }
+      where
+        here : unfitAt R s ≡ some (spot s second)
+        here = rw (test-same remove removing (K .leaves), test-same add adding (K .enters)) (pick _ _ s second e b)
 
-    pub judging-old : (1000 - at l 1) * at l (4 + s) < 1000 * at kept s + 1000 * at removing s → Judged l (Refused 18 s 0) x
-    unfolding unfitAt tooMany onlyIf orElse usable rulesOf
-    judging-old b = refused (record { place = s; second = 0 }) (rw (set-most remove removing (K .leaves), lt-ltb _ _ b))
+    module _ (n : 2 ≤ second) where
+      fit : (ltb most (1000 * (at kept s + at removing s)) ≡ false) × (ltb most (1000 * (at kept s + at adding s)) ≡ false)
+      unfolding unfitBy
+      fit = pick-none _ _ second e n
 
-    module _ (old : 1000 * at kept s + 1000 * at removing s ≤ (1000 - at l 1) * at l (4 + s)) where
-      pub judging-new : (1000 - at l 1) * at l (4 + s) < 1000 * at kept s + 1000 * at adding s → Judged l (Refused 18 s 1) x
-      unfolding unfitAt tooMany onlyIf orElse usable rulesOf
-      judging-new b =
-          refused (record { place = s; second = 1 }) (rw (set-most remove removing (K .leaves), set-most add adding (K .enters), le-ltb _ _ old, lt-ltb _ _ b))
+      pub kept-most : 1000 * at kept s ≤ (1000 - at l 1) * at l (4 + s)
+      kept-most = omega (arith, ltb-false most (1000 * (at kept s + at removing s)) (fit .0))
 
-      pub judging-on : 1000 * at kept s + 1000 * at adding s ≤ (1000 - at l 1) * at l (4 + s) → Judging R (s + 1) (set x s ((1000 - at l 1) * at l (4 + s) - 1000 * at kept s))
-      unfolding unfitAt tooMany onlyIf orElse spare usable rulesOf
-      judging-on new = record {
-        fits = first-on (unfitAt R) s (J .fits) (rw (set-most remove removing (K .leaves), set-most add adding (K .enters), le-ltb _ _ old, le-ltb _ _ new));
+      pub judging-on : Judging R (s + 1) (set x s ((1000 - at l 1) * at l (4 + s) - 1000 * at kept s))
+      unfolding unfitAt onlyIf orElse spare usable rulesOf
+      judging-on = record {
+        fits = first-on (unfitAt R) s (J .fits) (rw (test-same remove removing (K .leaves), test-same add adding (K .enters), fit .0, fit .1));
         table = record { size = length-set x s _ ∙ J .table .size; most = small };
         each = each;
       }

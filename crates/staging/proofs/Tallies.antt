@@ -15,6 +15,10 @@ use Rattle.rules.specs.Rules.{Rules, isKind, rule}
 use Rattle.rules.specs.Lists.{tunnelAt, rulesOf}
 use Rattle.staging.specs.Inner.{Table, Counted, Shifted, Shiftable}
 
+pub cond-zero : (b : Bool) → _≡_ {A = ℕ} (cond b 0 0) 0
+cond-zero true = refl
+cond-zero false = refl
+
 rule-le : (R : Rules) (s t : ℕ) → rule R s t ≤ 1
 unfolding rule
 rule-le R s t = go (inSet (R .via t) s)
@@ -38,12 +42,8 @@ module _ (R : Rules) (n : ℕ) (p : ℕ → Bool) (c : List ℕ) where
   unfolding rule
   counted-take c′ C e S = record {
     size = S .size ∙ C .size;
-    each = λ s h. omega (arith, S .each s h, C .each s h, sum-take n p (rule R s) e, none (inSet (R .via n) s));
+    each = λ s h. omega (arith, S .each s h, C .each s h, sum-take n p (rule R s) e, cond-zero (inSet (R .via n) s));
   }
-    where
-      none : (b : Bool) → _≡_ {A = ℕ} (cond b 0 0) 0
-      none true = refl
-      none false = refl
 
   pub counted-skip : Counted R n p c → p n ≡ false → Counted R (n + 1) p c
   counted-skip C e = record { size = C .size; each = λ s h. C .each s h ∙ sym (sum-skip n p (rule R s) e) }

@@ -1,10 +1,10 @@
 -- What the inner functions of the code ask for and give.
 use Prim.Native.Nat.{ℕ, _+_, _-_, _*_, _≤_, _<_}
 use mathlib.Core.Path.{_≡_}
-use mathlib.Core.Bool.{Bool, true, cond, not, _||_}
+use mathlib.Core.Bool.{Bool, Bool·beq, true, cond, not, _||_}
 use mathlib.Core.List.{List}
 use mathlib.Core.Option.{Option, none, some}
-use lib.Dec.{leb, eqb}
+use lib.Dec.{leb, ltb, eqb}
 use lib.ListN.{length}
 use Rattle.model.specs.Limits.{mostTunnels, mostSwitches, mostRoom}
 use Rattle.model.specs.Sum.{sumOver}
@@ -81,7 +81,7 @@ fitsAll via unit more times c x = every mostSwitches (λ s. not (inSet via s) ||
 
 -- a tunnel to add goes where there is room, one to remove where there is not
 unfoldable pub goesBy : ℕ → Bool → Bool
-goesBy kind b = cond (eqb kind add) b (not b)
+goesBy kind b = Bool·beq b (eqb kind add)
 
 -- what a turn and a pass start from: good tables, the spares, the stages so far in o, and the counts of the kind that moves in c
 pub record Ready (l x : List ℕ) (kind stage times unit : ℕ) (c o : List ℕ) : Type 0 where
@@ -105,6 +105,10 @@ pub record StagedTo (l : List ℕ) (i : ℕ) (a r o : List ℕ) : Type 0 where
   pub stages : at o ≡ stages (rulesOf l) i
 
 -- ---- refusal 18
+
+-- the second of the refusal at a switch, 2 where there is none
+unfoldable pub unfitBy : ℕ → ℕ → ℕ → ℕ → ℕ
+unfitBy usable kept removing adding = cond (ltb usable (1000 * (kept + removing))) 0 (cond (ltb usable (1000 * (kept + adding))) 1 2)
 
 abbrev pub told : Option Place → Answer
 told none = Done 0

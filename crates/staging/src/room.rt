@@ -1,16 +1,31 @@
 // Do the old and the new set fit, and what is spare beside the kept tunnels?
 ghost use mathlib.Core.Path.{_≡_};
+ghost use Prim.Native.Nat.{_≤_};
 ghost use lib.ListN.{replicate};
 ghost use Rattle.rules.specs.Rules.{remove};
 ghost use Rattle.rules.specs.Lists.{GoodRules};
-ghost use Rattle.model.specs.Limits.{mostSwitches};
-ghost use Rattle.staging.specs.Inner.{OfKind, Kinds, Judged};
+ghost use Rattle.model.specs.Limits.{mostTunnels, mostSwitches};
+ghost use Rattle.staging.specs.Inner.{OfKind, Kinds, unfitBy, Judged};
 use crate::tables;
 use crate::tables::SWITCHES;
 use lists::Answer;
 use lists::RuleTables;
 
-// Refusal 18 for the first switch that they do not fit, old before new; else done, with the spares in their table.
+// Which set does not fit what may be used of a switch: 0 the old one, 1 the new one, 2 neither.
+fn unfit(usable: u64, kept: u64, removing: u64, adding: u64) -> u64
+    requires { ⌜ (kept ≤ mostTunnels) × (removing ≤ mostTunnels) × (adding ≤ mostTunnels) ⌝ }
+    ensures { λ r. ⌜ r ≡ unfitBy usable kept removing adding ⌝ }
+{
+    if usable < 1000 * (kept + removing) {
+        return 0;
+    }
+    if usable < 1000 * (kept + adding) {
+        return 1;
+    }
+    2
+}
+
+// Refusal 18 for the first switch that a set does not fit, the old one before the new; else done, with the spares in their table.
 fn by_counts(
     list: &[u64],
     kept: &[u64],
@@ -27,22 +42,16 @@ fn by_counts(
     let mut s: usize = 0;
     while s < switches {
         let usable = free * list[4 + s];
-        let used = 1000 * kept[s];
-        if usable < used + 1000 * removing[s] {
+        let held = kept[s];
+        let second = unfit(usable, held, removing[s], adding[s]);
+        if second < 2 {
             return Answer::Refused {
                 number: 18,
                 place: s as u64,
-                second: 0,
+                second,
             };
         }
-        if usable < used + 1000 * adding[s] {
-            return Answer::Refused {
-                number: 18,
-                place: s as u64,
-                second: 1,
-            };
-        }
-        spares[s] = usable - used;
+        spares[s] = usable - 1000 * held;
         s += 1;
     }
     Answer::Done(0)

@@ -3,13 +3,12 @@ ghost use mathlib.Core.Path.{_≡_};
 ghost use mathlib.Core.List.{_++_};
 ghost use Prim.Native.Nat.{_-_, _*_, _≤_, _<_};
 ghost use lib.ListN.{length, drop};
-ghost use Rattle.model.specs.Limits.{mostTunnels, mostSteps, mostRoom};
 ghost use Rattle.model.specs.Listed.{listed};
 ghost use Rattle.lists.specs.Lists.{at};
 ghost use Rattle.rules.specs.Stage as model;
-ghost use Rattle.rules.specs.Rules.{add, remove, lastStage};
+ghost use Rattle.rules.specs.Rules.{remove, lastStage};
 ghost use Rattle.rules.specs.Lists.{tunnelAt, rulesOf, GoodRules};
-ghost use Rattle.staging.specs.Inner.{Table, OfKind, Spares, Ready, Reached, StagedTo, moveOf, goesBy, fitsAll};
+ghost use Rattle.staging.specs.Inner.{OfKind, Spares, Ready, Reached, StagedTo, moveOf};
 use crate::tables;
 use crate::tables::SWITCHES;
 use lists::RuleTables;
@@ -22,21 +21,6 @@ struct Terms {
     pub stage: u64,
     pub times: u64,
     pub unit: u64,
-}
-
-// Does a tunnel across a set of switches go? One to add does where the test passes with it at each switch; one to remove, which is counted, where it does not.
-fn goes(counts: &[u64], spares: &[u64], via: u64, p: Terms) -> bool
-    requires { ⌜ Table mostTunnels (now counts) × Table (1000 * mostRoom) (now spares) ⌝ }
-    requires { ⌜ (add ≤ p .kind) × (p .kind ≤ remove) × (p .times ≤ mostSteps) × (p .unit ≤ 1000 * mostSteps) ⌝ }
-    ensures { λ r. ⌜ r ≡ goesBy (p .kind) (fitsAll via (p .unit) (remove - p .kind) (p .times) (now (counts .entry)) (now (spares .entry))) ⌝ }
-{
-    let more = RuleTables::REMOVE - p.kind;
-    let fits = tables::fits(counts, spares, via, p.unit, more, p.times);
-    if p.kind == RuleTables::ADD {
-        fits
-    } else {
-        !fits
-    }
 }
 
 // The turn of tunnel t, whose numbers stand in the list from `from` on: if it is of the kind, has no stage yet and goes, it has this stage.
@@ -61,14 +45,12 @@ fn turn(
         return;
     }
     let via = list[from];
-    if goes(counts, spares, via, p) {
+    let more = RuleTables::REMOVE - kind;
+    let fits = tables::fits(counts, spares, via, p.unit, more, p.times);
+    // One to add goes where it fits, one to remove, which is counted, where it does not.
+    if fits == (kind == RuleTables::ADD) {
         stages[t] = p.stage;
-        tables::shift(
-            counts,
-            via,
-            RuleTables::REMOVE - kind,
-            kind - RuleTables::ADD,
-        );
+        tables::shift(counts, via, more, kind - RuleTables::ADD);
     }
 }
 

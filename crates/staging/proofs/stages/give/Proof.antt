@@ -35,7 +35,11 @@ same-length-2 : tie.Need-same-length-2
 same-length-2 c = search needs
 
 returns : tie.Need-returns
-returns c = let a = c .before .before .before .before .before .before .before .before .before .before .before .before .before .before .before .before .before .before .args in c .before .before .copy .ensures ∙ ap (λ (f : Stages). listed (at (a .list .now) 3) f ++ drop (at (a .list .now) 3) (a .out .now)) (c .before .before .before .before .before .before .before .before .before .before .run .ensures .stages)
+returns c =
+    let c1 = c .before .before in
+    let c2 = c1 .before .before .before .before .before .before .before .before in
+    let c3 = c2 .before .before .before .before .before .before .before .before in
+    let a = c3 .args in c1 .copy .ensures ∙ ap (λ (f : Stages). listed (at (a .list .now) 3) f ++ drop (at (a .list .now) 3) (a .out .now)) (c2 .run .ensures .stages)
 
 pub give-spec : {M : Type 1} → statement M
 give-spec =

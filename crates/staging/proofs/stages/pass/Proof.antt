@@ -31,10 +31,20 @@ loop-holds : tie.Need-loop-holds Inv-loop μ-loop
 loop-holds c = record { low = omega arith; here = omega (arith, c .tunnels-at .ensures, c .before .of .ensures); reached = reached-start _ _ _ _ _ _ _ _ (c .before .before .before .before .before .before .pre) }
 
 turn-requires : tie.Need-turn-requires Inv-loop μ-loop
-turn-requires c κs = (ready-on _ _ _ _ _ _ _ _ _ _ _ (c .before .before .before .before .before .before .before .before .before .before .pre) (c .before .before .before .loop .inv .reached), (omega (arith, c .before .before .before .before .before .of .ensures, c .before .before .loop-test .taken), c .before .before .before .loop .inv .here))
+turn-requires c κs =
+    let c1 = c .before .before in
+    let c2 = c1 .before in
+    let c3 = c2 .before .before in
+    let c4 = c3 .before .before .before .before .before in
+    (ready-on _ _ _ _ _ _ _ _ _ _ _ (c4 .pre) (c2 .loop .inv .reached), (omega (arith, c3 .of .ensures, c1 .loop-test .taken), c2 .loop .inv .here))
 
 add-from : tie.Need-add-from Inv-loop μ-loop
-add-from c = omega (arith, c .before .before .before .before .before .before .before .before .loop .inv .here, c .before .before .before .before .before .before .before .before .before .before .before .before .before .before .before .pre .good .size, c .before .before .before .before .before .before .before .before .before .before .of .ensures, c .before .before .before .before .before .before .before .loop-test .taken)
+add-from c =
+    let c1 = c .before .before .before .before .before .before .before in
+    let c2 = c1 .before in
+    let c3 = c2 .before .before in
+    let c4 = c3 .before .before .before .before .before in
+    omega (arith, c2 .loop .inv .here, c4 .pre .good .size, c3 .of .ensures, c1 .loop-test .taken)
 
 add-t : tie.Need-add-t Inv-loop μ-loop
 add-t c = search needs

@@ -51,12 +51,18 @@ loop-less : tie.Need-loop-less Inv-loop μ-loop
 loop-less c = omega (arith, c .before .before .before .before .before .before .before .before .before .before .before .before .before .before .loop-test .taken)
 
 loop-again : tie.Need-loop-again Inv-loop μ-loop
-loop-again c = let p = c .before .before .before .before .before .before .before .before .before .before .before .before .before .before .before .before .before .before .before .before .before .before .before .pre .0 in
-    let i = c .before .before .before .before .before .before .before .before .before .before .before .before .before .before .before .loop .inv in
+loop-again c =
+    let c1 = c .before .before .before .before in
+    let c2 = c1 .before .before .before .before .before .before .before in
+    let c3 = c2 .before .before .before in
+    let c4 = c3 .before in
+    let c5 = c4 .before .before .before .before .before .before .before .before in
+    let p = c5 .pre .0 in
+    let i = c4 .loop .inv in
     record {
-      low = omega (arith, c .before .before .before .before .before .before .before .before .before .before .before .before .before .before .loop-test .taken);
+      low = omega (arith, c3 .loop-test .taken);
       is-last = i .is-last;
-      staged = staged-on _ _ (p .0) (p .1) _ (i .is-last) _ (c .before .before .before .before .before .before .before .before .before .before .before .before .before .before .loop-test .taken) _ _ _ (i .staged) _ _ (c .before .before .before .before .before .before .before .before .before .before .before .pass .ensures) _ _ (c .before .before .before .before .pass2 .ensures);
+      staged = staged-on _ _ (p .0) (p .1) _ (i .is-last) _ (c3 .loop-test .taken) _ _ _ (i .staged) _ _ (c2 .pass .ensures) _ _ (c1 .pass2 .ensures);
     }
 
 same-length : tie.Need-same-length Inv-loop μ-loop
