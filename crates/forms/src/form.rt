@@ -178,7 +178,8 @@ fn network_body(links: u64, flows: u64, tunnels: u64, n: u64) -> Field
     Field::End
 }
 
-fn network_field(done: &[u64]) -> Field
+// What stands after some numbers of a network.
+pub fn network_field(done: &[u64]) -> Field
     ensures { λ r. ⌜ r ≡ fieldOf Form.Network (now (done .entry)) ⌝ }
 {
     let n = done.len();
@@ -200,7 +201,8 @@ fn plan_head(n: usize) -> Field
     }
 }
 
-fn plan_field(done: &[u64]) -> Field
+// What stands after some numbers of a plan, each of which its own field allows.
+pub fn plan_field(done: &[u64]) -> Field
     requires { ⌜ Sound Form.Plan (now done) ⌝ }
     ensures { λ r. ⌜ r ≡ fieldOf Form.Plan (now (done .entry)) ⌝ }
 {
@@ -265,8 +267,8 @@ pub fn rules_field(done: &[u64]) -> Field
     rules_body(done[2], done[3], (n - 4) as u64)
 }
 
-// What stands after some numbers, each of which its own field allows.
-pub fn field_after(form: Form, done: &[u64]) -> Field
+// The same for any form. For the judges alone: with one caller the compiler puts it into their loop, and that is what it is fast by.
+pub(crate) fn field_after(form: Form, done: &[u64]) -> Field
     requires { ⌜ Sound form (now done) ⌝ }
     ensures { λ r. ⌜ r ≡ fieldOf form (now (done .entry)) ⌝ }
 {

@@ -6,7 +6,7 @@ ghost use lib.ListN.{length, drop};
 ghost use Rattle.model.specs.Outcome.{Outcome};
 ghost use Rattle.lists.specs.Answers.{done, withRoom, lent};
 ghost use Rattle.forms.specs.Slots.{keyBytes};
-ghost use Rattle.forms.specs.Form.{secondOf, mostOf};
+ghost use Rattle.forms.specs.Form.{secondOf, mostOf, fieldOf, Sound};
 ghost use Rattle.forms.specs.Read.{readLines};
 ghost use Rattle.readers.specs.Read.{takenOf, nextOf, answerOf, Begun, ReadOn, Holds};
 ghost use Rattle.forms.specs.Named.{readNetwork, readPlan, readRules};
@@ -97,6 +97,19 @@ fn answer(taken: Taken, count: usize, line: u64, form: Form) -> Answer
     }
 }
 
+// What the form has after some numbers, each of which its own field allows. A function of the readers, which the compiler puts into
+// their loop: one that is called elsewhere too would stay a call for each line.
+fn field_after(form: Form, done: &[u64]) -> Field
+    requires { ⌜ Sound form (now done) ⌝ }
+    ensures { λ r. ⌜ r ≡ fieldOf form (now (done .entry)) ⌝ }
+{
+    match form {
+        Form::Network => form::network_field(done),
+        Form::Plan => form::plan_field(done),
+        Form::Rules => form::rules_field(done),
+    }
+}
+
 // Where the reading stops: how many numbers are read, where the line after them begins, and what that gives.
 struct Stopped {
     count: usize,
@@ -122,7 +135,7 @@ fn read_on(
     let mut at = from;
     let mut i = count;
     loop {
-        let field = form::field_after(form, &vals[..i]);
+        let field = field_after(form, &vals[..i]);
         let taken = next_line(keys, text, at, field);
         let Taken::Number(v, next) = taken else {
             return Stopped {
