@@ -10,17 +10,18 @@ use lib.ListN.{take-append-drop, length, getD, take, drop, set, length-append, l
 use lib.Seq.{take-append-le, length-take-le, take-take, take-at, drop-at, drop-drop, set-split, take-length, paste, paste-suc}
 use borrow.Author.Tests.{lt-ltb}
 use Rattle.forms.specs.Form.{Whole}
-use Rattle.forms.specs.Write.{digitChar, digitsIn, widthOf}
+use Rattle.forms.specs.Write.{digitChar, digitsIn, widthOf, render, writeText}
 use Rattle.forms.specs.declared.form.Form.{Form}
 use Rattle.model.specs.Outcome.{good}
 use Rattle.lists.specs.Answers.{done, withRoom, lent}
-use Rattle.lists.specs.declared.Answer.the-variants.{Done}
+use Rattle.lists.specs.declared.Answer.{Answer}
+use Rattle.lists.specs.declared.Answer.the-variants.{Done, Refused}
 use Rattle.forms.specs.Read.{judgeList}
-use Rattle.lists.proofs.Rooms.{give-all}
+use Rattle.lists.proofs.Rooms.{give-none, give-all}
 use Rattle.forms.proofs.Answers.{done-good}
 use Rattle.forms.proofs.Numbers.{length-digits}
 use Rattle.forms.proofs.Walks.{judged-good}
-use Rattle.writers.specs.Write.{placed, Puts}
+use Rattle.writers.specs.Write.{placed, Puts, Needed}
 use Rattle.writers.proofs.Digits.{digits-split, width-split}
 
 -- ---- bytes put at a place
@@ -160,7 +161,7 @@ module _ (out : List ℕ) (at base n v : ℕ) where
 
 -- ---- a text that is put at the front, as it is said of an operation
 
-pub given : (s out : List ℕ) {out′ : List ℕ} {past : ℕ} → length s ≤ length out → Puts s 0 out out′ past
+given : (s out : List ℕ) {out′ : List ℕ} {past : ℕ} → length s ≤ length out → Puts s 0 out out′ past
     → (Done past ≡ done (withRoom (length out) (good s))) × (out′ ≡ lent (withRoom (length out) (good s)) out)
 given s out h p =
     let g = give-all s out h in
@@ -173,3 +174,16 @@ judged-done form l n e =
     let p = done-good (judgeList form l) n e in
     let j = judged-good form l (p .0) (p .1) in
     (p .1 ∙ ap good (j .same), j .whole)
+
+-- what is answered for a list that is judged good, where there is no room for its text, and where there is
+module _ (form : Form) (l out : List ℕ) (j : judgeList form l ≡ good l) where
+  pub too-long : (r : ℕ) (a : Answer) → Needed (length (render form l)) (length out) r → length out < r → a ≡ Refused 10 r 0
+      → (a ≡ done (withRoom (length out) (writeText form l))) × (out ≡ lent (withRoom (length out) (writeText form l)) out)
+  too-long r a n h e =
+      let m = n .short h in
+      let p = give-none (render form l) out (rw m at h) in
+      rw j (e ∙ ap (λ (k : ℕ). Refused 10 k 0) m ∙ sym (p .0), sym (p .1))
+
+  pub written : {out′ : List ℕ} {past : ℕ} → length (render form l) ≤ length out → Puts (render form l) 0 out out′ past
+      → (Done past ≡ done (withRoom (length out) (writeText form l))) × (out′ ≡ lent (withRoom (length out) (writeText form l)) out)
+  written h p = rw j (given (render form l) out h p)

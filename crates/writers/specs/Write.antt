@@ -1,5 +1,5 @@
 -- What a write leaves, and the lines of a list, from any on.
-use Prim.Native.Nat.{ℕ, zero, suc, _+_, _*_, _<_}
+use Prim.Native.Nat.{ℕ, zero, suc, _+_, _*_, _≤_, _<_}
 use mathlib.Core.Path.{_≡_}
 use mathlib.Core.Bool.{false}
 use mathlib.Core.List.{List, [], _∷_, _++_}
@@ -41,6 +41,11 @@ lineAt form l i = lineOf (fieldOf form (take i l)) (getD l i 0)
 unfoldable pub linesFrom : Form → List ℕ → ℕ → ℕ → List ℕ
 linesFrom form l i zero = []
 linesFrom form l i (suc n) = linesFrom form l i n ++ lineAt form l (i + n)
+
+-- how many bytes a text has, where that may be more than the room; else a number within the room
+pub record Needed (size room r : ℕ) : Type 0 where
+  pub short : room < r → r ≡ size
+  pub fits : r ≤ room → size ≤ room
 
 -- a number that can be written where a field stands: it has at most 10 digits if it is decimal
 pub record Writable (f : Field) (v : ℕ) : Type 0 where

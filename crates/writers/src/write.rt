@@ -3,13 +3,12 @@
 ghost use mathlib.Core.Path.{_≡_};
 ghost use Prim.Native.Nat.{ℕ, _+_, _*_, _-_, _≤_, _<_};
 ghost use lib.ListN.{length};
-ghost use Rattle.model.specs.Outcome.{Outcome};
 ghost use Rattle.lists.specs.Answers.{done, withRoom, lent};
 ghost use Rattle.lists.specs.Lists.{at as numberAt};
 ghost use Rattle.forms.specs.Form.{Whole, mostNumbers};
 ghost use Rattle.forms.specs.Slots.{keyBytes};
 ghost use Rattle.forms.specs.Write.{digitChar, digitsIn, widthOf, lineOf, render};
-ghost use Rattle.writers.specs.Write.{Puts, decimalValue, decimalLine, hexLine, linesFrom, Decimal, Writable, widthsOf};
+ghost use Rattle.writers.specs.Write.{Puts, decimalValue, decimalLine, hexLine, linesFrom, Decimal, Writable, Needed, widthsOf};
 ghost use Rattle.forms.specs.Named.{writeNetwork, writePlan, writeRules};
 use forms::form;
 use forms::form::Field;
@@ -118,20 +117,26 @@ fn rules_len(keys: &[u8], list: &[u64]) -> usize
     sum
 }
 
-// How many bytes a list is written as, where that may be more than the room; else a number within it.
-fn needed(form: Form, list: &[u64], room: usize) -> usize
-    requires { ⌜ Whole form (now list) ⌝ }
-    ensures { λ r. ⌜ (room < r → r ≡ length (render form (now (list .entry)))) ⌝ }
-    ensures { λ r. ⌜ (r ≤ room → length (render form (now (list .entry))) ≤ room) ⌝ }
+// How many bytes a network is written as, where that may be more than the room; else a number within it.
+fn network_needed(list: &[u64], room: usize) -> usize
+    requires { ⌜ Whole Form.Network (now list) ⌝ }
+    ensures { λ r. ⌜ Needed (length (render Form.Network (now (list .entry)))) room r ⌝ }
 {
     if BYTES <= room {
         return 0;
     }
-    match form {
-        Form::Network => network_len(list),
-        Form::Plan => plan_len(list),
-        Form::Rules => rules_len(&form::KEYS, list),
+    network_len(list)
+}
+
+// The same for a plan.
+fn plan_needed(list: &[u64], room: usize) -> usize
+    requires { ⌜ Whole Form.Plan (now list) ⌝ }
+    ensures { λ r. ⌜ Needed (length (render Form.Plan (now (list .entry)))) room r ⌝ }
+{
+    if BYTES <= room {
+        return 0;
     }
+    plan_len(list)
 }
 
 // Puts some bytes at a place. This and the functions below answer the place past what they put.
@@ -433,24 +438,13 @@ fn put_rules(out: &mut [u8], keys: &[u8], list: &[u64]) -> usize
     p
 }
 
-// Writes a list that is judged good, where there is room for it.
-fn write_good(form: Form, list: &[u64], out: &mut [u8]) -> Answer
-    requires { ⌜ Whole form (now list) ⌝ }
-    ensures { λ r. ⌜ r ≡ done (withRoom (length (now (out .entry))) (Outcome.good (render form (now (list .entry))))) ⌝ }
-    ensures { λ r. ⌜ now (out .exit) ≡ lent (withRoom (length (now (out .entry))) (Outcome.good (render form (now (list .entry))))) (now (out .entry)) ⌝ }
+fn no_room(needed: usize) -> Answer
+    ensures { λ r. ⌜ r ≡ Answer.Refused 10 needed 0 ⌝ }
 {
-    let n = needed(form, list, out.len());
-    if out.len() < n {
-        return Answer::Refused {
-            number: 10,
-            place: n as u64,
-            second: 0,
-        };
-    }
-    match form {
-        Form::Network => Answer::Done(put_network(out, list)),
-        Form::Plan => Answer::Done(put_plan(out, list)),
-        Form::Rules => Answer::Done(put_rules(out, &form::KEYS, list)),
+    Answer::Refused {
+        number: 10,
+        place: needed as u64,
+        second: 0,
     }
 }
 
@@ -463,7 +457,11 @@ pub fn write_network(list: &[u64], out: &mut [u8]) -> Answer
     let Answer::Done(_) = answer else {
         return answer;
     };
-    write_good(Form::Network, list, out)
+    let needed = network_needed(list, out.len());
+    if out.len() < needed {
+        return no_room(needed);
+    }
+    Answer::Done(put_network(out, list))
 }
 
 // Writes the list of a plan as a text.
@@ -475,7 +473,11 @@ pub fn write_plan(list: &[u64], out: &mut [u8]) -> Answer
     let Answer::Done(_) = answer else {
         return answer;
     };
-    write_good(Form::Plan, list, out)
+    let needed = plan_needed(list, out.len());
+    if out.len() < needed {
+        return no_room(needed);
+    }
+    Answer::Done(put_plan(out, list))
 }
 
 // Writes the list of rule tables as a text.
@@ -487,5 +489,10 @@ pub fn write_rules(list: &[u64], out: &mut [u8]) -> Answer
     let Answer::Done(_) = answer else {
         return answer;
     };
-    write_good(Form::Rules, list, out)
+    let keys = form::KEYS;
+    let needed = rules_len(&keys, list);
+    if out.len() < needed {
+        return no_room(needed);
+    }
+    Answer::Done(put_rules(out, &keys, list))
 }

@@ -3,7 +3,7 @@ use mathlib.Core.Path.{_≡_, sym, _∙_}
 use Rattle.model.specs.Outcome.{good}
 use Rattle.forms.specs.Read.{judgeList}
 use Rattle.forms.specs.declared.form.Form.the-variants.{Rules}
-use Rattle.forms.proofs.Answers.{done-good, refused-then, refused-room}
+use Rattle.forms.proofs.Answers.{refused-then, refused-room}
 use Rattle.rules.specs.Stage.{staged}
 use Rattle.rules.specs.Lists.{rulesOf, stagedList, GoodRules}
 use Rattle.rules.proofs.Judged.{judged-done}

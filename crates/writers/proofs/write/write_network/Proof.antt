@@ -6,7 +6,7 @@ use Rattle.forms.specs.Read.{judgeList}
 use Rattle.forms.specs.Write.{render, writeText}
 use Rattle.forms.specs.declared.form.Form.the-variants.{Network}
 use Rattle.forms.proofs.Answers.{refused-then, refused-room}
-use Rattle.writers.proofs.Writing.{judged-done}
+use Rattle.writers.proofs.Writing.{judged-done, too-long, written}
 use borrow.Author.Needs.{needs}
 use Rattle.writers.proofs.write.write_network.Statement.{statement}
 use Rattle.writers.proofs.write.write_network.Tie as tie
@@ -25,19 +25,39 @@ returns c =
     let a = c .before .before .before .before .args in
     refused-room (writeText Network (a .list .now)) _ (a .out .now) (refused-then (judgeList Network (a .list .now)) (λ g. good (render Network g)) _ (c .before .judge-network .ensures) (c .match .keys2)) (c .match .keys2)
 
-write-good-requires : tie.Need-write-good-requires
-write-good-requires c κs = accepted (c .before) .1
+network-needed-requires : tie.Need-network-needed-requires
+network-needed-requires c κs = accepted c .1
+
+no-room-requires : tie.Need-no-room-requires
+no-room-requires c κs = search needs
+
+returns-2 : tie.Need-returns-2
+returns-2 c =
+    let n = c .before .before in
+    too-long Network _ _ (accepted (n .before) .0) _ _ (n .network-needed .ensures) (c .before .if1 .taken) (c .no-room .ensures)
+
+put-network-requires : tie.Need-put-network-requires
+put-network-requires c κs = let e = c .before in (accepted (e .before .before) .1, e .before .network-needed .ensures .fits (e .if1 .left))
 
 same-length : tie.Need-same-length
 same-length c = search needs
 
-returns-2 : tie.Need-returns-2
-returns-2 c =
-    let w = c .before .before in
-    let a = accepted (w .before .before) .0 in
-    (rw a (w .write-good .ensures .0), rw a (w .write-good .ensures .1))
+returns-3 : tie.Need-returns-3
+returns-3 c =
+    let p = c .before .before in
+    let e = p .before .before in
+    written Network _ _ (accepted (e .before .before) .0) (e .before .network-needed .ensures .fits (e .if1 .left)) (p .put-network .ensures)
 
 pub write-network-spec : {M : Type 1} → statement M
 write-network-spec =
     tie.close
-    (tie.spec judge-network-requires enum-told returns write-good-requires same-length returns-2)
+    (tie.spec
+    judge-network-requires
+    enum-told
+    returns
+    network-needed-requires
+    no-room-requires
+    returns-2
+    put-network-requires
+    same-length
+    returns-3)
