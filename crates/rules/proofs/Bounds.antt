@@ -3,7 +3,7 @@ use Prim.Native.Nat.{ℕ, zero, suc, _+_, _-_, _*_, _≤_, _<_}
 use mathlib.Core.Path.{_≡_, refl, ap}
 use mathlib.Core.Logic.{_⊎_, ⊎-elim}
 use mathlib.Core.Bool.{true, false}
-use native.Mathlib.Nat.{le-trans, mul-le-mul-left}
+use native.Mathlib.Nat.{le-trans, mul-le-mul-left, mul-le-mul-right}
 use native.Mathlib.Omega.{arith}
 use borrow.Author.Tests.{not-false}
 use Rattle.model.specs.Limits.{leastShare, mostShare}
@@ -19,16 +19,16 @@ use Rattle.rules.proofs.Passes.{moved-is, turn-cases, pass-stayed, pass
 -- ---- the last stage
 
 module _ (R : Rules) (h : (leastShare ≤ R .slack) × (R .slack ≤ mostShare)) where
-  -- with one stage more, slack times the stages would be the whole
-  last-more : lastStage R + 1 ≡ ceilDiv 1000 (R .slack)
-  unfolding lastStage
-  last-more = omega (arith, ceil-least (R .slack) (omega (arith, h)) (h .1))
-
+  -- there are stages enough: slack times one more of them is the whole
   pub last-slack : 1000 ≤ suc (lastStage R) * R .slack
-  last-slack = omega (arith, ceil-ge 1000 (R .slack) (omega (arith, h)), ap (λ (n : ℕ). n * R .slack) last-more)
+  unfolding lastStage
+  last-slack =
+      let enough : ceilDiv 1000 (R .slack) ≤ suc (lastStage R) = omega arith in
+      omega (arith, ceil-ge 1000 (R .slack) (omega (arith, h)), mul-le-mul-right (R .slack) enough)
 
   pub last-pos : 1 ≤ lastStage R
-  last-pos = omega (arith, last-more, ceil-least (R .slack) (omega (arith, h)) (h .1))
+  unfolding lastStage
+  last-pos = omega (arith, ceil-least (R .slack) (omega (arith, h)) (h .1))
 
 -- one rule at a switch that is crossed, none at others
 pub rule-one : (R : Rules) (s t : ℕ) → inSet (R .via t) s ≡ true → rule R s t ≡ 1
