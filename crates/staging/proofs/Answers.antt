@@ -19,7 +19,8 @@ use Rattle.forms.proofs.Answers.{NotDone}
 use Rattle.rules.specs.Rules.{Rules, remove, count, lastStage}
 use Rattle.rules.specs.Stage.{Move, adds, removes, moved, stages, lowestUnfit, staged}
 use Rattle.rules.specs.Lists.{rulesOf}
-use Rattle.staging.specs.Inner.{OfKind, Spares, counts, StagedTo, told, Judged}
+use Rattle.switches.specs.Inner.{OfKind, Spares, told, Judged}
+use Rattle.staging.specs.Inner.{counts, StagedTo}
 use Rattle.rules.proofs.Counts.{count-who, count-kind}
 use Rattle.rules.proofs.Passes.{moved-is}
 

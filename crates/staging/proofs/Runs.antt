@@ -13,7 +13,8 @@ use Rattle.bound.specs.Bound.{isShare}
 use Rattle.rules.specs.Rules.{Rules, add, remove, count, lastStage}
 use Rattle.rules.specs.Stage.{Move, adds, removes, kindOf, Stages, pass, stage, stages}
 use Rattle.rules.specs.Lists.{rulesOf, GoodRules}
-use Rattle.staging.specs.Inner.{Counted, Spares, moveOf, counts, timesOf, Ready, Reached, StagedTo}
+use Rattle.switches.specs.Inner.{Counted, Spares}
+use Rattle.staging.specs.Inner.{moveOf, counts, timesOf, Ready, Reached, StagedTo}
 use Rattle.rules.proofs.Passes.{other-moved, other-waits}
 
 -- the slack of a good list is a share

@@ -19,10 +19,11 @@ use Rattle.lists.specs.Lists.{at}
 use Rattle.rules.specs.Rules.{Rules, add, remove, isKind, rule, count, lastStage, spare}
 use Rattle.rules.specs.Stage.{Move, adds, removes, kindOf, Stages, moved, waits, within, goes, given, turn, pass}
 use Rattle.rules.specs.Lists.{tunnelAt, rulesOf}
-use Rattle.staging.specs.Inner.{Table, Counted, Shifted, Shiftable, Spares, moveOf, counts, timesOf, fitsAll, goesBy, Ready, Reached}
+use Rattle.switches.specs.Inner.{Table, Counted, Shifted, Shiftable, Spares, fitsAll}
+use Rattle.staging.specs.Inner.{moveOf, counts, timesOf, goesBy, Ready, Reached}
 use Rattle.rules.proofs.Counts.{and-none, every-at, every-all, within-at, within-all, count-some, count-moved, count-waits}
 use Rattle.rules.proofs.Passes.{is-waiting, not-kind, turn-goes, turn-stays}
-use Rattle.staging.proofs.Tallies.{cond-zero, counted-table}
+use Rattle.switches.proofs.Tallies.{cond-zero, counted-table}
 
 pub last-most : (R : Rules) → leastShare ≤ R .slack → lastStage R < mostSteps
 unfolding lastStage

@@ -10,11 +10,10 @@ ghost use Rattle.rules.specs.Stage.{staged};
 ghost use Rattle.rules.specs.Lists.{rulesOf, stagedList, GoodRules};
 use forms::judge;
 use lists::Answer;
-use tables::SWITCHES;
+use switches::room;
+use switches::tables::SWITCHES;
 
-mod room;
 mod stages;
-mod tables;
 
 // Reads a text of rule tables into a list of numbers, one for each line.
 pub fn read_rules(text: &[u8], out: &mut [u64]) -> Answer

@@ -8,10 +8,11 @@ ghost use Rattle.lists.specs.Lists.{at};
 ghost use Rattle.rules.specs.Stage as model;
 ghost use Rattle.rules.specs.Rules.{remove, lastStage};
 ghost use Rattle.rules.specs.Lists.{tunnelAt, rulesOf, GoodRules};
-ghost use Rattle.staging.specs.Inner.{OfKind, Spares, Ready, Reached, StagedTo, moveOf};
-use crate::tables;
-use crate::tables::SWITCHES;
+ghost use Rattle.switches.specs.Inner.{OfKind, Spares};
+ghost use Rattle.staging.specs.Inner.{Ready, Reached, StagedTo, moveOf};
 use lists::RuleTables;
+use switches::tables;
+use switches::tables::SWITCHES;
 
 const TUNNELS: usize = RuleTables::TUNNELS as usize;
 

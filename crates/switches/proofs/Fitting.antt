@@ -20,8 +20,8 @@ use Rattle.lists.specs.declared.Answer.the-variants.{Done, Refused}
 use Rattle.rules.specs.Rules.{Rules, keep, add, remove, isKind, count, usable, spare}
 use Rattle.rules.specs.Stage.{tooMany, unfitAt, lowestUnfit}
 use Rattle.rules.specs.Lists.{rulesOf, GoodRules}
-use Rattle.staging.specs.Inner.{Table, Counted, Kinds, unfitBy, Judged}
-use Rattle.staging.proofs.Tallies.{counted-table}
+use Rattle.switches.specs.Inner.{Table, Counted, Kinds, unfitBy, Judged}
+use Rattle.switches.proofs.Tallies.{counted-table}
 
 pub record Judging (R : Rules) (n : ℕ) (x : List ℕ) : Type 0 where
   pub fits : first n (unfitAt R) ≡ none

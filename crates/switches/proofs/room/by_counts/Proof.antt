@@ -1,11 +1,11 @@
--- `staging::room::by_counts` meets its contract: the switches passed are not too full, and what is spare at each is in its table. Assumes nothing.
+-- `switches::room::by_counts` meets its contract: the switches passed are not too full, and what is spare at each is in its table. Assumes nothing.
 use Prim.Native.Nat.{_-_, _≤_}
 use native.Mathlib.Omega.{arith}
 use Rattle.rules.specs.Lists.{rulesOf}
-use Rattle.staging.proofs.Fitting.{Judging, judging-start, judging-not, kept-most, judging-on, judging-end, usable-most, counts-most}
+use Rattle.switches.proofs.Fitting.{Judging, judging-start, judging-not, kept-most, judging-on, judging-end, usable-most, counts-most}
 use borrow.Author.Needs.{needs}
-use Rattle.staging.proofs.room.by_counts.Statement.{statement}
-use Rattle.staging.proofs.room.by_counts.Tie as tie
+use Rattle.switches.proofs.room.by_counts.Statement.{statement}
+use Rattle.switches.proofs.room.by_counts.Tie as tie
 
 abbrev Inv-loop : tie.InvT-loop
 Inv-loop list kept adding removing spares₀ free switches s₀ spares s = record { low : s ≤ switches; judging : Judging (rulesOf list) s spares }

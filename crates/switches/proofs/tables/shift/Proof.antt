@@ -1,4 +1,4 @@
--- `staging::tables::shift` meets its contract: the switches passed are shifted, and what is left of the set falls. Assumes nothing.
+-- `switches::tables::shift` meets its contract: the switches passed are shifted, and what is left of the set falls. Assumes nothing.
 use Prim.Native.Nat.{_+_, _≤_, _<_}
 use mathlib.Core.Path.{_≡_}
 use native.Mathlib.Omega.{arith}
@@ -6,9 +6,9 @@ use borrow.Author.Needs.{needs}
 use lib.Count.{trailingZeros, trailing-le}
 use Rattle.lists.specs.Lists.{at}
 use Rattle.model.specs.Limits.{mostSwitches}
-use Rattle.staging.proofs.Shifts.{and-less, Shifting, shifting-start, next-low, next-same, shifting-on, shifting-end}
-use Rattle.staging.proofs.tables.shift.Statement.{statement}
-use Rattle.staging.proofs.tables.shift.Tie as tie
+use Rattle.switches.proofs.Shifts.{and-less, Shifting, shifting-start, next-low, next-same, shifting-on, shifting-end}
+use Rattle.switches.proofs.tables.shift.Statement.{statement}
+use Rattle.switches.proofs.tables.shift.Tie as tie
 
 abbrev Inv-loop : tie.InvT-loop
 Inv-loop counts₀ via more less set₀ counts set = Shifting via more less counts₀ set counts

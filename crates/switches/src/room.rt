@@ -5,7 +5,7 @@ ghost use lib.ListN.{replicate};
 ghost use Rattle.rules.specs.Rules.{remove};
 ghost use Rattle.rules.specs.Lists.{GoodRules};
 ghost use Rattle.model.specs.Limits.{mostTunnels, mostSwitches};
-ghost use Rattle.staging.specs.Inner.{OfKind, Kinds, unfitBy, Judged};
+ghost use Rattle.switches.specs.Inner.{OfKind, Kinds, unfitBy, Judged};
 use crate::tables;
 use crate::tables::SWITCHES;
 use lists::Answer;
@@ -58,7 +58,7 @@ fn by_counts(
 }
 
 // The same, with the tunnels to remove counted: all of them remain at first.
-pub(crate) fn judge(list: &[u64], remaining: &mut [u64], spares: &mut [u64]) -> Answer
+pub fn judge(list: &[u64], remaining: &mut [u64], spares: &mut [u64]) -> Answer
     requires { ⌜ GoodRules (now list) × (now remaining ≡ replicate mostSwitches 0) × (now spares ≡ replicate mostSwitches 0) ⌝ }
     ensures { λ r. ⌜ Judged (now (list .entry)) r (now (spares .exit)) × OfKind (now (list .entry)) remove (now (remaining .exit)) ⌝ }
 {

@@ -18,7 +18,7 @@ use Rattle.model.proofs.Sets.{digits-gone, none-left, next-from, next-set, next
 use Rattle.model.proofs.Searches.{bool-cases}
 use Rattle.lists.specs.Lists.{at}
 use Rattle.model.specs.Limits.{mostSwitches}
-use Rattle.staging.specs.Inner.{Shifted, Shiftable, fitsAll}
+use Rattle.switches.specs.Inner.{Shifted, Shiftable, fitsAll}
 use Rattle.rules.proofs.Counts.{every-all, every-not}
 
 pub and-less : (a b : ℕ) → b < a → bitAnd a b < a

@@ -1,10 +1,10 @@
--- `staging::room::unfit` meets its contract. Assumes nothing.
+-- `switches::room::unfit` meets its contract. Assumes nothing.
 use mathlib.Core.Path.{refl}
 use borrow.Author.Tests.{lt-ltb, le-ltb}
-use Rattle.staging.specs.Inner.{unfitBy}
+use Rattle.switches.specs.Inner.{unfitBy}
 use borrow.Author.Needs.{needs}
-use Rattle.staging.proofs.room.unfit.Statement.{statement}
-use Rattle.staging.proofs.room.unfit.Tie as tie
+use Rattle.switches.proofs.room.unfit.Statement.{statement}
+use Rattle.switches.proofs.room.unfit.Tie as tie
 
 add-if1 : tie.Need-add-if1
 add-if1 c = search needs

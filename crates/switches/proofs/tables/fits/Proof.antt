@@ -1,4 +1,4 @@
--- `staging::tables::fits` meets its contract: there is room at the switches passed, and what is left of the set falls. Assumes nothing.
+-- `switches::tables::fits` meets its contract: there is room at the switches passed, and what is left of the set falls. Assumes nothing.
 use Prim.Native.Nat.{_+_, _≤_, _<_}
 use native.Mathlib.Omega.{arith}
 use borrow.Author.Needs.{needs}
@@ -7,9 +7,9 @@ use lib.Count.{trailingZeros, trailing-le}
 use Rattle.model.proofs.Sets.{next-within}
 use Rattle.lists.specs.Lists.{at}
 use Rattle.model.specs.Limits.{mostTunnels, mostSwitches}
-use Rattle.staging.proofs.Shifts.{and-less, Fitting, fitting-start, fitting-on, fitting-not, fitting-end}
-use Rattle.staging.proofs.tables.fits.Statement.{statement}
-use Rattle.staging.proofs.tables.fits.Tie as tie
+use Rattle.switches.proofs.Shifts.{and-less, Fitting, fitting-start, fitting-on, fitting-not, fitting-end}
+use Rattle.switches.proofs.tables.fits.Statement.{statement}
+use Rattle.switches.proofs.tables.fits.Tie as tie
 
 abbrev Inv-loop : tie.InvT-loop
 Inv-loop counts spares via unit more times left₀ left = Fitting via unit more times counts spares left

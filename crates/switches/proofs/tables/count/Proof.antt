@@ -1,15 +1,15 @@
--- `staging::tables::count` meets its contract: the tunnels passed are counted. Assumes nothing.
+-- `switches::tables::count` meets its contract: the tunnels passed are counted. Assumes nothing.
 use Prim.Native.Nat.{_-_, _≤_}
 use mathlib.Core.Path.{_≡_}
 use mathlib.Core.Logic.{⊎-elim}
 use native.Mathlib.Omega.{arith}
 use Rattle.rules.specs.Rules.{isKind}
 use Rattle.rules.specs.Lists.{tunnelAt, rulesOf}
-use Rattle.staging.specs.Inner.{Counted}
-use Rattle.staging.proofs.Tallies.{counted-zero, counted-table, counted-to, kind-take, kind-skip, one-more}
+use Rattle.switches.specs.Inner.{Counted}
+use Rattle.switches.proofs.Tallies.{counted-zero, counted-table, counted-to, kind-take, kind-skip, one-more}
 use borrow.Author.Needs.{needs}
-use Rattle.staging.proofs.tables.count.Statement.{statement}
-use Rattle.staging.proofs.tables.count.Tie as tie
+use Rattle.switches.proofs.tables.count.Statement.{statement}
+use Rattle.switches.proofs.tables.count.Tie as tie
 
 abbrev Inv-loop : tie.InvT-loop
 Inv-loop list kind counts₀ tunnels at₀ t₀ counts at t = record { low : t ≤ tunnels; here : at ≡ tunnelAt list t; counted : Counted (rulesOf list) t (isKind (rulesOf list) kind) counts }

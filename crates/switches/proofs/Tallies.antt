@@ -13,7 +13,7 @@ use Rattle.model.proofs.Sums.{sum-zero, sum-take, sum-skip, sum-bound}
 use Rattle.lists.specs.Lists.{at}
 use Rattle.rules.specs.Rules.{Rules, isKind, rule}
 use Rattle.rules.specs.Lists.{tunnelAt, rulesOf}
-use Rattle.staging.specs.Inner.{Table, Counted, Shifted, Shiftable}
+use Rattle.switches.specs.Inner.{Table, Counted, Shifted, Shiftable}
 
 pub cond-zero : (b : Bool) → _≡_ {A = ℕ} (cond b 0 0) 0
 cond-zero true = refl
