@@ -2,9 +2,9 @@
 use Prim.Native.Nat.{ℕ}
 use mathlib.Core.Option.{Option, none, some}
 
--- the causes of "Turned down, and why", and from 12 on of the second paper, in the order of their numbers
+-- the causes of "Turned down, and why", and from 11 on of the second paper, in the order of their numbers
 pub data Cause : Type 0 where
-  malformed outOfRange missing missedRate otherTunnels missedRow overProtected overTotal noEvenPlan noRoom noSuchDesk fourWait nothingWaits unfit unshareable : Cause
+  malformed outOfRange missing missedRate otherTunnels missedRow overProtected overTotal noEvenPlan noRoom noSuchStep noSuchDesk fourWait nothingWaits otherShared tooMany otherSteps unfit lagOutside badScript unshareable : Cause
 
 abbrev pub number : Cause → ℕ
 number malformed = 1
@@ -17,10 +17,16 @@ number overProtected = 7
 number overTotal = 8
 number noEvenPlan = 9
 number noRoom = 10
+number noSuchStep = 11
 number noSuchDesk = 12
 number fourWait = 13
 number nothingWaits = 14
+number otherShared = 15
+number tooMany = 16
+number otherSteps = 17
 number unfit = 18
+number lagOutside = 19
+number badScript = 20
 number unshareable = 21
 
 -- a refusal has its cause, place and second

@@ -1,17 +1,18 @@
 -- The rule for a step. The step from row i to row i + 1, which the paper numbers i + 1, is named here by i.
-use Prim.Native.Nat.{ℕ, suc, _+_, _*_, _/_, _%_, _^_, max}
+use Prim.Native.Nat.{ℕ, suc, _+_, _*_, max}
 use mathlib.Core.Bool.{Bool, true, cond, not, _&&_}
 use mathlib.Core.Option.{Option}
 use lib.Dec.{leb, ltb, eqb}
 use Rattle.model.specs.Sum.{sumOver}
+use Rattle.model.specs.Sets.{inSet}
 use Rattle.model.specs.Search.{onlyIf, isNone, orElse, first}
 use Rattle.model.specs.Outcome.{Place}
 use Rattle.model.specs.Net.{Net, Plan, row}
 use Rattle.model.specs.Scan.{Bound, protected, total, Overload, scan}
 
--- "bit l, of value 2^l, is set when the tunnel crosses link l"
+-- tunnel t crosses link l
 unfoldable pub crosses : Net → ℕ → ℕ → Bool
-crosses N l t = eqb (N .via t / 2 ^ l % 2) 1
+crosses N l t = inSet (N .via t) l
 
 -- what tunnel t puts on link l, where the tunnels have the amounts x
 unfoldable pub onLink : Net → ℕ → (ℕ → ℕ) → ℕ → ℕ
