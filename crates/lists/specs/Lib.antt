@@ -1,2 +1,3 @@
-pub mod Answers
 pub mod Lists
+pub mod Good
+pub mod Answers

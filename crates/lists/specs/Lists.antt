@@ -1,65 +1,90 @@
--- How a list of numbers is seen as a network or as a plan. "Either text is also held as a list of 64-bit numbers, one for each line in line order."
-use Prim.Native.Nat.{ℕ, _+_, _-_, _*_, _^_, _≤_, _<_}
-use mathlib.Core.Path.{_≡_}
+-- How a list of numbers is seen as a network, as a plan or as rule tables. "Either text is also held as a list of 64-bit numbers, one for each line in line order."
+use Prim.Native.Nat.{ℕ, _+_, _-_, _*_}
 use mathlib.Core.List.{List}
-use lib.ListN.{length, getD}
-use Rattle.model.specs.Limits.{mostLinks, mostFlows, mostTunnels, mostSteps, mostAmount}
+use lib.ListN.{getD}
+use Rattle.model.specs.Limits.{mostLinks, mostFlows, mostTunnels, mostSteps, mostSwitches}
 use Rattle.model.specs.Net.{Net, Plan}
-use Rattle.model.specs.Claim.{Valid}
+use Rattle.lists.specs.declared.Network.{Network}
+use Rattle.lists.specs.declared.PlanSizes.{PlanSizes}
+use Rattle.lists.specs.declared.RuleTables.{RuleTables}
 
 -- the number at a position
 abbrev pub at : List ℕ → ℕ → ℕ
 at l i = getD l i 0
 
--- where the two lines of flow f begin, and the four of tunnel t
-abbrev pub flowAt : List ℕ → ℕ → ℕ
-flowAt l f = 6 + at l 3 + 2 * f
+-- ---- a network
 
-abbrev pub tunnelAt : List ℕ → ℕ → ℕ
-tunnelAt l t = 6 + at l 3 + 2 * at l 4 + 4 * t
+-- how many links, flows and tunnels it has
+unfoldable pub networkSizes : List ℕ → Network
+networkSizes l = record { links = at l 3; flows = at l 4; tunnels = at l 5 }
+
+-- after the head, where the line of link k stands, where the two of flow f begin and the four of tunnel t; and how many lines there are
+unfoldable pub linkAt : Network → ℕ → ℕ
+linkAt n k = 6 + k
+
+unfoldable pub flowAt : Network → ℕ → ℕ
+flowAt n f = linkAt n (n .links) + 2 * f
+
+unfoldable pub tunnelAt : Network → ℕ → ℕ
+tunnelAt n t = flowAt n (n .flows) + 4 * t
+
+abbrev pub networkSize : Network → ℕ
+networkSize n = tunnelAt n (n .tunnels)
 
 unfoldable pub networkOf : List ℕ → Net
 networkOf l = record {
   scratch = at l 1;
   overrun = at l 2;
-  links = at l 3;
-  flows = at l 4;
-  tunnels = at l 5;
-  cap = λ k. at l (6 + k);
-  class = λ f. at l (flowAt l f);
-  rate = λ f. at l (flowAt l f + 1);
-  flow = λ t. at l (tunnelAt l t);
-  via = λ t. at l (tunnelAt l t + 1);
-  old = λ t. at l (tunnelAt l t + 2);
-  new = λ t. at l (tunnelAt l t + 3);
+  links = networkSizes l .links;
+  flows = networkSizes l .flows;
+  tunnels = networkSizes l .tunnels;
+  cap = λ k. at l (linkAt (networkSizes l) k);
+  class = λ f. at l (flowAt (networkSizes l) f);
+  rate = λ f. at l (flowAt (networkSizes l) f + 1);
+  flow = λ t. at l (tunnelAt (networkSizes l) t);
+  via = λ t. at l (tunnelAt (networkSizes l) t + 1);
+  old = λ t. at l (tunnelAt (networkSizes l) t + 2);
+  new = λ t. at l (tunnelAt (networkSizes l) t + 3);
 }
 
--- where row a begins, of the rows 1 to steps - 1
-abbrev pub rowAt : List ℕ → ℕ → ℕ
-rowAt l a = 4 + (a - 1) * at l 3
+-- ---- a plan
+
+abbrev pub planSizes : List ℕ → PlanSizes
+planSizes l = record { parts = at l 1; steps = at l 2; tunnels = at l 3 }
+
+-- after the head, where row a begins, of the rows 1 to steps - 1; and how many lines there are
+abbrev pub rowAt : PlanSizes → ℕ → ℕ
+rowAt n a = 4 + (a - 1) * n .tunnels
+
+abbrev pub planSize : PlanSizes → ℕ
+planSize n = rowAt n (n .steps)
 
 unfoldable pub planOf : List ℕ → Plan
-planOf l = record { parts = at l 1; steps = at l 2; at = λ a t. at l (rowAt l a + t) }
+planOf l = record { parts = planSizes l .parts; steps = planSizes l .steps; at = λ a t. at l (rowAt (planSizes l) a + t) }
 
--- what a list that is judged good as a network says of its numbers
-pub record GoodNetwork (l : List ℕ) : Type 0 where
-  pub size : length l ≡ 6 + at l 3 + 2 * at l 4 + 4 * at l 5
-  pub links : (1 ≤ at l 3) × (at l 3 ≤ mostLinks)
-  pub flows : at l 4 ≤ mostFlows
-  pub tunnels : at l 5 ≤ mostTunnels
-  pub cap : (k : ℕ) → k < at l 3 → at l (6 + k) ≤ mostAmount
-  pub rate : (f : ℕ) → f < at l 4 → at l (flowAt l f + 1) ≤ mostAmount
-  pub flow : (t : ℕ) → t < at l 5 → at l (tunnelAt l t) < at l 4
-  pub via : (t : ℕ) → t < at l 5 → at l (tunnelAt l t + 1) < 2 ^ at l 3
-  pub old : (t : ℕ) → t < at l 5 → at l (tunnelAt l t + 2) ≤ mostAmount
-  pub new : (t : ℕ) → t < at l 5 → at l (tunnelAt l t + 3) ≤ mostAmount
-  pub valid : Valid (networkOf l)
+-- ---- rule tables
 
--- what a list that is judged good as a plan says of its numbers
-pub record GoodPlan (l : List ℕ) : Type 0 where
-  pub size : length l ≡ 4 + (at l 2 - 1) * at l 3
-  pub edition : at l 0 ≡ 1
-  pub parts : (1 ≤ at l 1) × (at l 1 ≤ mostSteps)
-  pub steps : (1 ≤ at l 2) × (at l 2 ≤ mostSteps)
-  pub tunnels : at l 3 ≤ mostTunnels
-  pub amounts : (i : ℕ) → 4 ≤ i → i < length l → at l i ≤ mostAmount * at l 1
+abbrev pub tableSizes : List ℕ → RuleTables
+tableSizes l = record { switches = at l 2; tunnels = at l 3 }
+
+-- after the head, where the line of switch s stands and where the two of tunnel t begin; and how many lines there are
+abbrev pub roomAt : RuleTables → ℕ → ℕ
+roomAt n s = 4 + s
+
+abbrev pub ruleAt : RuleTables → ℕ → ℕ
+ruleAt n t = roomAt n (n .switches) + 2 * t
+
+abbrev pub tablesSize : RuleTables → ℕ
+tablesSize n = ruleAt n (n .tunnels)
+
+-- ---- the longest lists
+
+unfoldable pub mostNetwork : ℕ
+unfolding linkAt flowAt tunnelAt
+mostNetwork = networkSize (record { links = mostLinks; flows = mostFlows; tunnels = mostTunnels })
+
+abbrev pub mostPlan : ℕ
+mostPlan = planSize (record { parts = mostSteps; steps = mostSteps; tunnels = mostTunnels })
+
+abbrev pub mostTables : ℕ
+mostTables = tablesSize (record { switches = mostSwitches; tunnels = mostTunnels })

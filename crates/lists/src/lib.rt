@@ -1,9 +1,11 @@
 // The types that all operations share: the network type, whose constants are the limits and whose value says where a
 // network's numbers stand in its list, the type of rule tables, which does the same for theirs, and the answers.
 ghost use mathlib.Core.Path.{_≡_};
-ghost use Prim.Native.Nat.{_+_, _*_, _≤_};
+ghost use Prim.Native.Nat.{_≤_};
 ghost use lib.ListN.{length};
-ghost use Rattle.lists.specs.Lists.{at};
+ghost use Rattle.model.specs.Limits.{mostSteps, mostTunnels, mostSwitches};
+ghost use Rattle.lists.specs.Lists.{networkSizes, linkAt, flowAt, tunnelAt, planSizes, rowAt, tableSizes, roomAt, ruleAt};
+ghost use Rattle.lists.specs.Good.{Limited};
 
 // How many links, flows and tunnels a network has.
 pub struct Network {
@@ -29,10 +31,16 @@ impl Network {
 
     pub const SHARE_HIGH: u64 = 500;
 
-    // The sizes of the network that a list holds.
+    // The most numbers that a network's list has.
+    pub const NUMBERS: usize = 6
+        + Self::LINKS as usize
+        + 2 * Self::FLOWS as usize
+        + 4 * Self::TUNNELS as usize;
+
+    // The sizes of the network that a list holds, which has a head.
     pub fn of(list: &[u64]) -> Network
-        requires { ⌜ 6 ≤ length (now list) ⌝ }
-        ensures { λ r. ⌜ (r .links ≡ at (now (list .entry)) 3) × (r .flows ≡ at (now (list .entry)) 4) × (r .tunnels ≡ at (now (list .entry)) 5) ⌝ }
+        requires { ⌜ linkAt (networkSizes (now list)) 0 ≤ length (now list) ⌝ }
+        ensures { λ r. ⌜ r ≡ networkSizes (now (list .entry)) ⌝ }
     {
         Network {
             links: list[3] as usize,
@@ -41,20 +49,60 @@ impl Network {
         }
     }
 
-    // Where the lines of flow 0 begin; each flow has 2.
-    pub fn flows_at(self) -> usize
-        requires { ⌜ self .links ≤ 64 ⌝ }
-        ensures { λ r. ⌜ r ≡ 6 + self .links ⌝ }
+    // Where the line of link k stands; past the last link, where those of flow 0 begin.
+    pub fn link_at(self, k: usize) -> usize
+        requires { ⌜ Limited self × (k ≤ self .links) ⌝ }
+        ensures { λ r. ⌜ r ≡ linkAt self k ⌝ }
     {
-        6 + self.links
+        6 + k
     }
 
-    // Where the lines of tunnel 0 begin; each tunnel has 4.
-    pub fn tunnels_at(self) -> usize
-        requires { ⌜ (self .links ≤ 64) × (self .flows ≤ 32) ⌝ }
-        ensures { λ r. ⌜ r ≡ 6 + self .links + 2 * self .flows ⌝ }
+    // Where the two lines of flow f begin; past the last flow, where those of tunnel 0 begin.
+    pub fn flow_at(self, f: usize) -> usize
+        requires { ⌜ Limited self × (f ≤ self .flows) ⌝ }
+        ensures { λ r. ⌜ r ≡ flowAt self f ⌝ }
     {
-        6 + self.links + 2 * self.flows
+        6 + self.links + 2 * f
+    }
+
+    // Where the four lines of tunnel t begin; past the last tunnel, how many lines there are.
+    pub fn tunnel_at(self, t: usize) -> usize
+        requires { ⌜ Limited self × (t ≤ self .tunnels) ⌝ }
+        ensures { λ r. ⌜ r ≡ tunnelAt self t ⌝ }
+    {
+        6 + self.links + 2 * self.flows + 4 * t
+    }
+}
+
+// The numbers of a plan's head: in how many parts its amounts are counted, how many steps it has, and for how many tunnels.
+pub struct PlanSizes {
+    pub parts: u64,
+    pub steps: usize,
+    pub tunnels: usize,
+}
+
+impl PlanSizes {
+    // The most numbers that a plan's list has.
+    pub const NUMBERS: usize = 4 + (Network::STEPS as usize - 1) * Network::TUNNELS as usize;
+
+    // The sizes of the plan that a list holds, which has a head.
+    pub fn of(list: &[u64]) -> PlanSizes
+        requires { ⌜ rowAt (planSizes (now list)) 1 ≤ length (now list) ⌝ }
+        ensures { λ r. ⌜ r ≡ planSizes (now (list .entry)) ⌝ }
+    {
+        PlanSizes {
+            parts: list[1],
+            steps: list[2] as usize,
+            tunnels: list[3] as usize,
+        }
+    }
+
+    // Where row a begins; for the last row, which is not listed, how many lines there are.
+    pub fn row_at(self, a: usize) -> usize
+        requires { ⌜ (1 ≤ a) × (a ≤ mostSteps) × (self .tunnels ≤ mostTunnels) ⌝ }
+        ensures { λ r. ⌜ r ≡ rowAt self a ⌝ }
+    {
+        4 + (a - 1) * self.tunnels
     }
 }
 
@@ -84,10 +132,13 @@ impl RuleTables {
 
     pub const REMOVE: u64 = 3;
 
-    // The sizes of the rule tables that a list holds.
+    // The most numbers that a list of rule tables has.
+    pub const NUMBERS: usize = 4 + Self::SWITCHES as usize + 2 * Self::TUNNELS as usize;
+
+    // The sizes of the rule tables that a list holds, which has a head.
     pub fn of(list: &[u64]) -> RuleTables
-        requires { ⌜ 4 ≤ length (now list) ⌝ }
-        ensures { λ r. ⌜ (r .switches ≡ at (now (list .entry)) 2) × (r .tunnels ≡ at (now (list .entry)) 3) ⌝ }
+        requires { ⌜ roomAt (tableSizes (now list)) 0 ≤ length (now list) ⌝ }
+        ensures { λ r. ⌜ r ≡ tableSizes (now (list .entry)) ⌝ }
     {
         RuleTables {
             switches: list[2] as usize,
@@ -95,12 +146,20 @@ impl RuleTables {
         }
     }
 
-    // Where the lines of tunnel 0 begin; each tunnel has 2.
-    pub fn tunnels_at(self) -> usize
-        requires { ⌜ self .switches ≤ 64 ⌝ }
-        ensures { λ r. ⌜ r ≡ 4 + self .switches ⌝ }
+    // Where the line of switch s stands; past the last switch, where those of tunnel 0 begin.
+    pub fn room_at(self, s: usize) -> usize
+        requires { ⌜ s ≤ mostSwitches ⌝ }
+        ensures { λ r. ⌜ r ≡ roomAt self s ⌝ }
     {
-        4 + self.switches
+        4 + s
+    }
+
+    // Where the two lines of tunnel t begin; past the last tunnel, how many lines there are.
+    pub fn rule_at(self, t: usize) -> usize
+        requires { ⌜ (self .switches ≤ mostSwitches) × (t ≤ mostTunnels) ⌝ }
+        ensures { λ r. ⌜ r ≡ ruleAt self t ⌝ }
+    {
+        4 + self.switches + 2 * t
     }
 }
 

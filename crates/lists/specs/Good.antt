@@ -1,0 +1,46 @@
+-- What a list that is judged good says of its numbers.
+use Prim.Native.Nat.{ℕ, _+_, _*_, _^_, _≤_, _<_}
+use mathlib.Core.Path.{_≡_}
+use mathlib.Core.Logic.{_⊎_}
+use mathlib.Core.List.{List}
+use mathlib.Core.Option.{none}
+use lib.ListN.{length}
+use Rattle.model.specs.Limits.{mostLinks, mostFlows, mostTunnels, mostSteps, mostAmount, leastShare, mostShare}
+use Rattle.model.specs.Rule.{missedRate}
+use Rattle.lists.specs.declared.Network.{Network}
+use Rattle.lists.specs.Lists.{at, networkSizes, linkAt, flowAt, tunnelAt, networkSize, networkOf, planSizes, rowAt, planSize}
+
+-- counts within the limits
+pub record Limited (n : Network) : Type 0 where
+  pub links : n .links ≤ mostLinks
+  pub flows : n .flows ≤ mostFlows
+  pub tunnels : n .tunnels ≤ mostTunnels
+
+-- the numbers of a network are in their ranges
+pub record NetworkRanges (l : List ℕ) : Type 0 where
+  pub edition : at l 0 ≡ 1
+  pub scratch : (leastShare ≤ at l 1) × (at l 1 ≤ mostShare)
+  pub overrun : (at l 2 ≡ 0) ⊎ ((leastShare ≤ at l 2) × (at l 2 ≤ mostShare))
+  pub counts : Limited (networkSizes l)
+  pub some : 1 ≤ networkSizes l .links
+  pub size : length l ≡ networkSize (networkSizes l)
+  pub cap : (k : ℕ) → k < networkSizes l .links → at l (linkAt (networkSizes l) k) ≤ mostAmount
+  pub class : (f : ℕ) → f < networkSizes l .flows → at l (flowAt (networkSizes l) f) ≤ 2
+  pub rate : (f : ℕ) → f < networkSizes l .flows → at l (flowAt (networkSizes l) f + 1) ≤ mostAmount
+  pub flow : (t : ℕ) → t < networkSizes l .tunnels → at l (tunnelAt (networkSizes l) t) < networkSizes l .flows
+  pub via : (t : ℕ) → t < networkSizes l .tunnels → (1 ≤ at l (tunnelAt (networkSizes l) t + 1)) × (at l (tunnelAt (networkSizes l) t + 1) < 2 ^ networkSizes l .links)
+  pub old : (t : ℕ) → t < networkSizes l .tunnels → at l (tunnelAt (networkSizes l) t + 2) ≤ mostAmount
+  pub new : (t : ℕ) → t < networkSizes l .tunnels → at l (tunnelAt (networkSizes l) t + 3) ≤ mostAmount
+
+-- and each flow's amounts add up
+pub record GoodNetwork (l : List ℕ) : Type 0 where
+  pub ranges : NetworkRanges l
+  pub sums : missedRate (networkOf l) ≡ none
+
+pub record GoodPlan (l : List ℕ) : Type 0 where
+  pub size : length l ≡ planSize (planSizes l)
+  pub edition : at l 0 ≡ 1
+  pub parts : (1 ≤ planSizes l .parts) × (planSizes l .parts ≤ mostSteps)
+  pub steps : (1 ≤ planSizes l .steps) × (planSizes l .steps ≤ mostSteps)
+  pub tunnels : planSizes l .tunnels ≤ mostTunnels
+  pub amounts : (i : ℕ) → rowAt (planSizes l) 1 ≤ i → i < length l → at l i ≤ mostAmount * planSizes l .parts
