@@ -1,5 +1,5 @@
 -- Laws of the forms: sets and shifts, which field stands where, and what the numbers of a sound list are bounded by.
-use mathlib.Core.Path.{_≡_, refl}
+use mathlib.Core.Path.{_≡_, refl, sym, _∙_}
 use mathlib.Core.Bool.{Bool, true, false, cond, _&&_, _||_, not, true≢false, false≢true}
 use mathlib.Core.List.{List, [], _∷_, _++_}
 use Prim.Native.Nat.{ℕ, zero, suc, _+_, _*_, _-_, _/_, _%_, _^_, _≤_, _<_}
@@ -12,9 +12,14 @@ use lib.ListN.{length, getD, take, length-append, List·getD-append}
 use lib.Seq.{take-take, getD-take, length-take-le, take-append-le, take-append-seam, getD-append-seam}
 use borrow.Author.Tests.{ne-eqb, lt-ltb, le-ltb, le-leb}
 use Rattle.model.proofs.Searches.{both}
-use Rattle.model.specs.Limits.{mostLinks, mostFlows, mostTunnels, mostSteps, mostAmount, mostSwitches, mostRoom}
-use Rattle.lists.specs.Lists.{at}
-use Rattle.forms.specs.Form.{line, planBody, isHex, admitsOf, Sound, allows, fieldOf, networkLines, flowLines, tunnelLines, planLines, rulesLines, ruleLines, networkBody, rulesBody, mostNumbers, mostOf}
+use Rattle.model.specs.Limits.{mostLinks, mostFlows, mostTunnels, mostSteps, mostAmount, mostShare, mostSwitches, mostRoom}
+use Rattle.lists.specs.Lists.{at, networkSizes, linkAt, flowAt, tunnelAt, networkSize, planSizes, planSize, tableSizes, roomAt, ruleAt, tablesSize, mostPlan, mostNumbers}
+use Rattle.lists.specs.Good.{Limited}
+use Rattle.lists.specs.declared.Network as counts
+use Rattle.lists.specs.declared.PlanSizes.{PlanSizes}
+use Rattle.lists.specs.declared.RuleTables.{RuleTables}
+use Rattle.lists.proofs.Positions.{link-at, flow-at, tunnel-at, flows-follow, tunnels-follow, head-size, head-most, most-network, most-in-all}
+use Rattle.forms.specs.Form.{line, planBody, isHex, admitsOf, Sound, allows, fieldOf, networkLines, flowLines, tunnelLines, planLines, rulesLines, ruleLines, networkBody, rulesBody, mostOf}
 use Rattle.forms.specs.declared.form.Form.{Form}
 use Rattle.forms.specs.declared.form.Form.the-variants.{Network, Plan, Rules}
 use Rattle.forms.specs.declared.form.Range.{Range}
@@ -74,112 +79,99 @@ sound-more form l v s t i h = go (decLt i (length l))
 
 -- ---- the network's fields
 
-module _ (links flows tunnels : ℕ) where
-  pub body-cap : (k : ℕ) → k < links → networkBody links flows tunnels k ≡ line "cap=" (Between 0 mostAmount)
+module _ (n : counts.Network) where
+  pub body-cap : (k : ℕ) → k < n .links → networkBody n (linkAt n k) ≡ line "cap=" (Between 0 mostAmount)
   unfolding networkBody
-  body-cap k h = rw (lt-ltb k links h)
+  body-cap k h = rw (lt-ltb (linkAt n k) (flowAt n 0) (omega (arith, link-at n k, link-at n (n .links), flows-follow n)))
 
-  pub body-flow : (f j : ℕ) → f < flows → j < 2 → networkBody links flows tunnels (links + 2 * f + j) ≡ getD flowLines j End
+  pub body-flow : (f j : ℕ) → f < n .flows → j < 2 → networkBody n (flowAt n f + j) ≡ getD flowLines j End
   unfolding networkBody
   body-flow f j h k =
-      let x : links ≤ links + 2 * f + j = omega arith in
-      let y : (links + 2 * f + j - links) / 2 < flows = omega arith in
-      let z : (links + 2 * f + j - links) % 2 ≡ j = omega arith in
-      rw (le-ltb (links + 2 * f + j) links x, lt-ltb ((links + 2 * f + j - links) / 2) flows y, z)
+      let x : flowAt n 0 ≤ flowAt n f + j = omega (arith, flow-at n f) in
+      let y : flowAt n f + j < tunnelAt n 0 = omega (arith, flow-at n f, flow-at n (n .flows), tunnels-follow n) in
+      let z : (flowAt n f + j - flowAt n 0) % 2 ≡ j = omega (arith, flow-at n f) in
+      rw (le-ltb (flowAt n f + j) (flowAt n 0) x, lt-ltb (flowAt n f + j) (tunnelAt n 0) y, z)
 
-  pub body-tunnel : (t j : ℕ) → t < tunnels → j < 4 → networkBody links flows tunnels (links + 2 * flows + 4 * t + j) ≡ getD (tunnelLines links flows) j End
+  flows-before : flowAt n 0 ≤ tunnelAt n 0
+  flows-before = omega (arith, flow-at n (n .flows), tunnels-follow n)
+
+  pub body-tunnel : (t j : ℕ) → t < n .tunnels → j < 4 → networkBody n (tunnelAt n t + j) ≡ getD (tunnelLines n) j End
   unfolding networkBody
   body-tunnel t j h k =
-      let n : ℕ = links + 2 * flows + 4 * t + j in
-      let x : links ≤ links + 2 * flows + 4 * t + j = omega arith in
-      let m : links + 2 * flows + 4 * t + j - links ≡ 2 * flows + (4 * t + j) = omega arith in
-      let d : 2 * flows + (4 * t + j) - 2 * flows ≡ 4 * t + j = omega arith in
-      let y : flows ≤ (2 * flows + (4 * t + j)) / 2 = omega arith in
-      let w : (4 * t + j) / 4 < tunnels = omega arith in
-      let z : (4 * t + j) % 4 ≡ j = omega arith in
-      rw (le-ltb (links + 2 * flows + 4 * t + j) links x, m, le-ltb ((2 * flows + (4 * t + j)) / 2) flows y, d, lt-ltb ((4 * t + j) / 4) tunnels w, z)
+      let x : flowAt n 0 ≤ tunnelAt n t + j = omega (arith, tunnel-at n t, flows-before) in
+      let y : tunnelAt n 0 ≤ tunnelAt n t + j = omega (arith, tunnel-at n t) in
+      let w : tunnelAt n t + j < networkSize n = omega (arith, tunnel-at n t, tunnel-at n (n .tunnels)) in
+      let z : (tunnelAt n t + j - tunnelAt n 0) % 4 ≡ j = omega (arith, tunnel-at n t) in
+      rw (le-ltb (tunnelAt n t + j) (flowAt n 0) x, le-ltb (tunnelAt n t + j) (tunnelAt n 0) y, lt-ltb (tunnelAt n t + j) (networkSize n) w, z)
 
-  pub body-end : (n : ℕ) → links + 2 * flows + 4 * tunnels ≤ n → networkBody links flows tunnels n ≡ End
+  pub body-end : (i : ℕ) → networkSize n ≤ i → networkBody n i ≡ End
   unfolding networkBody
-  body-end n h =
-      let x : links ≤ n = omega arith in
-      let y : flows ≤ (n - links) / 2 = omega arith in
-      let z : tunnels ≤ (n - links - 2 * flows) / 4 = omega arith in
-      rw (le-ltb n links x, le-ltb ((n - links) / 2) flows y, le-ltb ((n - links - 2 * flows) / 4) tunnels z)
+  body-end i h =
+      let y : tunnelAt n 0 ≤ i = omega (arith, tunnel-at n (n .tunnels)) in
+      let x : flowAt n 0 ≤ i = omega (arith, flows-before) in
+      rw (le-ltb i (flowAt n 0) x, le-ltb i (tunnelAt n 0) y, le-ltb i (networkSize n) h)
 
 -- the field at an index of a list, in the head and after it
 module _ (l : List ℕ) (i : ℕ) (h : i ≤ length l) where
-  pub network-head-field : i < 6 → fieldOf Network (take i l) ≡ getD networkLines i End
-  unfolding fieldOf
-  network-head-field k = rw (length-take-le i l h, lt-ltb i 6 k)
+  sizes-kept : length networkLines ≤ i → networkSizes (take i l) ≡ networkSizes l
+  unfolding networkSizes
+  sizes-kept k = rw (getD-take i l 3 0 (omega arith), getD-take i l 4 0 (omega arith), getD-take i l 5 0 (omega arith)) refl
 
-  pub network-body-field : (n : ℕ) → i ≡ 6 + n → fieldOf Network (take i l) ≡ networkBody (at l 3) (at l 4) (at l 5) n
+  pub network-head-field : i < length networkLines → fieldOf Network (take i l) ≡ getD networkLines i End
   unfolding fieldOf
-  network-body-field n e =
-      let k : 6 ≤ i = omega arith in
-      let d : i - 6 ≡ n = omega arith in
-      rw (length-take-le i l h, le-ltb i 6 k, getD-take i l 3 0 (omega arith), getD-take i l 4 0 (omega arith), getD-take i l 5 0 (omega arith), d)
+  network-head-field k = rw (length-take-le i l h, lt-ltb i (length networkLines) k)
+
+  pub network-body-field : length networkLines ≤ i → fieldOf Network (take i l) ≡ networkBody (networkSizes l) i
+  unfolding fieldOf
+  network-body-field k = rw (length-take-le i l h, sizes-kept k, le-ltb i (length networkLines) k)
 
   pub plan-head-field : i < 4 → fieldOf Plan (take i l) ≡ getD planLines i End
   unfolding fieldOf
   plan-head-field k = rw (length-take-le i l h, lt-ltb i 4 k)
 
-  pub plan-body-field : (n : ℕ) → i ≡ 4 + n → fieldOf Plan (take i l) ≡ planBody l n
+  pub plan-body-field : 4 ≤ i → fieldOf Plan (take i l) ≡ planBody (planSizes l) i
   unfolding fieldOf
-  plan-body-field n e =
-      let k : 4 ≤ i = omega arith in
-      let d : i - 4 ≡ n = omega arith in
-      rw (length-take-le i l h, le-ltb i 4 k, getD-take i l 1 0 (omega arith), getD-take i l 2 0 (omega arith), getD-take i l 3 0 (omega arith), d)
+  plan-body-field k = rw (length-take-le i l h, le-ltb i 4 k, getD-take i l 1 0 (omega arith), getD-take i l 2 0 (omega arith), getD-take i l 3 0 (omega arith))
 
   pub rules-head-field : i < 4 → fieldOf Rules (take i l) ≡ getD rulesLines i End
   unfolding fieldOf
   rules-head-field k = rw (length-take-le i l h, lt-ltb i 4 k)
 
-  pub rules-body-field : (n : ℕ) → i ≡ 4 + n → fieldOf Rules (take i l) ≡ rulesBody (at l 2) (at l 3) n
+  pub rules-body-field : 4 ≤ i → fieldOf Rules (take i l) ≡ rulesBody (tableSizes l) i
   unfolding fieldOf
-  rules-body-field n e =
-      let k : 4 ≤ i = omega arith in
-      let d : i - 4 ≡ n = omega arith in
-      rw (length-take-le i l h, le-ltb i 4 k, getD-take i l 2 0 (omega arith), getD-take i l 3 0 (omega arith), d)
+  rules-body-field k = rw (length-take-le i l h, le-ltb i 4 k, getD-take i l 2 0 (omega arith), getD-take i l 3 0 (omega arith))
 
 -- a sound network's number in the head, and after it
 module _ (l : List ℕ) (s : Sound Network l) where
-  pub network-head-at : (i : ℕ) → i < length l → i < 6 → T (allows (getD networkLines i End) (at l i))
+  pub network-head-at : (i : ℕ) → i < length l → i < length networkLines → T (allows (getD networkLines i End) (at l i))
   network-head-at i h k = rw (network-head-field l i (le-of-lt h) k) at (sound-at Network l i h s)
 
-  pub network-body-at : (n : ℕ) → 6 + n < length l → T (allows (networkBody (at l 3) (at l 4) (at l 5) n) (at l (6 + n)))
-  network-body-at n h = rw (network-body-field l (6 + n) (le-of-lt h) n refl) at (sound-at Network l (6 + n) h s)
+  pub network-body-at : (i : ℕ) → i < length l → length networkLines ≤ i → T (allows (networkBody (networkSizes l) i) (at l i))
+  network-body-at i h k = rw (network-body-field l i (le-of-lt h) k) at (sound-at Network l i h s)
 
-pub record NetworkHead (l : List ℕ) : Type 0 where
-  pub links : (1 ≤ at l 3) × (at l 3 ≤ mostLinks)
-  pub flows : at l 4 ≤ mostFlows
-  pub tunnels : at l 5 ≤ mostTunnels
+-- what the lines of a head say of the counts
+pub limited : (l : List ℕ) → ((i : ℕ) → i < length networkLines → T (allows (getD networkLines i End) (at l i))) → (1 ≤ networkSizes l .links) × Limited (networkSizes l)
+unfolding networkSizes
+limited l t =
+    let k = between 1 mostLinks (at l 3) (t 3 (omega arith)) in
+    (k .0, record { links = k .1; flows = between 0 mostFlows (at l 4) (t 4 (omega arith)) .1; tunnels = between 0 mostTunnels (at l 5) (t 5 (omega arith)) .1 })
 
-pub head-of-network : (l : List ℕ) → Sound Network l → 6 ≤ length l → NetworkHead l
-head-of-network l s h =
-    record {
-      links = between 1 mostLinks (at l 3) (network-head-at l s 3 (omega arith) (omega arith));
-      flows = between 0 mostFlows (at l 4) (network-head-at l s 4 (omega arith) (omega arith)) .1;
-      tunnels = between 0 mostTunnels (at l 5) (network-head-at l s 5 (omega arith) (omega arith)) .1;
-    }
+pub head-of-network : (l : List ℕ) → Sound Network l → length networkLines ≤ length l → Limited (networkSizes l)
+head-of-network l s h = limited l (λ i k. network-head-at l s i (omega arith) k) .1
 
 -- ---- the plan's fields
-
--- how many lines follow the head
-abbrev pub rowLines : List ℕ → ℕ
-rowLines l = (at l 2 - 1) * at l 3
 
 module _ (l : List ℕ) (s : Sound Plan l) where
   pub plan-head-at : (i : ℕ) → i < length l → i < 4 → T (allows (getD planLines i End) (at l i))
   plan-head-at i h k = rw (plan-head-field l i (le-of-lt h) k) at (sound-at Plan l i h s)
 
-  pub plan-body-at : (n : ℕ) → 4 + n < length l → T (allows (planBody l n) (at l (4 + n)))
-  plan-body-at n h = rw (plan-body-field l (4 + n) (le-of-lt h) n refl) at (sound-at Plan l (4 + n) h s)
+  pub plan-body-at : (i : ℕ) → i < length l → 4 ≤ i → T (allows (planBody (planSizes l) i) (at l i))
+  plan-body-at i h k = rw (plan-body-field l i (le-of-lt h) k) at (sound-at Plan l i h s)
 
 pub record PlanHead (l : List ℕ) : Type 0 where
-  pub parts : (1 ≤ at l 1) × (at l 1 ≤ mostSteps)
-  pub steps : (1 ≤ at l 2) × (at l 2 ≤ mostSteps)
-  pub tunnels : at l 3 ≤ mostTunnels
+  pub parts : (1 ≤ planSizes l .parts) × (planSizes l .parts ≤ mostSteps)
+  pub steps : (1 ≤ planSizes l .steps) × (planSizes l .steps ≤ mostSteps)
+  pub tunnels : planSizes l .tunnels ≤ mostTunnels
 
 pub head-of-plan : (l : List ℕ) → Sound Plan l → 4 ≤ length l → PlanHead l
 head-of-plan l s h =
@@ -191,36 +183,33 @@ head-of-plan l s h =
 
 -- ---- the rule tables' fields
 
-module _ (switches tunnels : ℕ) where
-  pub body-room : (k : ℕ) → k < switches → rulesBody switches tunnels k ≡ line "room=" (Between 0 mostRoom)
+module _ (n : RuleTables) where
+  pub body-room : (s : ℕ) → s < n .switches → rulesBody n (roomAt n s) ≡ line "room=" (Between 0 mostRoom)
   unfolding rulesBody
-  body-room k h = rw (lt-ltb k switches h)
+  body-room s h = let x : roomAt n s < ruleAt n 0 = omega arith in rw (lt-ltb (roomAt n s) (ruleAt n 0) x)
 
-  pub body-rule : (t j : ℕ) → t < tunnels → j < 2 → rulesBody switches tunnels (switches + 2 * t + j) ≡ getD (ruleLines switches) j End
+  pub body-rule : (t j : ℕ) → t < n .tunnels → j < 2 → rulesBody n (ruleAt n t + j) ≡ getD (ruleLines n) j End
   unfolding rulesBody
   body-rule t j h k =
-      let x : switches ≤ switches + 2 * t + j = omega arith in
-      let y : (switches + 2 * t + j - switches) / 2 < tunnels = omega arith in
-      let z : (switches + 2 * t + j - switches) % 2 ≡ j = omega arith in
-      rw (le-ltb (switches + 2 * t + j) switches x, lt-ltb ((switches + 2 * t + j - switches) / 2) tunnels y, z)
+      let x : ruleAt n 0 ≤ ruleAt n t + j = omega arith in
+      let y : ruleAt n t + j < tablesSize n = omega arith in
+      let z : (ruleAt n t + j - ruleAt n 0) % 2 ≡ j = omega arith in
+      rw (le-ltb (ruleAt n t + j) (ruleAt n 0) x, lt-ltb (ruleAt n t + j) (tablesSize n) y, z)
 
-  pub rules-end : (n : ℕ) → switches + 2 * tunnels ≤ n → rulesBody switches tunnels n ≡ End
+  pub rules-end : (i : ℕ) → tablesSize n ≤ i → rulesBody n i ≡ End
   unfolding rulesBody
-  rules-end n h =
-      let x : switches ≤ n = omega arith in
-      let y : tunnels ≤ (n - switches) / 2 = omega arith in
-      rw (le-ltb n switches x, le-ltb ((n - switches) / 2) tunnels y)
+  rules-end i h = let x : ruleAt n 0 ≤ i = omega arith in rw (le-ltb i (ruleAt n 0) x, le-ltb i (tablesSize n) h)
 
 module _ (l : List ℕ) (s : Sound Rules l) where
   pub rules-head-at : (i : ℕ) → i < length l → i < 4 → T (allows (getD rulesLines i End) (at l i))
   rules-head-at i h k = rw (rules-head-field l i (le-of-lt h) k) at (sound-at Rules l i h s)
 
-  pub rules-body-at : (n : ℕ) → 4 + n < length l → T (allows (rulesBody (at l 2) (at l 3) n) (at l (4 + n)))
-  rules-body-at n h = rw (rules-body-field l (4 + n) (le-of-lt h) n refl) at (sound-at Rules l (4 + n) h s)
+  pub rules-body-at : (i : ℕ) → i < length l → 4 ≤ i → T (allows (rulesBody (tableSizes l) i) (at l i))
+  rules-body-at i h k = rw (rules-body-field l i (le-of-lt h) k) at (sound-at Rules l i h s)
 
 pub record RulesHead (l : List ℕ) : Type 0 where
-  pub switches : (1 ≤ at l 2) × (at l 2 ≤ mostSwitches)
-  pub tunnels : at l 3 ≤ mostTunnels
+  pub switches : (1 ≤ tableSizes l .switches) × (tableSizes l .switches ≤ mostSwitches)
+  pub tunnels : tableSizes l .tunnels ≤ mostTunnels
 
 pub head-of-rules : (l : List ℕ) → Sound Rules l → 4 ≤ length l → RulesHead l
 head-of-rules l s h =
@@ -231,23 +220,24 @@ head-of-rules l s h =
 
 -- ---- no list of a form is longer than the most numbers of the form
 
+plan-most : (n : PlanSizes) → n .steps ≤ mostSteps → n .tunnels ≤ mostTunnels → planSize n ≤ mostPlan
+plan-most n h k = let q : n .steps - 1 ≤ mostSteps - 1 = omega arith in omega (arith, mul-le-mul q k)
+
 full : (form : Form) (l : List ℕ) → Sound form l → mostOf form ≤ length l → fieldOf form l ≡ End
 unfolding fieldOf
 full Network l s h =
-    let b = head-of-network l s (omega arith) in
-    let w : 6 ≤ length l = omega arith in
-    rw (le-ltb (length l) 6 w) (body-end (at l 3) (at l 4) (at l 5) (length l - 6) (omega arith))
+    let n = networkSizes l in
+    let w : length networkLines ≤ length l = omega (arith, head-size n, head-most n) in
+    rw (le-ltb (length l) (length networkLines) w) (body-end n (length l) (omega (arith, most-network n (head-of-network l s w))))
 full Plan l s h =
     let b = head-of-plan l s (omega arith) in
-    let q : at l 2 - 1 ≤ 49 = omega arith in
-    let p : (at l 2 - 1) * at l 3 ≤ 49 * 96 = mul-le-mul q (b .tunnels) in
-    let x : (at l 2 - 1) * at l 3 ≤ length l - 4 = omega arith in
+    let x : planSize (planSizes l) ≤ length l = omega (arith, plan-most (planSizes l) (b .steps .1) (b .tunnels)) in
     let w : 4 ≤ length l = omega arith in
-    simp (le-ltb (length l) 4 w, le-ltb (length l - 4) ((at l 2 - 1) * at l 3) x)
+    simp (le-ltb (length l) 4 w, le-ltb (length l) (planSize (planSizes l)) x)
 full Rules l s h =
     let b = head-of-rules l s (omega arith) in
     let w : 4 ≤ length l = omega arith in
-    rw (le-ltb (length l) 4 w) (rules-end (at l 2) (at l 3) (length l - 4) (omega arith))
+    rw (le-ltb (length l) 4 w) (rules-end (tableSizes l) (length l) (omega arith))
 
 pub room : (form : Form) (l : List ℕ) (v : ℕ) → Sound form l → T (allows (fieldOf form l) v) → length l < mostOf form
 room form l v s t = go (decLt (length l) (mostOf form))
@@ -259,7 +249,7 @@ room form l v s t = go (decLt (length l) (mostOf form))
         absurd (rw e at t)
 
 pub most-numbers : (form : Form) → mostOf form ≤ mostNumbers
-most-numbers Network = omega arith
+most-numbers Network = most-in-all
 most-numbers Plan = omega arith
 most-numbers Rules = omega arith
 
@@ -291,47 +281,46 @@ low-at (f ∷ fs) (suc n) p = low-at fs n (p .1)
 lit : (n : ℕ) → T (leb n (mostAmount * mostSteps)) → n ≤ mostAmount * mostSteps
 lit n t = leb→le n (mostAmount * mostSteps) t
 
-low-body : (links flows tunnels n : ℕ) → links ≤ mostLinks → flows ≤ mostFlows → Low (networkBody links flows tunnels n)
+low-body : (n : counts.Network) (i : ℕ) → Limited n → Low (networkBody n i)
 unfolding networkBody
-low-body links flows tunnels n hl h =
-    let m : ℕ = n - links in
-    low-cond (ltb n links) (line "cap=" (Between 0 mostAmount)) _ (lit mostAmount tt)
-    (low-cond (ltb (m / 2) flows) (getD flowLines (m % 2) End) _ (low-at flowLines (m % 2) (lit 2 tt, (lit mostAmount tt, tt)))
-    (low-cond (ltb ((m - 2 * flows) / 4) tunnels) (getD (tunnelLines links flows) ((m - 2 * flows) % 4) End) End
-    (low-at (tunnelLines links flows) ((m - 2 * flows) % 4) (omega arith, (hl, (lit mostAmount tt, (lit mostAmount tt, tt))))) tt))
+low-body n i h =
+    low-cond (ltb i (flowAt n 0)) (line "cap=" (Between 0 mostAmount)) _ (lit mostAmount tt)
+    (low-cond (ltb i (tunnelAt n 0)) (getD flowLines ((i - flowAt n 0) % 2) End) _ (low-at flowLines ((i - flowAt n 0) % 2) (lit 2 tt, (lit mostAmount tt, tt)))
+    (low-cond (ltb i (networkSize n)) (getD (tunnelLines n) ((i - tunnelAt n 0) % 4) End) End
+    (low-at (tunnelLines n) ((i - tunnelAt n 0) % 4) (omega arith, (h .links, (lit mostAmount tt, (lit mostAmount tt, tt))))) tt))
 
-low-rules : (switches tunnels n : ℕ) → switches ≤ mostSwitches → Low (rulesBody switches tunnels n)
+low-rules : (n : RuleTables) (i : ℕ) → n .switches ≤ mostSwitches → Low (rulesBody n i)
 unfolding rulesBody
-low-rules switches tunnels n h =
-    let m : ℕ = n - switches in
-    low-cond (ltb n switches) (line "room=" (Between 0 mostRoom)) _ (lit mostRoom tt)
-    (low-cond (ltb (m / 2) tunnels) (getD (ruleLines switches) (m % 2) End) End (low-at (ruleLines switches) (m % 2) (h, (lit 3 tt, tt))) tt)
+low-rules n i h =
+    low-cond (ltb i (ruleAt n 0)) (line "room=" (Between 0 mostRoom)) _ (lit mostRoom tt)
+    (low-cond (ltb i (tablesSize n)) (getD (ruleLines n) ((i - ruleAt n 0) % 2) End) End (low-at (ruleLines n) ((i - ruleAt n 0) % 2) (h, (lit 3 tt, tt))) tt)
 
 low-field : (form : Form) (l : List ℕ) → Sound form l → Low (fieldOf form l)
 unfolding fieldOf
-low-field Network l s = go (decLt (length l) 6)
+low-field Network l s = go (decLt (length l) (length networkLines))
   where
-    go : Dec (length l < 6) → Low (fieldOf Network l)
-    go (yes h) = rw (lt-ltb (length l) 6 h) (low-at networkLines (length l) (lit 1 tt, (lit 500 tt, (lit 500 tt, (lit 64 tt, (lit 32 tt, (lit 96 tt, tt)))))))
+    go : Dec (length l < length networkLines) → Low (fieldOf Network l)
+    go (yes h) =
+        rw (lt-ltb (length l) (length networkLines) h)
+        (low-at networkLines (length l) (lit 1 tt, (lit mostShare tt, (lit mostShare tt, (lit mostLinks tt, (lit mostFlows tt, (lit mostTunnels tt, tt)))))))
     go (no h) =
-        let k : 6 ≤ length l = omega arith in
-        let b = head-of-network l s k in
-        rw (le-ltb (length l) 6 k) (low-body (at l 3) (at l 4) (at l 5) (length l - 6) (b .links .1) (b .flows))
+        let k : length networkLines ≤ length l = omega arith in
+        rw (le-ltb (length l) (length networkLines) k) (low-body (networkSizes l) (length l) (head-of-network l s k))
 low-field Plan l s = go (decLt (length l) 4)
   where
     go : Dec (length l < 4) → Low (fieldOf Plan l)
-    go (yes h) = rw (lt-ltb (length l) 4 h) (low-at planLines (length l) (lit 1 tt, (lit 50 tt, (lit 50 tt, (lit 96 tt, tt)))))
+    go (yes h) = rw (lt-ltb (length l) 4 h) (low-at planLines (length l) (lit 1 tt, (lit mostSteps tt, (lit mostSteps tt, (lit mostTunnels tt, tt)))))
     go (no h) =
         let k : 4 ≤ length l = omega arith in
         let b = head-of-plan l s k in
-        rw (le-ltb (length l) 4 k) (low-cond (ltb (length l - 4) (rowLines l)) (line "at=" (Between 0 (mostAmount * at l 1))) End (omega (arith, b .parts .1)) tt)
+        rw (le-ltb (length l) 4 k) (low-cond (ltb (length l) (planSize (planSizes l))) (line "at=" (Between 0 (mostAmount * at l 1))) End (omega (arith, b .parts .1)) tt)
 low-field Rules l s = go (decLt (length l) 4)
   where
     go : Dec (length l < 4) → Low (fieldOf Rules l)
-    go (yes h) = rw (lt-ltb (length l) 4 h) (low-at rulesLines (length l) (lit 1 tt, (lit 500 tt, (lit 64 tt, (lit 96 tt, tt)))))
+    go (yes h) = rw (lt-ltb (length l) 4 h) (low-at rulesLines (length l) (lit 1 tt, (lit mostShare tt, (lit mostSwitches tt, (lit mostTunnels tt, tt)))))
     go (no h) =
         let k : 4 ≤ length l = omega arith in
-        rw (le-ltb (length l) 4 k) (low-rules (at l 2) (at l 3) (length l - 4) (head-of-rules l s k .switches .1))
+        rw (le-ltb (length l) 4 k) (low-rules (tableSizes l) (length l) (head-of-rules l s k .switches .1))
 
 -- no number that is written in decimal has more than 10 digits, and none in hexadecimal more than 16
 pub zero-or : (low high v : ℕ) → T (eqb v 0 || (leb low v && leb v high)) → v ≤ high

@@ -14,17 +14,20 @@ use borrow.Author.Tests.{lt-ltb, le-ltb}
 use Rattle.model.specs.Limits.{mostLinks, mostFlows, mostTunnels, mostSteps, mostAmount, leastShare, mostShare}
 use Rattle.model.specs.Outcome.{good, Cause, unless, Place}
 use Rattle.model.specs.Rule as rule
-use Rattle.lists.specs.Lists.{at, flowAt, tunnelAt, networkOf, GoodNetwork, GoodPlan}
+use Rattle.model.specs.Claim.{Valid}
+use Rattle.lists.specs.Lists.{at, networkSizes, linkAt, flowAt, tunnelAt, networkSize, networkOf, planSizes, planSize}
+use Rattle.lists.specs.Good.{NetworkRanges, GoodNetwork, GoodPlan}
+use Rattle.lists.specs.declared.Network as counts
+use Rattle.lists.proofs.Positions.{link-at, flow-at, tunnel-at, flows-follow, head-size, head-before, each-number, link-in, flow-in, tunnel-in}
 use Rattle.forms.specs.Keys.{keys, placeIn}
-use Rattle.forms.specs.Form.{planBody, Sound, Whole, allows, fieldOf, networkLines, flowLines, tunnelLines, planLines, networkBody}
+use Rattle.forms.specs.Form.{line, planBody, Sound, Whole, allows, fieldOf, networkLines, flowLines, tunnelLines, planLines, networkBody}
 use Rattle.forms.specs.Read.{addUp}
-use Rattle.forms.specs.Good.{NetworkRanges}
 use Rattle.forms.specs.declared.form.Form.the-variants.{Network, Plan}
 use Rattle.forms.specs.declared.form.Range.the-variants.{Between}
 use Rattle.forms.specs.declared.form.Field.{Field}
 use Rattle.forms.specs.declared.form.Field.the-variants.{Line, End}
 use Rattle.model.proofs.Searches.{both}
-use Rattle.forms.proofs.Forms.{between, in-between, network-head-at, network-body-at, plan-head-at, plan-body-at, rowLines, body-cap, body-flow, body-tunnel, body-end, plan-head-field, plan-body-field}
+use Rattle.forms.proofs.Forms.{between, in-between, network-head-at, network-body-at, plan-head-at, plan-body-at, limited, body-cap, body-flow, body-tunnel, body-end, plan-head-field, plan-body-field}
 use Rattle.forms.proofs.Walks.{judged-good, good-judged}
 use Rattle.forms.specs.Named.{judgeNetwork, judgePlan}
 
@@ -59,68 +62,60 @@ zero-or-in low high (suc v) t = inr (between low high (suc v) (rw (eqb·suc-zero
 
 -- ---- the network
 
-module _ (links flows tunnels : ℕ) where
-  body-ends : (n : ℕ) → networkBody links flows tunnels n ≡ End → links + 2 * flows + 4 * tunnels ≤ n
-  body-ends n e = caps (decLt n links)
+module _ (n : counts.Network) where
+  -- where the form has an end, it is past the last number
+  body-ends : (i : ℕ) → linkAt n 0 ≤ i → networkBody n i ≡ End → networkSize n ≤ i
+  body-ends i h e = go (decLt i (networkSize n))
     where
-      by-tunnel : links + 2 * flows ≤ n → Dec ((n - links - 2 * flows) / 4 < tunnels) → links + 2 * flows + 4 * tunnels ≤ n
-      by-tunnel k (yes h) =
-          let t : ℕ = (n - links - 2 * flows) / 4 in
-          let j : (n - links - 2 * flows) % 4 < 4 = omega arith in
-          let p : links + 2 * flows + 4 * ((n - links - 2 * flows) / 4) + (n - links - 2 * flows) % 4 ≡ n = omega arith in
-          absurd (lines-no-end (tunnelLines links flows) ((n - links - 2 * flows) % 4) (tt, (tt, (tt, (tt, tt)))) j
-          (sym (body-tunnel links flows tunnels ((n - links - 2 * flows) / 4) ((n - links - 2 * flows) % 4) h j)
-          ∙ ap (λ (m : ℕ). networkBody links flows tunnels m) p ∙ e))
-      by-tunnel k (no h) = omega arith
-
-      by-flow : links ≤ n → Dec ((n - links) / 2 < flows) → links + 2 * flows + 4 * tunnels ≤ n
-      by-flow k (yes h) =
-          let j : (n - links) % 2 < 2 = omega arith in
-          let p : links + 2 * ((n - links) / 2) + (n - links) % 2 ≡ n = omega arith in
-          absurd (lines-no-end flowLines ((n - links) % 2) (tt, (tt, tt)) j
-          (sym (body-flow links flows tunnels ((n - links) / 2) ((n - links) % 2) h j)
-          ∙ ap (λ (m : ℕ). networkBody links flows tunnels m) p ∙ e))
-      by-flow k (no h) = by-tunnel (omega arith) (decLt ((n - links - 2 * flows) / 4) tunnels)
-
-      caps : Dec (n < links) → links + 2 * flows + 4 * tunnels ≤ n
-      caps (yes h) = let z : _≡_ {A = ℕ} 0 1 = cc (body-cap links flows tunnels n h) in absurd (omega arith)
-      caps (no h) = by-flow (omega arith) (decLt ((n - links) / 2) flows)
+      go : Dec (i < networkSize n) → networkSize n ≤ i
+      go (yes k) =
+          absurd (each-number n (λ m. networkBody n m ≡ End → ⊥)
+          (λ l k x. let z : _≡_ {A = ℕ} 0 1 = cc (body-cap n l k) in omega arith)
+          (λ f j k g x. lines-no-end flowLines j (tt, (tt, tt)) g (sym (body-flow n f j k g) ∙ x))
+          (λ t j k g x. lines-no-end (tunnelLines n) j (tt, (tt, (tt, (tt, tt)))) g (sym (body-tunnel n t j k g) ∙ x)) i h k e)
+      go (no k) = omega arith
 
 module _ (l : List ℕ) (w : Whole Network l) where
-  network-long : 6 ≤ length l
+  abbrev sizes : counts.Network
+  sizes = networkSizes l
+
+  network-long : length networkLines ≤ length l
   unfolding fieldOf
-  network-long = go (decLt (length l) 6)
+  network-long = go (decLt (length l) (length networkLines))
     where
-      go : Dec (length l < 6) → 6 ≤ length l
-      go (yes h) = absurd (lines-no-end networkLines (length l) (tt, (tt, (tt, (tt, (tt, (tt, tt)))))) h (rw (lt-ltb (length l) 6 h) at (w .ends)))
+      go : Dec (length l < length networkLines) → length networkLines ≤ length l
+      go (yes h) = absurd (lines-no-end networkLines (length l) (tt, (tt, (tt, (tt, (tt, (tt, tt)))))) h (rw (lt-ltb (length l) (length networkLines) h) at (w .ends)))
       go (no h) = omega arith
 
-  network-body-ends : networkBody (at l 3) (at l 4) (at l 5) (length l - 6) ≡ End
+  network-body-ends : networkBody sizes (length l) ≡ End
   unfolding fieldOf
-  network-body-ends = rw (le-ltb (length l) 6 network-long) at (w .ends)
+  network-body-ends = rw (le-ltb (length l) (length networkLines) network-long) at (w .ends)
 
-  pub network-size : length l ≡ 6 + at l 3 + 2 * at l 4 + 4 * at l 5
-  network-size = go (decLt (6 + (at l 3 + 2 * at l 4 + 4 * at l 5)) (length l))
-    where
-      go : Dec (6 + (at l 3 + 2 * at l 4 + 4 * at l 5) < length l) → length l ≡ 6 + at l 3 + 2 * at l 4 + 4 * at l 5
-      go (yes h) =
-          let e : networkBody (at l 3) (at l 4) (at l 5) (at l 3 + 2 * at l 4 + 4 * at l 5) ≡ End = body-end (at l 3) (at l 4) (at l 5) (at l 3 + 2 * at l 4 + 4 * at l 5) (omega arith) in
-          absurd (rw e at (network-body-at l (w .sound) (at l 3 + 2 * at l 4 + 4 * at l 5) h))
-      go (no h) = omega (arith, body-ends (at l 3) (at l 4) (at l 5) (length l - 6) network-body-ends, network-long)
-
-  body-line : (n i : ℕ) → i ≡ 6 + n → i < length l → T (allows (networkBody (at l 3) (at l 4) (at l 5) n) (at l i))
-  body-line n i e h = rw e (network-body-at l (w .sound) n (rw e at h))
-
-  flow-line : (f j i : ℕ) → f < at l 4 → j < 2 → i ≡ 6 + at l 3 + 2 * f + j → T (allows (getD flowLines j End) (at l i))
-  flow-line f j i h k e =
-      rw (body-flow (at l 3) (at l 4) (at l 5) f j h k) at (body-line (at l 3 + 2 * f + j) i (omega arith) (omega (arith, network-size)))
-
-  pub tunnel-line : (t j i : ℕ) → t < at l 5 → j < 4 → i ≡ 6 + at l 3 + 2 * at l 4 + 4 * t + j → T (allows (getD (tunnelLines (at l 3) (at l 4)) j End) (at l i))
-  tunnel-line t j i h k e =
-      rw (body-tunnel (at l 3) (at l 4) (at l 5) t j h k) at (body-line (at l 3 + 2 * at l 4 + 4 * t + j) i (omega arith) (omega (arith, network-size)))
-
-  head-line : (i : ℕ) → i < 6 → T (allows (getD networkLines i End) (at l i))
+  head-line : (i : ℕ) → i < length networkLines → T (allows (getD networkLines i End) (at l i))
   head-line i h = network-head-at l (w .sound) i (omega (arith, network-long)) h
+
+  pub network-size : length l ≡ networkSize sizes
+  network-size = go (decLt (networkSize sizes) (length l))
+    where
+      go : Dec (networkSize sizes < length l) → length l ≡ networkSize sizes
+      go (yes h) =
+          let e : networkBody sizes (networkSize sizes) ≡ End = body-end sizes (networkSize sizes) (omega arith) in
+          absurd (rw e at (network-body-at l (w .sound) (networkSize sizes) h (omega (arith, head-size sizes, head-before sizes, tunnel-at sizes (sizes .tunnels)))))
+      go (no h) = omega (arith, body-ends sizes (length l) (omega (arith, head-size sizes, network-long)) network-body-ends)
+
+  body-line : (i : ℕ) → linkAt sizes 0 ≤ i → i < length l → T (allows (networkBody sizes i) (at l i))
+  body-line i h k = network-body-at l (w .sound) i k (omega (arith, head-size sizes))
+
+  cap-line : (k : ℕ) → k < sizes .links → T (allows (line "cap=" (Between 0 mostAmount)) (at l (linkAt sizes k)))
+  cap-line k h = rw (body-cap sizes k h) at (body-line (linkAt sizes k) (omega (arith, link-at sizes k)) (link-in l network-size k h))
+
+  flow-line : (f j : ℕ) → f < sizes .flows → j < 2 → T (allows (getD flowLines j End) (at l (flowAt sizes f + j)))
+  flow-line f j h k =
+      rw (body-flow sizes f j h k) at (body-line (flowAt sizes f + j) (omega (arith, flow-at sizes f, flows-follow sizes, link-at sizes (sizes .links))) (omega (arith, flow-in l network-size f h)))
+
+  pub tunnel-line : (t j : ℕ) → t < sizes .tunnels → j < 4 → T (allows (getD (tunnelLines sizes) j End) (at l (tunnelAt sizes t + j)))
+  tunnel-line t j h k =
+      rw (body-tunnel sizes t j h k) at (body-line (tunnelAt sizes t + j) (omega (arith, tunnel-at sizes t, head-before sizes)) (omega (arith, tunnel-in l network-size t h)))
 
   pub network-ranges : NetworkRanges l
   network-ranges =
@@ -128,17 +123,15 @@ module _ (l : List ℕ) (w : Whole Network l) where
         edition = let p = between 1 1 (at l 0) (head-line 0 (omega arith)) in omega arith;
         scratch = between leastShare mostShare (at l 1) (head-line 1 (omega arith));
         overrun = zero-or-in leastShare mostShare (at l 2) (head-line 2 (omega arith));
-        links = between 1 mostLinks (at l 3) (head-line 3 (omega arith));
-        flows = between 0 mostFlows (at l 4) (head-line 4 (omega arith)) .1;
-        tunnels = between 0 mostTunnels (at l 5) (head-line 5 (omega arith)) .1;
-        size = network-size;
-        cap = λ k h. between 0 mostAmount (at l (6 + k)) (rw (body-cap (at l 3) (at l 4) (at l 5) k h) at (body-line k (6 + k) refl (omega (arith, network-size)))) .1;
-        class = λ f h. between 0 2 _ (flow-line f 0 (flowAt l f) h (omega arith) (omega arith)) .1;
-        rate = λ f h. between 0 mostAmount _ (flow-line f 1 (flowAt l f + 1) h (omega arith) refl) .1;
-        flow = λ t h. ltb→lt _ _ (tunnel-line t 0 (tunnelAt l t) h (omega arith) (omega arith));
-        via = λ t h. set-in (at l 3) _ (tunnel-line t 1 (tunnelAt l t + 1) h (omega arith) refl);
-        old = λ t h. between 0 mostAmount _ (tunnel-line t 2 (tunnelAt l t + 2) h (omega arith) refl) .1;
-        new = λ t h. between 0 mostAmount _ (tunnel-line t 3 (tunnelAt l t + 3) h (omega arith) refl) .1;
+        sized = record { counts = limited l head-line .1; size = network-size };
+        some = limited l head-line .0;
+        cap = λ k h. between 0 mostAmount _ (cap-line k h) .1;
+        class = λ f h. let e : flowAt sizes f + 0 ≡ flowAt sizes f = omega arith in between 0 2 _ (rw e at (flow-line f 0 h (omega arith))) .1;
+        rate = λ f h. between 0 mostAmount _ (flow-line f 1 h (omega arith)) .1;
+        flow = λ t h. let e : tunnelAt sizes t + 0 ≡ tunnelAt sizes t = omega arith in ltb→lt _ _ (rw e at (tunnel-line t 0 h (omega arith)));
+        via = λ t h. set-in (sizes .links) _ (tunnel-line t 1 h (omega arith));
+        old = λ t h. between 0 mostAmount _ (tunnel-line t 2 h (omega arith)) .1;
+        new = λ t h. between 0 mostAmount _ (tunnel-line t 3 h (omega arith)) .1;
       }
 
 sums-good : (l g : List ℕ) (o : Option Place) → unless Cause.missedRate o (good l) ≡ good g → o ≡ none
@@ -152,20 +145,13 @@ good-network l g e =
     let j = judged-good Network l g e in
     let r = network-ranges l (j .whole) in (
       j .same,
-      record {
-        size = r .size;
-        links = r .links;
-        flows = r .flows;
-        tunnels = r .tunnels;
-        cap = r .cap;
-        rate = r .rate;
-        flow = r .flow;
-        via = λ t h. r .via t h .1;
-        old = r .old;
-        new = r .new;
-        valid = record { scratch = r .scratch; overrun = r .overrun; sums = sums-good l l (rule.missedRate (networkOf l)) (j .sums) };
-      },
+      record { ranges = r; sums = sums-good l l (rule.missedRate (networkOf l)) (j .sums) },
     )
+
+-- and its figures are valid
+pub good-valid : (l : List ℕ) → GoodNetwork l → Valid (networkOf l)
+unfolding networkOf
+good-valid l g = record { scratch = g .ranges .scratch; overrun = g .ranges .overrun; sums = g .sums }
 
 -- ---- the plan
 
@@ -182,22 +168,25 @@ module _ (l : List ℕ) (w : Whole Plan l) where
       go (yes h) = absurd (lines-no-end planLines (length l) (tt, (tt, (tt, (tt, tt)))) h (rw (lt-ltb (length l) 4 h) at (w .ends)))
       go (no h) = omega arith
 
-  plan-body-ends : planBody l (length l - 4) ≡ End
+  plan-body-ends : planBody (planSizes l) (length l) ≡ End
   unfolding fieldOf
   plan-body-ends = rw (le-ltb (length l) 4 plan-long) at (w .ends)
 
-  body-in : (n : ℕ) → n < rowLines l → 4 + n < length l → at l (4 + n) ≤ mostAmount * at l 1
-  body-in n h k = between 0 (mostAmount * at l 1) (at l (4 + n)) (rw (lt-ltb n (rowLines l) h) at (plan-body-at l (w .sound) n k)) .1
+  body-in : (i : ℕ) → 4 ≤ i → i < planSize (planSizes l) → i < length l → at l i ≤ mostAmount * at l 1
+  body-in i h k less = between 0 (mostAmount * at l 1) (at l i) (rw (lt-ltb i (planSize (planSizes l)) k) at (plan-body-at l (w .sound) i less h)) .1
 
-  pub plan-size : length l ≡ 4 + rowLines l
-  plan-size = go (decLt (length l - 4) (rowLines l)) (decLt (4 + rowLines l) (length l))
+  pub plan-size : length l ≡ planSize (planSizes l)
+  plan-size = go (decLt (length l) (planSize (planSizes l))) (decLt (planSize (planSizes l)) (length l))
     where
-      go : Dec (length l - 4 < rowLines l) → Dec (4 + rowLines l < length l) → length l ≡ 4 + rowLines l
-      go (yes h) d = let z : _≡_ {A = Bool} true false = sym (lt-ltb (length l - 4) (rowLines l) h) ∙ cond-end (ltb (length l - 4) (rowLines l)) (placeIn keys "at=") (mostAmount * at l 1) plan-body-ends in let z′ : _≡_ {A = ℕ} 0 1 = cc in absurd (omega arith)
+      go : Dec (length l < planSize (planSizes l)) → Dec (planSize (planSizes l) < length l) → length l ≡ planSize (planSizes l)
+      go (yes h) d =
+          let z : _≡_ {A = Bool} true false =
+          sym (lt-ltb (length l) (planSize (planSizes l)) h) ∙ cond-end (ltb (length l) (planSize (planSizes l))) (placeIn keys "at=") (mostAmount * at l 1) plan-body-ends in
+          let z′ : _≡_ {A = ℕ} 0 1 = cc in absurd (omega arith)
       go (no h) (yes k) =
-          let same : rowLines l ≤ rowLines l = omega arith in
-          absurd (rw (le-ltb (rowLines l) (rowLines l) same) at (plan-body-at l (w .sound) (rowLines l) k))
-      go (no h) (no k) = omega (arith, plan-long)
+          let same : planSize (planSizes l) ≤ planSize (planSizes l) = omega arith in
+          absurd (rw (le-ltb (planSize (planSizes l)) (planSize (planSizes l)) same) at (plan-body-at l (w .sound) (planSize (planSizes l)) k (omega arith)))
+      go (no h) (no k) = omega arith
 
   plan-head-line : (i : ℕ) → i < 4 → T (allows (getD planLines i End) (at l i))
   plan-head-line i h = plan-head-at l (w .sound) i (omega (arith, plan-long)) h
@@ -210,9 +199,7 @@ module _ (l : List ℕ) (w : Whole Plan l) where
         parts = between 1 mostSteps (at l 1) (plan-head-line 1 (omega arith));
         steps = between 1 mostSteps (at l 2) (plan-head-line 2 (omega arith));
         tunnels = between 0 mostTunnels (at l 3) (plan-head-line 3 (omega arith)) .1;
-        amounts = λ i four h.
-            let e : 4 + (i - 4) ≡ i = omega arith in
-            rw e at (body-in (i - 4) (omega (arith, plan-size)) (omega arith));
+        amounts = λ i four h. body-in i (omega arith) (omega (arith, plan-size)) h;
       }
 
 -- a list that is judged good as a plan is what is got, and is good
@@ -234,16 +221,16 @@ module _ (l : List ℕ) (g : GoodPlan l) where
   plan-sound i h (yes k) = rw (plan-head-field l i (le-of-lt h) k) (head-in i k)
   plan-sound i h (no k) =
       let four : 4 ≤ i = omega arith in
-      let n : i - 4 < (at l 2 - 1) * at l 3 = omega (arith, g .size) in
-      rw (plan-body-field l i (le-of-lt h) (i - 4) (omega arith), lt-ltb (i - 4) ((at l 2 - 1) * at l 3) n)
-      (in-between 0 (mostAmount * at l 1) (at l i) (omega arith) (g .amounts i four h))
+      let n : i < planSize (planSizes l) = omega (arith, g .size) in
+      rw (plan-body-field l i (le-of-lt h) four, lt-ltb i (planSize (planSizes l)) n)
+      (in-between 0 (mostAmount * at l 1) (at l i) (omega arith) (g .amounts i (omega arith) h))
 
   plan-ends : fieldOf Plan l ≡ End
   unfolding fieldOf
   plan-ends =
       let four : 4 ≤ length l = omega (arith, g .size) in
-      let n : (at l 2 - 1) * at l 3 ≤ length l - 4 = omega (arith, g .size) in
-      rw (le-ltb (length l) 4 four, le-ltb (length l - 4) ((at l 2 - 1) * at l 3) n)
+      let n : planSize (planSizes l) ≤ length l = omega (arith, g .size) in
+      rw (le-ltb (length l) 4 four, le-ltb (length l) (planSize (planSizes l)) n)
 
   whole-plan : Whole Plan l
   unfolding Sound

@@ -1,6 +1,6 @@
 -- Laws of the loops over the parts of a network's list, and that a list with its parts in their ranges is whole.
 use mathlib.Core.Bool.{Bool, true, false, true≢false, false≢true}
-use mathlib.Core.Path.{_≡_, refl, subst, subst⁻¹}
+use mathlib.Core.Path.{_≡_, subst, subst⁻¹}
 use mathlib.Core.Logic.{⊎-elim}
 use mathlib.Core.List.{List}
 use Prim.Native.Nat.{ℕ, zero, suc, _+_, _*_, _-_, _/_, _%_, _≤_, _<_}
@@ -10,14 +10,16 @@ use native.Mathlib.Omega.{arith}
 use lib.Dec.{T, ltb}
 use lib.ListN.{length, getD, take}
 use borrow.Author.Tests.{lt-ltb, le-ltb}
-use Rattle.model.specs.Limits.{mostLinks, mostFlows, mostTunnels, mostAmount}
-use Rattle.lists.specs.Lists.{at}
+use Rattle.model.specs.Limits.{mostAmount}
+use Rattle.lists.specs.Lists.{at, networkSizes, linkAt, flowAt, tunnelAt, networkSize}
+use Rattle.lists.specs.declared.Network as counts
+use Rattle.lists.proofs.Positions.{tunnel-at, head-before, head-size, each-number}
 use Rattle.forms.specs.Form.{line, Sound, Whole, allows, admitsOf, fieldOf, networkLines, networkBody, flowLines, tunnelLines}
-use Rattle.forms.specs.Ranges.{Decides, AtMost, PathsIn, HeadIn}
+use Rattle.forms.specs.Ranges.{Decides, LinksIn, FlowsIn, TunnelsIn, HeadIn}
 use Rattle.forms.specs.declared.form.Form.the-variants.{Network}
 use Rattle.forms.specs.declared.form.Range.the-variants.{Between, Set}
 use Rattle.forms.specs.declared.form.Field.the-variants.{Line, End}
-use Rattle.forms.proofs.Forms.{NetworkHead, between, in-between, body-cap, body-flow, body-tunnel, body-end, network-head-field, network-body-field, network-head-at}
+use Rattle.forms.proofs.Forms.{in-between, body-cap, body-flow, body-tunnel, body-end, network-head-field, network-body-field, network-head-at}
 use Rattle.forms.proofs.Good.{network-ranges, tunnel-line}
 use Rattle.forms.specs.declared.form.Field.{Field}
 use Rattle.forms.specs.declared.form.Range.{Range}
@@ -42,6 +44,14 @@ no-line f v e t = rw e at t
 pub not-allowed : (f : Field) (k : ℕ) (r : Range) (v : ℕ) → f ≡ Line k r → admitsOf r v ≡ false → T (allows f v) → ⊥
 not-allowed f k r v e a t = rw (e, a) at t
 
+-- the set of a tunnel, where its position and the sizes are known by other names
+module _ (l : List ℕ) (n : counts.Network) (same : n ≡ networkSizes l) (t i : ℕ) (here : i ≡ tunnelAt (networkSizes l) t) where
+  pub via-at : T (admitsOf (Set (networkSizes l .links)) (at l (tunnelAt (networkSizes l) t + 1))) → T (admitsOf (Set (n .links)) (at l (i + 1)))
+  via-at v = subst⁻¹ (λ (m : counts.Network). T (admitsOf (Set (m .links)) (at l (i + 1)))) same (subst⁻¹ (λ (j : ℕ). T (admitsOf (Set (networkSizes l .links)) (at l (j + 1)))) here v)
+
+  pub at-via : T (admitsOf (Set (n .links)) (at l (i + 1))) → T (admitsOf (Set (networkSizes l .links)) (at l (tunnelAt (networkSizes l) t + 1)))
+  at-via v = subst (λ (j : ℕ). T (admitsOf (Set (networkSizes l .links)) (at l (j + 1)))) here (subst (λ (m : counts.Network). T (admitsOf (Set (m .links)) (at l (i + 1)))) same v)
+
 -- ---- what holds of the numbers passed holds with one more
 
 one-more : (P : ℕ → Type 0) (n : ℕ) → ((k : ℕ) → k < n → P k) → P n → (k : ℕ) → k < n + 1 → P k
@@ -54,120 +64,97 @@ module _ (l : List ℕ) where
   pub head-more : (n : ℕ) → HeadIn l n → T (allows (getD networkLines n End) (at l n)) → HeadIn l (n + 1)
   head-more n h t = record { each = one-more (λ i. T (allows (getD networkLines i End) (at l i))) n (h .each) t }
 
-  module _ (from stride high : ℕ) where
-    pub at-most-none : AtMost l from stride 0 high
-    at-most-none = record { each = λ k h. absurd (omega arith) }
+  pub links-none : LinksIn l 0
+  links-none = record { cap = λ k h. absurd (omega arith) }
 
-    pub at-most-more : (n : ℕ) → AtMost l from stride n high → at l (from + stride * n) ≤ high → AtMost l from stride (n + 1) high
-    at-most-more n h t = record { each = one-more (λ k. at l (from + stride * k) ≤ high) n (h .each) t }
+  pub links-more : (n : ℕ) → LinksIn l n → at l (linkAt (networkSizes l) n) ≤ mostAmount → LinksIn l (n + 1)
+  links-more n h c = record { cap = one-more (λ k. at l (linkAt (networkSizes l) k) ≤ mostAmount) n (h .cap) c }
 
-  module _ (from links flows : ℕ) where
-    pub paths-none : PathsIn l from 0 links flows
-    paths-none = record { flow = λ t h. absurd (omega arith); via = λ t h. absurd (omega arith) }
+  pub flows-none : FlowsIn l 0
+  flows-none = record { class = λ f h. absurd (omega arith); rate = λ f h. absurd (omega arith) }
 
-    pub paths-more : (n : ℕ) → PathsIn l from n links flows → at l (from + 4 * n) < flows → T (admitsOf (Set links) (at l (from + 4 * n + 1)))
-        → PathsIn l from (n + 1) links flows
-    paths-more n h f v =
-        record {
-          flow = one-more (λ t. at l (from + 4 * t) < flows) n (h .flow) f;
-          via = one-more (λ t. T (admitsOf (Set links) (at l (from + 4 * t + 1)))) n (h .via) v;
-        }
+  pub flows-more : (n : ℕ) → FlowsIn l n → at l (flowAt (networkSizes l) n) ≤ 2 → at l (flowAt (networkSizes l) n + 1) ≤ mostAmount → FlowsIn l (n + 1)
+  flows-more n h c r =
+      record {
+        class = one-more (λ f. at l (flowAt (networkSizes l) f) ≤ 2) n (h .class) c;
+        rate = one-more (λ f. at l (flowAt (networkSizes l) f + 1) ≤ mostAmount) n (h .rate) r;
+      }
+
+  pub tunnels-none : TunnelsIn l 0
+  tunnels-none = record { flow = λ t h. absurd (omega arith); via = λ t h. absurd (omega arith); old = λ t h. absurd (omega arith); new = λ t h. absurd (omega arith) }
+
+  pub tunnels-more : (n : ℕ) → TunnelsIn l n → at l (tunnelAt (networkSizes l) n) < networkSizes l .flows
+      → T (admitsOf (Set (networkSizes l .links)) (at l (tunnelAt (networkSizes l) n + 1)))
+      → at l (tunnelAt (networkSizes l) n + 2) ≤ mostAmount → at l (tunnelAt (networkSizes l) n + 3) ≤ mostAmount → TunnelsIn l (n + 1)
+  tunnels-more n h f v o w =
+      record {
+        flow = one-more (λ t. at l (tunnelAt (networkSizes l) t) < networkSizes l .flows) n (h .flow) f;
+        via = one-more (λ t. T (admitsOf (Set (networkSizes l .links)) (at l (tunnelAt (networkSizes l) t + 1)))) n (h .via) v;
+        old = one-more (λ t. at l (tunnelAt (networkSizes l) t + 2) ≤ mostAmount) n (h .old) o;
+        new = one-more (λ t. at l (tunnelAt (networkSizes l) t + 3) ≤ mostAmount) n (h .new) w;
+      }
 
 -- ---- a list with its parts in their ranges is whole
 
-pub head-of : (l : List ℕ) → HeadIn l 6 → NetworkHead l
-head-of l h =
-    record {
-      links = between 1 mostLinks (at l 3) (h .each 3 (omega arith));
-      flows = between 0 mostFlows (at l 4) (h .each 4 (omega arith)) .1;
-      tunnels = between 0 mostTunnels (at l 5) (h .each 5 (omega arith)) .1;
-    }
-
 pub record InRange (l : List ℕ) : Type 0 where
-  pub head : HeadIn l 6
-  pub size : length l ≡ 6 + at l 3 + 2 * at l 4 + 4 * at l 5
-  pub caps : AtMost l 6 1 (at l 3) mostAmount
-  pub classes : AtMost l (6 + at l 3) 2 (at l 4) 2
-  pub rates : AtMost l (6 + at l 3 + 1) 2 (at l 4) mostAmount
-  pub paths : PathsIn l (6 + at l 3 + 2 * at l 4) (at l 5) (at l 3) (at l 4)
-  pub olds : AtMost l (6 + at l 3 + 2 * at l 4 + 2) 4 (at l 5) mostAmount
-  pub news : AtMost l (6 + at l 3 + 2 * at l 4 + 3) 4 (at l 5) mostAmount
+  pub head : HeadIn l (length networkLines)
+  pub size : length l ≡ networkSize (networkSizes l)
+  pub links : LinksIn l (networkSizes l .links)
+  pub flows : FlowsIn l (networkSizes l .flows)
+  pub tunnels : TunnelsIn l (networkSizes l .tunnels)
 
 module _ (l : List ℕ) (r : InRange l) where
-  at-place : (P : ℕ → Type 0) (i j : ℕ) → i ≡ j → P (at l i) → P (at l j)
-  at-place P i j e p = subst (λ (k : ℕ). P (at l k)) e p
+  abbrev sizes : counts.Network
+  sizes = networkSizes l
 
-  cap-in : (k : ℕ) → k < at l 3 → T (allows (line "cap=" (Between 0 mostAmount)) (at l (6 + k)))
-  cap-in k h = in-between 0 mostAmount _ (omega arith) (at-place (λ v. v ≤ mostAmount) (6 + 1 * k) (6 + k) (omega arith) (r .caps .each k h))
+  at-first : (P : ℕ → Type 0) (i : ℕ) → P (at l i) → P (at l (i + 0))
+  at-first P i p = let e : i + 0 ≡ i = omega arith in subst⁻¹ (λ (k : ℕ). P (at l k)) e p
 
-  flow-in : (f j : ℕ) → f < at l 4 → j < 2 → T (allows (getD flowLines j End) (at l (6 + (at l 3 + 2 * f + j))))
-  flow-in f zero h k = in-between 0 2 _ (omega arith) (at-place (λ v. v ≤ 2) (6 + at l 3 + 2 * f) _ (omega arith) (r .classes .each f h))
-  flow-in f (suc zero) h k = in-between 0 mostAmount _ (omega arith) (at-place (λ v. v ≤ mostAmount) (6 + at l 3 + 1 + 2 * f) _ (omega arith) (r .rates .each f h))
+  cap-in : (k : ℕ) → k < sizes .links → T (allows (line "cap=" (Between 0 mostAmount)) (at l (linkAt sizes k)))
+  cap-in k h = in-between 0 mostAmount _ (omega arith) (r .links .cap k h)
+
+  flow-in : (f j : ℕ) → f < sizes .flows → j < 2 → T (allows (getD flowLines j End) (at l (flowAt sizes f + j)))
+  flow-in f zero h k = at-first (λ v. T (allows (getD flowLines 0 End) v)) (flowAt sizes f) (in-between 0 2 _ (omega arith) (r .flows .class f h))
+  flow-in f (suc zero) h k = in-between 0 mostAmount _ (omega arith) (r .flows .rate f h)
   flow-in f (suc (suc j)) h k = absurd (omega arith)
 
-  tunnel-in : (t j : ℕ) → t < at l 5 → j < 4 → T (allows (getD (tunnelLines (at l 3) (at l 4)) j End) (at l (6 + (at l 3 + 2 * at l 4 + 4 * t + j))))
-  tunnel-in t zero h k = at-place (λ v. T (ltb v (at l 4))) (6 + at l 3 + 2 * at l 4 + 4 * t) _ (omega arith) (rw (lt-ltb _ _ (r .paths .flow t h)) tt)
-  tunnel-in t (suc zero) h k = at-place (λ v. T (admitsOf (Set (at l 3)) v)) (6 + at l 3 + 2 * at l 4 + 4 * t + 1) _ (omega arith) (r .paths .via t h)
-  tunnel-in t (suc (suc zero)) h k = in-between 0 mostAmount _ (omega arith) (at-place (λ v. v ≤ mostAmount) (6 + at l 3 + 2 * at l 4 + 2 + 4 * t) _ (omega arith) (r .olds .each t h))
-  tunnel-in t (suc (suc (suc zero))) h k = in-between 0 mostAmount _ (omega arith) (at-place (λ v. v ≤ mostAmount) (6 + at l 3 + 2 * at l 4 + 3 + 4 * t) _ (omega arith) (r .news .each t h))
+  tunnel-in : (t j : ℕ) → t < sizes .tunnels → j < 4 → T (allows (getD (tunnelLines sizes) j End) (at l (tunnelAt sizes t + j)))
+  tunnel-in t zero h k = at-first (λ v. T (ltb v (sizes .flows))) (tunnelAt sizes t) (rw (lt-ltb _ _ (r .tunnels .flow t h)) tt)
+  tunnel-in t (suc zero) h k = r .tunnels .via t h
+  tunnel-in t (suc (suc zero)) h k = in-between 0 mostAmount _ (omega arith) (r .tunnels .old t h)
+  tunnel-in t (suc (suc (suc zero))) h k = in-between 0 mostAmount _ (omega arith) (r .tunnels .new t h)
   tunnel-in t (suc (suc (suc (suc j)))) h k = absurd (omega arith)
 
-  body-in : (n : ℕ) → 6 + n < length l → T (allows (networkBody (at l 3) (at l 4) (at l 5) n) (at l (6 + n)))
-  body-in n h = caps (decLt n (at l 3))
-    where
-      Goal : ℕ → Type 0
-      Goal m = T (allows (networkBody (at l 3) (at l 4) (at l 5) m) (at l (6 + m)))
+  body-in : (i : ℕ) → linkAt sizes 0 ≤ i → i < networkSize sizes → T (allows (networkBody sizes i) (at l i))
+  body-in =
+      each-number sizes (λ i. T (allows (networkBody sizes i) (at l i)))
+      (λ k h. rw (body-cap sizes k h) (cap-in k h))
+      (λ f j h k. rw (body-flow sizes f j h k) (flow-in f j h k))
+      (λ t j h k. rw (body-tunnel sizes t j h k) (tunnel-in t j h k))
 
-      tunnels : at l 3 + 2 * at l 4 ≤ n → Goal n
-      tunnels k =
-          let t : ℕ = (n - (at l 3 + 2 * at l 4)) / 4 in
-          let j : ℕ = (n - (at l 3 + 2 * at l 4)) % 4 in
-          let e : at l 3 + 2 * at l 4 + 4 * t + j ≡ n = omega arith in
-          let ht : t < at l 5 = omega (arith, r .size) in
-          let hj : j < 4 = omega arith in
-          subst Goal e (rw (body-tunnel (at l 3) (at l 4) (at l 5) t j ht hj) (tunnel-in t j ht hj))
-
-      flows : at l 3 ≤ n → Dec (n < at l 3 + 2 * at l 4) → Goal n
-      flows k (yes less) =
-          let f : ℕ = (n - at l 3) / 2 in
-          let j : ℕ = (n - at l 3) % 2 in
-          let e : at l 3 + 2 * f + j ≡ n = omega arith in
-          let hf : f < at l 4 = omega arith in
-          let hj : j < 2 = omega arith in
-          subst Goal e (rw (body-flow (at l 3) (at l 4) (at l 5) f j hf hj) (flow-in f j hf hj))
-      flows k (no more) = tunnels (omega arith)
-
-      caps : Dec (n < at l 3) → Goal n
-      caps (yes less) = rw (body-cap (at l 3) (at l 4) (at l 5) n less) (cap-in n less)
-      caps (no more) = flows (omega arith) (decLt n (at l 3 + 2 * at l 4))
-
-  in-sound : (i : ℕ) → i < length l → Dec (i < 6) → T (allows (fieldOf Network (take i l)) (at l i))
+  in-sound : (i : ℕ) → i < length l → Dec (i < length networkLines) → T (allows (fieldOf Network (take i l)) (at l i))
   in-sound i h (yes k) = rw (network-head-field l i (le-of-lt h) k) (r .head .each i k)
-  in-sound i h (no k) =
-      let e : 6 + (i - 6) ≡ i = omega arith in
-      rw (network-body-field l i (le-of-lt h) (i - 6) (omega arith)) (rw e at (body-in (i - 6) (omega arith)))
+  in-sound i h (no k) = rw (network-body-field l i (le-of-lt h) (omega arith)) (body-in i (omega (arith, head-size sizes)) (omega (arith, r .size)))
 
   ends : fieldOf Network l ≡ End
   unfolding fieldOf
   ends =
-      let six : 6 ≤ length l = omega (arith, r .size) in
-      rw (le-ltb (length l) 6 six) (body-end (at l 3) (at l 4) (at l 5) (length l - 6) (omega (arith, r .size)))
+      let long : length networkLines ≤ length l = omega (arith, r .size, head-size sizes, head-before sizes, tunnel-at sizes (sizes .tunnels)) in
+      rw (le-ltb (length l) (length networkLines) long) (body-end sizes (length l) (omega (arith, r .size)))
 
   pub in-range-whole : Whole Network l
   unfolding Sound
-  in-range-whole = record { sound = λ i h. in-sound i h (decLt i 6); ends = ends }
+  in-range-whole = record { sound = λ i h. in-sound i h (decLt i (length networkLines)); ends = ends }
 
 -- and the parts of a whole list are in their ranges
 pub whole-in-range : (l : List ℕ) → Whole Network l → InRange l
 whole-in-range l w =
     let r = network-ranges l w in
+    let n = networkSizes l in
     record {
-      head = record { each = λ i h. network-head-at l (w .sound) i (omega (arith, r .size)) h };
-      size = r .size;
-      caps = record { each = λ k h. subst (λ (i : ℕ). at l i ≤ mostAmount) (omega arith) (r .cap k h) };
-      classes = record { each = r .class };
-      rates = record { each = λ f h. subst (λ (i : ℕ). at l i ≤ mostAmount) (omega arith) (r .rate f h) };
-      paths = record { flow = r .flow; via = λ t h. tunnel-line l w t 1 _ h (omega arith) refl };
-      olds = record { each = λ t h. subst (λ (i : ℕ). at l i ≤ mostAmount) (omega arith) (r .old t h) };
-      news = record { each = λ t h. subst (λ (i : ℕ). at l i ≤ mostAmount) (omega arith) (r .new t h) };
+      head = record { each = λ i h. network-head-at l (w .sound) i (omega (arith, r .sized .size, head-size n, head-before n, tunnel-at n (n .tunnels))) h };
+      size = r .sized .size;
+      links = record { cap = r .cap };
+      flows = record { class = r .class; rate = r .rate };
+      tunnels = record { flow = r .flow; via = λ t h. tunnel-line l w t 1 h (omega arith); old = r .old; new = r .new };
     }

@@ -11,9 +11,9 @@ use lib.Dec.{T, ltb}
 use lib.ListN.{length, getD, take, drop, drop-of-length-le, length-append}
 use lib.Seq.{append-snoc, take-suc, length-take-le}
 use Rattle.model.specs.Limits.{mostAmount}
-use Rattle.lists.specs.Lists.{at}
+use Rattle.lists.specs.Lists.{linkAt, flowAt, tunnelAt, planSizes, planSize, mostNetwork, mostPlan, mostNumbers, at}
 use Rattle.forms.specs.Keys.{prefixOf, keys, placeIn}
-use Rattle.forms.specs.Form.{isHex, line, fieldOf, allows, Sound, Whole, mostOf, mostNumbers}
+use Rattle.forms.specs.Form.{isHex, line, fieldOf, allows, Sound, Whole, mostOf}
 use Rattle.forms.specs.Line.{mostInRemark, mostRemarks}
 use Rattle.forms.specs.Laws.{mostBytes}
 use Rattle.forms.specs.Write.{digitsIn, widthOf, valueDigits, lineOf, renderFrom, render}
@@ -121,8 +121,8 @@ sound-length form l s = go (decLt (mostOf form) (length l))
 module _ (l : List ℕ) (s : Sound Plan l) where
   at-line : (j : ℕ) → 4 ≤ j → j < length l → length (lineOf (fieldOf Plan (take j l)) (getD l j 0)) ≤ 13
   at-line j four h =
-      let e = plan-body-field l j (le-of-lt h) (j - 4) (omega arith) in
-      rw e (go (ltb (j - 4) ((at l 2 - 1) * at l 3)) (rw e at (sound-at Plan l j h s)))
+      let e = plan-body-field l j (le-of-lt h) four in
+      rw e (go (ltb j (planSize (planSizes l))) (rw e at (sound-at Plan l j h s)))
     where
       go : (b : Bool) → T (allows (cond b (line "at=" (Between 0 (mostAmount * at l 1))) End) (getD l j 0))
           → length (lineOf (cond b (line "at=" (Between 0 (mostAmount * at l 1))) End) (getD l j 0)) ≤ 13
@@ -138,7 +138,7 @@ module _ (l : List ℕ) (s : Sound Plan l) where
       go : Dec (length l < 4) → length (renderFrom Plan [] l) ≤ mostPlain
       go (yes h) = omega (arith, any-lines Plan l)
       go (no h) =
-          let k : length l - 4 ≤ 4704 = omega (arith, sound-length Plan l s) in
+          let k : length l ≤ mostPlan = sound-length Plan l s in
           let r : length (renderFrom Plan (take 4 l) (drop 4 l)) ≤ (length l - 4) * 13 = lines-within Plan l 13 (length l - 4) 4 (omega arith) at-line in
           let line = one-line Plan l in
           omega (arith, line 0 (omega arith), line 1 (omega arith), line 2 (omega arith), line 3 (omega arith))
@@ -148,8 +148,12 @@ few-lines : (form : Form) (l : List ℕ) → mostOf form * 27 ≤ mostPlain → 
 unfolding render
 few-lines form l h s = omega (arith, sound-length form l s, any-lines form l)
 
+few-numbers : mostNetwork * 27 ≤ mostPlain
+unfolding mostNetwork linkAt flowAt tunnelAt
+few-numbers = omega arith
+
 pub render-plain : (form : Form) (l : List ℕ) → Sound form l → length (render form l) ≤ mostPlain
-render-plain Network l s = few-lines Network l (omega arith) s
+render-plain Network l s = few-lines Network l few-numbers s
 render-plain Plan l s = plan-short l s
 render-plain Rules l s = few-lines Rules l (omega arith) s
 

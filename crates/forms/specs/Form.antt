@@ -1,12 +1,15 @@
 -- The three forms: which line stands after some numbers, and which numbers it may have.
-use Prim.Native.Nat.{ℕ, _+_, _*_, _-_, _/_, _%_, _^_, _<_}
+use Prim.Native.Nat.{ℕ, _*_, _-_, _%_, _^_, _<_}
 use mathlib.Core.Bool.{Bool, true, false, cond, _&&_, _||_, not}
 use mathlib.Core.Path.{_≡_}
 use mathlib.Core.List.{List, [], _∷_}
 use lib.ListN.{length, getD, take}
 use lib.Dec.{T, eqb, leb, ltb}
 use Rattle.model.specs.Limits.{mostLinks, mostFlows, mostTunnels, mostSteps, mostAmount, leastShare, mostShare, mostSwitches, mostRoom}
-use Rattle.lists.specs.Lists.{at}
+use Rattle.lists.specs.Lists.{networkSizes, linkAt, flowAt, tunnelAt, networkSize, planSizes, rowAt, planSize, tableSizes, roomAt, ruleAt, tablesSize, mostNetwork, mostPlan, mostTables}
+use Rattle.lists.specs.declared.Network.{Network}
+use Rattle.lists.specs.declared.PlanSizes.{PlanSizes}
+use Rattle.lists.specs.declared.RuleTables.{RuleTables}
 use Prim.Native.String.{String}
 use Rattle.forms.specs.Keys.{keys, placeIn}
 use Rattle.forms.specs.declared.form.Form.{Form}
@@ -61,16 +64,16 @@ abbrev pub flowLines : List Field
 flowLines = line "class=" (Between 0 2) ∷ line "rate=" (Between 0 mostAmount) ∷ []
 
 -- "for each tunnel: `flow` 0..flows-1; `via` ..; `old` and `new`, each 0..10,000,000"
-abbrev pub tunnelLines : ℕ → ℕ → List Field
-tunnelLines links flows =
-    line "flow=" (Below flows) ∷ line "via=" (Set links) ∷ line "old=" (Between 0 mostAmount) ∷ line "new=" (Between 0 mostAmount) ∷ []
+abbrev pub tunnelLines : Network → List Field
+tunnelLines n =
+    line "flow=" (Below (n .flows)) ∷ line "via=" (Set (n .links)) ∷ line "old=" (Between 0 mostAmount) ∷ line "new=" (Between 0 mostAmount) ∷ []
 
--- "for each link: `cap` 0..10,000,000"; then 2 lines for each flow, then 4 for each tunnel
-unfoldable pub networkBody : ℕ → ℕ → ℕ → ℕ → Field
-networkBody links flows tunnels n =
-    cond (ltb n links) (line "cap=" (Between 0 mostAmount))
-    (cond (ltb ((n - links) / 2) flows) (getD flowLines ((n - links) % 2) End)
-    (cond (ltb ((n - links - 2 * flows) / 4) tunnels) (getD (tunnelLines links flows) ((n - links - 2 * flows) % 4) End) End))
+-- "for each link: `cap` 0..10,000,000"; then the lines of the flows, then those of the tunnels: at position i
+unfoldable pub networkBody : Network → ℕ → Field
+networkBody n i =
+    cond (ltb i (flowAt n 0)) (line "cap=" (Between 0 mostAmount))
+    (cond (ltb i (tunnelAt n 0)) (getD flowLines ((i - flowAt n 0) % 2) End)
+    (cond (ltb i (networkSize n)) (getD (tunnelLines n) ((i - tunnelAt n 0) % 4) End) End))
 
 -- "`plan` 1; `parts` 1..50; `steps` 1..50; `tunnels` 0..96"
 abbrev pub planLines : List Field
@@ -79,8 +82,8 @@ planLines =
     ∷ line "parts=" (Between 1 mostSteps) ∷ line "steps=" (Between 1 mostSteps) ∷ line "tunnels=" (Between 0 mostTunnels) ∷ []
 
 -- "then for each row 1 to steps-1, for each tunnel, `at` 0..10,000,000 × parts"
-abbrev pub planBody : List ℕ → ℕ → Field
-planBody l n = cond (ltb n ((at l 2 - 1) * at l 3)) (line "at=" (Between 0 (mostAmount * at l 1))) End
+abbrev pub planBody : PlanSizes → ℕ → Field
+planBody n i = cond (ltb i (planSize n)) (line "at=" (Between 0 (mostAmount * n .parts))) End
 
 -- "`rules` 1, `slack` 20..500, `switches` 1..64, `tunnels` 0..96"
 abbrev pub rulesLines : List Field
@@ -89,21 +92,21 @@ rulesLines =
     ∷ line "slack=" (Between leastShare mostShare) ∷ line "switches=" (Between 1 mostSwitches) ∷ line "tunnels=" (Between 0 mostTunnels) ∷ []
 
 -- "for each tunnel `via` (a switch set, written as for links) and `kind` 1 keep, 2 add, 3 remove"
-abbrev pub ruleLines : ℕ → List Field
-ruleLines switches = line "via=" (Set switches) ∷ line "kind=" (Between 1 3) ∷ []
+abbrev pub ruleLines : RuleTables → List Field
+ruleLines n = line "via=" (Set (n .switches)) ∷ line "kind=" (Between 1 3) ∷ []
 
--- "for each switch `room` 0..65,535"; then 2 lines for each tunnel
-unfoldable pub rulesBody : ℕ → ℕ → ℕ → Field
-rulesBody switches tunnels n =
-    cond (ltb n switches) (line "room=" (Between 0 mostRoom))
-    (cond (ltb ((n - switches) / 2) tunnels) (getD (ruleLines switches) ((n - switches) % 2) End) End)
+-- "for each switch `room` 0..65,535"; then the lines of the tunnels
+unfoldable pub rulesBody : RuleTables → ℕ → Field
+rulesBody n i =
+    cond (ltb i (ruleAt n 0)) (line "room=" (Between 0 mostRoom))
+    (cond (ltb i (tablesSize n)) (getD (ruleLines n) ((i - ruleAt n 0) % 2) End) End)
 
 -- the line that stands after some numbers
 unfoldable pub fieldOf : Form → List ℕ → Field
 unfolding networkBody rulesBody
-fieldOf network l = cond (ltb (length l) 6) (getD networkLines (length l) End) (networkBody (at l 3) (at l 4) (at l 5) (length l - 6))
-fieldOf plan l = cond (ltb (length l) 4) (getD planLines (length l) End) (planBody l (length l - 4))
-fieldOf rules l = cond (ltb (length l) 4) (getD rulesLines (length l) End) (rulesBody (at l 2) (at l 3) (length l - 4))
+fieldOf network l = cond (ltb (length l) (length networkLines)) (getD networkLines (length l) End) (networkBody (networkSizes l) (length l))
+fieldOf plan l = cond (ltb (length l) (length planLines)) (getD planLines (length l) End) (planBody (planSizes l) (length l))
+fieldOf rules l = cond (ltb (length l) (length rulesLines)) (getD rulesLines (length l) End) (rulesBody (tableSizes l) (length l))
 
 -- whether a number may stand in a field
 abbrev pub allows : Field → ℕ → Bool
@@ -122,9 +125,6 @@ pub record Whole (form : Form) (l : List ℕ) : Type 0 where
 
 -- no list that is sound is longer
 abbrev pub mostOf : Form → ℕ
-mostOf network = 6 + mostLinks + 2 * mostFlows + 4 * mostTunnels
-mostOf plan = 4 + (mostSteps - 1) * mostTunnels
-mostOf rules = 4 + mostSwitches + 2 * mostTunnels
-
-abbrev pub mostNumbers : ℕ
-mostNumbers = mostOf plan
+mostOf network = mostNetwork
+mostOf plan = mostPlan
+mostOf rules = mostTables

@@ -7,6 +7,5 @@ pub mod Read
 pub mod Write
 pub mod Named
 pub mod Sums
-pub mod Good
 pub mod Ranges
 pub mod Laws

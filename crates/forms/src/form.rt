@@ -1,10 +1,14 @@
 // The forms: which line stands at a position, given the numbers before it.
 ghost use mathlib.Core.Path.{_≡_};
 ghost use lib.ListN.{getD};
+ghost use Prim.Native.Nat.{_≤_};
+ghost use Rattle.model.specs.Limits.{mostSwitches, mostTunnels};
+ghost use Rattle.lists.specs.Good.{Limited};
 ghost use Rattle.forms.specs.Keys.{prefixOf};
 ghost use Rattle.forms.specs.Slots.{keyBytes};
 ghost use Rattle.forms.specs.Form.{fieldOf, networkBody, rulesBody, admitsOf, isHex, secondOf, hasRemarks, Sound, networkLines, flowLines, tunnelLines, planLines, rulesLines, ruleLines};
 use lists::Network;
+use lists::PlanSizes;
 use lists::RuleTables;
 
 pub enum Form {
@@ -30,9 +34,6 @@ pub enum Field {
     Line(usize, Range),
     End,
 }
-
-// The most numbers that a list of any form has: those of a plan of 50 steps for 96 tunnels.
-pub const NUMBERS: usize = 4 + (Network::STEPS as usize - 1) * Network::TUNNELS as usize;
 
 // The keys, by number.
 const NET: usize = 0;
@@ -139,7 +140,7 @@ pub(crate) fn network_head(n: usize) -> Field
     }
 }
 
-fn flow_group(n: u64) -> Field
+fn flow_group(n: usize) -> Field
     ensures { λ r. ⌜ r ≡ getD flowLines n Field.End ⌝ }
 {
     match n {
@@ -149,44 +150,46 @@ fn flow_group(n: u64) -> Field
     }
 }
 
-fn tunnel_group(links: u64, flows: u64, n: u64) -> Field
-    ensures { λ r. ⌜ r ≡ getD (tunnelLines links flows) n Field.End ⌝ }
+fn tunnel_group(sizes: Network, n: usize) -> Field
+    ensures { λ r. ⌜ r ≡ getD (tunnelLines sizes) n Field.End ⌝ }
 {
     match n {
-        0 => Field::Line(FLOW, Range::Below(flows)),
-        1 => Field::Line(VIA, Range::Set(links)),
+        0 => Field::Line(FLOW, Range::Below(sizes.flows as u64)),
+        1 => Field::Line(VIA, Range::Set(sizes.links as u64)),
         2 => Field::Line(OLD, Range::Between(0, Network::AMOUNT)),
         3 => Field::Line(NEW, Range::Between(0, Network::AMOUNT)),
         _ => Field::End,
     }
 }
 
-fn network_body(links: u64, flows: u64, tunnels: u64, n: u64) -> Field
-    ensures { λ r. ⌜ r ≡ networkBody links flows tunnels n ⌝ }
+fn network_body(sizes: Network, i: usize) -> Field
+    requires { ⌜ Limited sizes ⌝ }
+    ensures { λ r. ⌜ r ≡ networkBody sizes i ⌝ }
 {
-    if n < links {
+    let flows_at = sizes.flow_at(0);
+    if i < flows_at {
         return Field::Line(CAP, Range::Between(0, Network::AMOUNT));
     }
-    let m = n - links;
-    if m / 2 < flows {
-        return flow_group(m % 2);
+    let tunnels_at = sizes.tunnel_at(0);
+    if i < tunnels_at {
+        return flow_group((i - flows_at) % 2);
     }
-    let k = m - 2 * flows;
-    if k / 4 < tunnels {
-        return tunnel_group(links, flows, k % 4);
+    if i < sizes.tunnel_at(sizes.tunnels) {
+        return tunnel_group(sizes, (i - tunnels_at) % 4);
     }
     Field::End
 }
 
-// What stands after some numbers of a network.
+// What stands after some numbers of a network, each of which its own field allows.
 pub fn network_field(done: &[u64]) -> Field
+    requires { ⌜ Sound Form.Network (now done) ⌝ }
     ensures { λ r. ⌜ r ≡ fieldOf Form.Network (now (done .entry)) ⌝ }
 {
-    let n = done.len();
-    if n < 6 {
-        return network_head(n);
+    let i = done.len();
+    if i < Network::HEAD {
+        return network_head(i);
     }
-    network_body(done[3], done[4], done[5], (n - 6) as u64)
+    network_body(Network::of(done), i)
 }
 
 fn plan_head(n: usize) -> Field
@@ -206,13 +209,13 @@ pub fn plan_field(done: &[u64]) -> Field
     requires { ⌜ Sound Form.Plan (now done) ⌝ }
     ensures { λ r. ⌜ r ≡ fieldOf Form.Plan (now (done .entry)) ⌝ }
 {
-    let n = done.len();
-    if n < 4 {
-        return plan_head(n);
+    let i = done.len();
+    if i < PlanSizes::HEAD {
+        return plan_head(i);
     }
-    let k = (n - 4) as u64;
-    if k < (done[2] - 1) * done[3] {
-        let high = Network::AMOUNT * done[1];
+    let sizes = PlanSizes::of(done);
+    if i < sizes.row_at(sizes.steps) {
+        let high = Network::AMOUNT * sizes.parts;
         return Field::Line(AT, Range::Between(0, high));
     }
     Field::End
@@ -233,38 +236,40 @@ fn rules_head(n: usize) -> Field
     }
 }
 
-fn rule_group(switches: u64, n: u64) -> Field
-    ensures { λ r. ⌜ r ≡ getD (ruleLines switches) n Field.End ⌝ }
+fn rule_group(sizes: RuleTables, n: usize) -> Field
+    ensures { λ r. ⌜ r ≡ getD (ruleLines sizes) n Field.End ⌝ }
 {
     match n {
-        0 => Field::Line(VIA, Range::Set(switches)),
+        0 => Field::Line(VIA, Range::Set(sizes.switches as u64)),
         1 => Field::Line(KIND, Range::Between(RuleTables::KEEP, RuleTables::REMOVE)),
         _ => Field::End,
     }
 }
 
-fn rules_body(switches: u64, tunnels: u64, n: u64) -> Field
-    ensures { λ r. ⌜ r ≡ rulesBody switches tunnels n ⌝ }
+fn rules_body(sizes: RuleTables, i: usize) -> Field
+    requires { ⌜ (sizes .switches ≤ mostSwitches) × (sizes .tunnels ≤ mostTunnels) ⌝ }
+    ensures { λ r. ⌜ r ≡ rulesBody sizes i ⌝ }
 {
-    if n < switches {
+    let rules_at = sizes.rule_at(0);
+    if i < rules_at {
         return Field::Line(ROOM, Range::Between(0, RuleTables::ROOM));
     }
-    let m = n - switches;
-    if m / 2 < tunnels {
-        return rule_group(switches, m % 2);
+    if i < sizes.rule_at(sizes.tunnels) {
+        return rule_group(sizes, (i - rules_at) % 2);
     }
     Field::End
 }
 
-// What stands after some numbers of rule tables.
+// What stands after some numbers of rule tables, each of which its own field allows.
 pub fn rules_field(done: &[u64]) -> Field
+    requires { ⌜ Sound Form.Rules (now done) ⌝ }
     ensures { λ r. ⌜ r ≡ fieldOf Form.Rules (now (done .entry)) ⌝ }
 {
-    let n = done.len();
-    if n < 4 {
-        return rules_head(n);
+    let i = done.len();
+    if i < RuleTables::HEAD {
+        return rules_head(i);
     }
-    rules_body(done[2], done[3], (n - 4) as u64)
+    rules_body(RuleTables::of(done), i)
 }
 
 // The same for any form. For the judges alone: with one caller the compiler puts it into their loop, and that is what it is fast by.
@@ -279,7 +284,7 @@ pub(crate) fn field_after(form: Form, done: &[u64]) -> Field
     }
 }
 
-// Whether v is a set, not empty, of numbers less than n. A shift by 64 is not defined, and every v is a set of numbers less than 64.
+// Whether v is a set, not empty, of numbers less than n. A shift by 64, a number's bits, is not defined, and every v is a set of numbers less than 64.
 pub(crate) fn is_set(v: u64, n: u64) -> bool
     ensures { λ r. ⌜ r ≡ admitsOf (Range.Set n) v ⌝ }
 {

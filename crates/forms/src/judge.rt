@@ -2,7 +2,8 @@
 ghost use mathlib.Core.Path.{_≡_};
 ghost use Prim.Native.Nat.{_+_, _≤_};
 ghost use Rattle.lists.specs.Answers.{done};
-ghost use Rattle.forms.specs.Form.{secondOf, mostNumbers};
+ghost use Rattle.lists.specs.Lists.{mostNumbers};
+ghost use Rattle.forms.specs.Form.{secondOf};
 ghost use Rattle.forms.specs.Read.{judgeNumbers};
 ghost use Rattle.forms.specs.Named.{judgeNetwork, judgePlan, judgeRules};
 use crate::form;

@@ -1,23 +1,24 @@
 // Whether a list is in the form of a network, by loops over its parts. No refusal is told: where the answer is no, the
 // judge goes through the numbers one by one for its place.
-ghost use Prim.Native.Nat.{_+_, _≤_};
+ghost use mathlib.Core.Path.{_≡_};
+ghost use Prim.Native.Nat.{_≤_};
 ghost use lib.ListN.{length};
-ghost use Rattle.forms.specs.Form.{Whole};
-ghost use Rattle.forms.specs.Ranges.{Decides, Inside, AtMost, PathsIn, HeadIn};
-ghost use Rattle.model.specs.Limits.{mostLinks, mostFlows, mostTunnels};
-ghost use Rattle.lists.specs.Lists.{at};
+ghost use Rattle.lists.specs.Lists.{networkSizes};
+ghost use Rattle.lists.specs.Good.{Sized};
+ghost use Rattle.forms.specs.Form.{Whole, networkLines};
+ghost use Rattle.forms.specs.Ranges.{Decides, LinksIn, FlowsIn, TunnelsIn, HeadIn};
 use crate::form;
 use crate::form::Field;
 use crate::form::Form;
 use lists::Network;
 
-// Are the first six numbers those of a network's head?
+// Are the first numbers those of a network's head?
 fn head_in(list: &[u64]) -> bool
-    requires { ⌜ 6 ≤ length (now list) ⌝ }
-    ensures { λ r. ⌜ Decides r (HeadIn (now (list .entry)) 6) ⌝ }
+    requires { ⌜ length networkLines ≤ length (now list) ⌝ }
+    ensures { λ r. ⌜ Decides r (HeadIn (now (list .entry)) (length networkLines)) ⌝ }
 {
     let mut i: usize = 0;
-    while i < 6 {
+    while i < Network::HEAD {
         let Field::Line(_, range) = form::network_head(i) else {
             return false;
         };
@@ -30,14 +31,15 @@ fn head_in(list: &[u64]) -> bool
     true
 }
 
-// Is each number at most `high`, of those that stand at `from` and every `stride` from there on?
-fn at_most(list: &[u64], from: usize, stride: usize, count: usize, high: u64) -> bool
-    requires { ⌜ Inside (length (now list)) from stride count ⌝ }
-    ensures { λ r. ⌜ Decides r (AtMost (now (list .entry)) from stride count high) ⌝ }
+// Is the number of each link in its range?
+fn links_in(list: &[u64], sizes: Network) -> bool
+    requires { ⌜ Sized (now list) × (sizes ≡ networkSizes (now list)) ⌝ }
+    ensures { λ r. ⌜ Decides r (LinksIn (now (list .entry)) (sizes .links)) ⌝ }
 {
     let mut k: usize = 0;
-    while k < count {
-        if high < list[from + stride * k] {
+    while k < sizes.links {
+        let at = sizes.link_at(k);
+        if Network::AMOUNT < list[at] {
             return false;
         }
         k += 1;
@@ -45,62 +47,74 @@ fn at_most(list: &[u64], from: usize, stride: usize, count: usize, high: u64) ->
     true
 }
 
-// Does each tunnel, of those whose numbers stand from `from` on, belong to a flow and cross links that there are?
-fn paths_in(list: &[u64], from: usize, count: usize, links: u64, flows: u64) -> bool
-    requires { ⌜ Inside (length (now list)) (from + 1) 4 count ⌝ }
-    ensures { λ r. ⌜ Decides r (PathsIn (now (list .entry)) from count links flows) ⌝ }
+// The same for the numbers of each flow.
+fn flows_in(list: &[u64], sizes: Network) -> bool
+    requires { ⌜ Sized (now list) × (sizes ≡ networkSizes (now list)) ⌝ }
+    ensures { λ r. ⌜ Decides r (FlowsIn (now (list .entry)) (sizes .flows)) ⌝ }
 {
+    let mut f: usize = 0;
+    while f < sizes.flows {
+        let at = sizes.flow_at(f);
+        if 2 < list[at] {
+            return false;
+        }
+        if Network::AMOUNT < list[at + 1] {
+            return false;
+        }
+        f += 1;
+    }
+    true
+}
+
+// The same for the numbers of each tunnel.
+fn tunnels_in(list: &[u64], sizes: Network) -> bool
+    requires { ⌜ Sized (now list) × (sizes ≡ networkSizes (now list)) ⌝ }
+    ensures { λ r. ⌜ Decides r (TunnelsIn (now (list .entry)) (sizes .tunnels)) ⌝ }
+{
+    let links = sizes.links as u64;
     let mut t: usize = 0;
-    while t < count {
-        let at = from + 4 * t;
-        if flows <= list[at] {
+    while t < sizes.tunnels {
+        let at = sizes.tunnel_at(t);
+        let flow = list[at] as usize;
+        if sizes.flows <= flow {
             return false;
         }
-        if form::is_set(list[at + 1], links) {
-            t += 1;
-        } else {
+        if !form::is_set(list[at + 1], links) {
             return false;
         }
+        if Network::AMOUNT < list[at + 2] {
+            return false;
+        }
+        if Network::AMOUNT < list[at + 3] {
+            return false;
+        }
+        t += 1;
     }
     true
 }
 
 // Is the list long enough for its links, flows and tunnels, and no longer, and is each of their numbers in its range?
 fn body_in(list: &[u64]) -> bool
-    requires { ⌜ (6 ≤ length (now list)) × HeadIn (now list) 6 ⌝ }
-    requires { ⌜ (at (now list) 3 ≤ mostLinks) × (at (now list) 4 ≤ mostFlows) × (at (now list) 5 ≤ mostTunnels) ⌝ }
+    requires { ⌜ (length networkLines ≤ length (now list)) × HeadIn (now list) (length networkLines) ⌝ }
     ensures { λ r. ⌜ Decides r (Whole Form.Network (now (list .entry))) ⌝ }
 {
-    let links = list[3] as usize;
-    let flows = list[4] as usize;
-    let tunnels = list[5] as usize;
-    let flows_at = 6 + links;
-    let tunnels_at = flows_at + 2 * flows;
-    if list.len() != tunnels_at + 4 * tunnels {
+    let sizes = Network::of(list);
+    if list.len() != sizes.tunnel_at(sizes.tunnels) {
         return false;
     }
-    if !at_most(list, 6, 1, links, Network::AMOUNT) {
+    if !links_in(list, sizes) {
         return false;
     }
-    if !at_most(list, flows_at, 2, flows, 2) {
+    if !flows_in(list, sizes) {
         return false;
     }
-    if !at_most(list, flows_at + 1, 2, flows, Network::AMOUNT) {
-        return false;
-    }
-    if !paths_in(list, tunnels_at, tunnels, list[3], list[4]) {
-        return false;
-    }
-    if !at_most(list, tunnels_at + 2, 4, tunnels, Network::AMOUNT) {
-        return false;
-    }
-    at_most(list, tunnels_at + 3, 4, tunnels, Network::AMOUNT)
+    tunnels_in(list, sizes)
 }
 
 pub(crate) fn is_network(list: &[u64]) -> bool
     ensures { λ r. ⌜ Decides r (Whole Form.Network (now (list .entry))) ⌝ }
 {
-    if list.len() < 6 {
+    if list.len() < Network::HEAD {
         return false;
     }
     if head_in(list) { body_in(list) } else { false }

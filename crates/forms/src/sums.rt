@@ -5,7 +5,7 @@ ghost use lib.ListN.{length, getD, set, replicate};
 ghost use Rattle.model.specs.Limits.{mostFlows};
 ghost use Rattle.lists.specs.Answers.{done};
 ghost use Rattle.lists.specs.Lists.{networkOf};
-ghost use Rattle.forms.specs.Good.{NetworkRanges};
+ghost use Rattle.lists.specs.Good.{NetworkRanges};
 ghost use Rattle.forms.specs.Read.{addUp};
 ghost use Rattle.forms.specs.Sums.{Gathered};
 use crate::form::Form;
@@ -29,12 +29,10 @@ fn gather(list: &[u64], old: &mut [u64], new: &mut [u64])
     ensures { λ _. ⌜ Gathered (networkOf (now (list .entry))) (networkOf (now (list .entry)) .old) (networkOf (now (list .entry)) .tunnels) (now (old .exit)) ⌝ }
     ensures { λ _. ⌜ Gathered (networkOf (now (list .entry))) (networkOf (now (list .entry)) .new) (networkOf (now (list .entry)) .tunnels) (now (new .exit)) ⌝ }
 {
-    let links = list[3] as usize;
-    let flows = list[4] as usize;
-    let tunnels = list[5] as usize;
+    let sizes = Network::of(list);
     let mut t: usize = 0;
-    while t < tunnels {
-        let at = 6 + links + 2 * flows + 4 * t;
+    while t < sizes.tunnels {
+        let at = sizes.tunnel_at(t);
         let flow = list[at] as usize;
         add(old, flow, list[at + 2]);
         add(new, flow, list[at + 3]);
@@ -49,11 +47,10 @@ fn first_missed(list: &[u64], old: &[u64], new: &[u64]) -> Answer
     requires { ⌜ Gathered (networkOf (now list)) (networkOf (now list) .new) (networkOf (now list) .tunnels) (now new) ⌝ }
     ensures { λ r. ⌜ r ≡ done (addUp Form.Network (now (list .entry))) ⌝ }
 {
-    let links = list[3] as usize;
-    let flows = list[4] as usize;
+    let sizes = Network::of(list);
     let mut f: usize = 0;
-    while f < flows {
-        let rate = list[6 + links + 2 * f + 1];
+    while f < sizes.flows {
+        let rate = list[sizes.flow_at(f) + 1];
         if old[f] != rate {
             return Answer::Refused {
                 number: 4,

@@ -16,14 +16,18 @@ pub record Limited (n : Network) : Type 0 where
   pub flows : n .flows ≤ mostFlows
   pub tunnels : n .tunnels ≤ mostTunnels
 
+-- a list that is as long as its own counts say, and those are within the limits
+pub record Sized (l : List ℕ) : Type 0 where
+  pub counts : Limited (networkSizes l)
+  pub size : length l ≡ networkSize (networkSizes l)
+
 -- the numbers of a network are in their ranges
 pub record NetworkRanges (l : List ℕ) : Type 0 where
   pub edition : at l 0 ≡ 1
   pub scratch : (leastShare ≤ at l 1) × (at l 1 ≤ mostShare)
   pub overrun : (at l 2 ≡ 0) ⊎ ((leastShare ≤ at l 2) × (at l 2 ≤ mostShare))
-  pub counts : Limited (networkSizes l)
+  pub sized : Sized l
   pub some : 1 ≤ networkSizes l .links
-  pub size : length l ≡ networkSize (networkSizes l)
   pub cap : (k : ℕ) → k < networkSizes l .links → at l (linkAt (networkSizes l) k) ≤ mostAmount
   pub class : (f : ℕ) → f < networkSizes l .flows → at l (flowAt (networkSizes l) f) ≤ 2
   pub rate : (f : ℕ) → f < networkSizes l .flows → at l (flowAt (networkSizes l) f + 1) ≤ mostAmount

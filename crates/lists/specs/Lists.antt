@@ -88,3 +88,7 @@ mostPlan = planSize (record { parts = mostSteps; steps = mostSteps; tunnels = mo
 
 abbrev pub mostTables : ℕ
 mostTables = tablesSize (record { switches = mostSwitches; tunnels = mostTunnels })
+
+-- no list of any of the three is longer than a plan's
+abbrev pub mostNumbers : ℕ
+mostNumbers = mostPlan

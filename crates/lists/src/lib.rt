@@ -31,8 +31,11 @@ impl Network {
 
     pub const SHARE_HIGH: u64 = 500;
 
+    // How many numbers the head has, before those of the links.
+    pub const HEAD: usize = 6;
+
     // The most numbers that a network's list has.
-    pub const NUMBERS: usize = 6
+    pub const NUMBERS: usize = Self::HEAD
         + Self::LINKS as usize
         + 2 * Self::FLOWS as usize
         + 4 * Self::TUNNELS as usize;
@@ -54,7 +57,7 @@ impl Network {
         requires { ⌜ Limited self × (k ≤ self .links) ⌝ }
         ensures { λ r. ⌜ r ≡ linkAt self k ⌝ }
     {
-        6 + k
+        Self::HEAD + k
     }
 
     // Where the two lines of flow f begin; past the last flow, where those of tunnel 0 begin.
@@ -62,7 +65,7 @@ impl Network {
         requires { ⌜ Limited self × (f ≤ self .flows) ⌝ }
         ensures { λ r. ⌜ r ≡ flowAt self f ⌝ }
     {
-        6 + self.links + 2 * f
+        Self::HEAD + self.links + 2 * f
     }
 
     // Where the four lines of tunnel t begin; past the last tunnel, how many lines there are.
@@ -70,7 +73,7 @@ impl Network {
         requires { ⌜ Limited self × (t ≤ self .tunnels) ⌝ }
         ensures { λ r. ⌜ r ≡ tunnelAt self t ⌝ }
     {
-        6 + self.links + 2 * self.flows + 4 * t
+        Self::HEAD + self.links + 2 * self.flows + 4 * t
     }
 }
 
@@ -82,12 +85,15 @@ pub struct PlanSizes {
 }
 
 impl PlanSizes {
+    pub const HEAD: usize = 4;
+
     // The most numbers that a plan's list has.
-    pub const NUMBERS: usize = 4 + (Network::STEPS as usize - 1) * Network::TUNNELS as usize;
+    pub const NUMBERS: usize = Self::HEAD
+        + (Network::STEPS as usize - 1) * Network::TUNNELS as usize;
 
     // The sizes of the plan that a list holds, which has a head.
     pub fn of(list: &[u64]) -> PlanSizes
-        requires { ⌜ rowAt (planSizes (now list)) 1 ≤ length (now list) ⌝ }
+        requires { ⌜ 4 ≤ length (now list) ⌝ }
         ensures { λ r. ⌜ r ≡ planSizes (now (list .entry)) ⌝ }
     {
         PlanSizes {
@@ -102,7 +108,7 @@ impl PlanSizes {
         requires { ⌜ (1 ≤ a) × (a ≤ mostSteps) × (self .tunnels ≤ mostTunnels) ⌝ }
         ensures { λ r. ⌜ r ≡ rowAt self a ⌝ }
     {
-        4 + (a - 1) * self.tunnels
+        Self::HEAD + (a - 1) * self.tunnels
     }
 }
 
@@ -132,8 +138,10 @@ impl RuleTables {
 
     pub const REMOVE: u64 = 3;
 
+    pub const HEAD: usize = 4;
+
     // The most numbers that a list of rule tables has.
-    pub const NUMBERS: usize = 4 + Self::SWITCHES as usize + 2 * Self::TUNNELS as usize;
+    pub const NUMBERS: usize = Self::HEAD + Self::SWITCHES as usize + 2 * Self::TUNNELS as usize;
 
     // The sizes of the rule tables that a list holds, which has a head.
     pub fn of(list: &[u64]) -> RuleTables
@@ -151,7 +159,7 @@ impl RuleTables {
         requires { ⌜ s ≤ mostSwitches ⌝ }
         ensures { λ r. ⌜ r ≡ roomAt self s ⌝ }
     {
-        4 + s
+        Self::HEAD + s
     }
 
     // Where the two lines of tunnel t begin; past the last tunnel, how many lines there are.
@@ -159,7 +167,7 @@ impl RuleTables {
         requires { ⌜ (self .switches ≤ mostSwitches) × (t ≤ mostTunnels) ⌝ }
         ensures { λ r. ⌜ r ≡ ruleAt self t ⌝ }
     {
-        4 + self.switches + 2 * t
+        Self::HEAD + self.switches + 2 * t
     }
 }
 

@@ -1,9 +1,20 @@
 -- `forms::form::network_field` meets its contract.
+use mathlib.Core.Path.{sym, ap, subst⁻¹, _∙_}
 use borrow.Author.Tests.{lt-ltb, le-ltb}
-use Rattle.forms.specs.Form.{fieldOf}
+use lib.ListN.{length}
+use Rattle.lists.specs.Lists.{networkSizes}
+use Rattle.lists.specs.Good.{Limited}
+use Rattle.lists.specs.declared.Network as counts
+use Rattle.lists.proofs.Positions.{head-size}
+use Rattle.forms.specs.Form.{fieldOf, networkLines, networkBody}
+use Rattle.forms.proofs.Forms.{head-of-network}
+use native.Mathlib.Omega.{arith}
 use borrow.Author.Needs.{needs}
 use Rattle.forms.proofs.form.network_field.Statement.{statement}
 use Rattle.forms.proofs.form.network_field.Tie as tie
+use Rattle.forms.proofs.form.network_body.Reads as network-body-reads
+use Rattle.forms.proofs.form.network_head.Reads as network-head-reads
+use Rattle.lists.proofs.Network.of.Reads as of-reads
 
 network-head-requires : tie.Need-network-head-requires
 network-head-requires c κs = search needs
@@ -12,30 +23,16 @@ returns : tie.Need-returns
 unfolding fieldOf
 returns c = rw (lt-ltb _ _ (c .before .if1 .taken)) (c .network-head .ensures)
 
-shared-slice-read-network-body : tie.Need-shared-slice-read-network-body
-shared-slice-read-network-body c = search needs
-
-shared-slice-read-network-body-2 : tie.Need-shared-slice-read-network-body-2
-shared-slice-read-network-body-2 c = search needs
-
-shared-slice-read-network-body-3 : tie.Need-shared-slice-read-network-body-3
-shared-slice-read-network-body-3 c = search needs
+of-requires : tie.Need-of-requires
+of-requires c κs = omega (arith, head-size (networkSizes (c .before .before .args .done .now)))
 
 network-body-requires : tie.Need-network-body-requires
-network-body-requires c κs = search needs
+network-body-requires c κs = subst⁻¹ Limited (c .of .ensures) (head-of-network _ (c .before .before .before .pre) (c .before .if1 .left))
 
 returns-2 : tie.Need-returns-2
 unfolding fieldOf
-returns-2 c = rw (le-ltb _ _ (c .before .before .before .before .if1 .left)) (c .network-body .ensures)
+returns-2 c = rw (le-ltb _ _ (c .before .before .if1 .left)) (c .network-body .ensures ∙ ap (λ (n : counts.Network). networkBody n (length (c .before .before .before .before .args .done .now))) (c .before .of .ensures))
 
 pub network-field-spec : {M : Type 1} → statement M
 network-field-spec =
-    tie.close
-    (tie.spec
-    network-head-requires
-    returns
-    shared-slice-read-network-body
-    shared-slice-read-network-body-2
-    shared-slice-read-network-body-3
-    network-body-requires
-    returns-2)
+    tie.close (tie.spec network-head-requires returns of-requires network-body-requires returns-2)

@@ -17,7 +17,7 @@ returns-2 c = rw (c .match .keys2)
 returns-3 : tie.Need-returns-3
 returns-3 c =
     let h : 2 ≤ c .before .args .n = omega arith in
-    sym (List·getD-eq-default (ruleLines (c .before .args .switches)) End h)
+    sym (List·getD-eq-default (ruleLines (c .before .args .sizes)) End h)
 
 pub rule-group-spec : {M : Type 1} → statement M
 rule-group-spec = tie.close (tie.spec returns returns-2 returns-3)

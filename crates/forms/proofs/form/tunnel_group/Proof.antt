@@ -23,7 +23,7 @@ returns-4 c = rw (c .match .keys4)
 returns-5 : tie.Need-returns-5
 returns-5 c =
     let h : 4 ≤ c .before .args .n = omega arith in
-    sym (List·getD-eq-default (tunnelLines (c .before .args .links) (c .before .args .flows)) End h)
+    sym (List·getD-eq-default (tunnelLines (c .before .args .sizes)) End h)
 
 pub tunnel-group-spec : {M : Type 1} → statement M
 tunnel-group-spec = tie.close (tie.spec returns returns-2 returns-3 returns-4 returns-5)

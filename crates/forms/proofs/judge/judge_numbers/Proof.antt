@@ -8,7 +8,8 @@ use native.Mathlib.Nat.{le-of-eq}
 use lib.ListN.{length, take, drop, getD}
 use lib.Seq.{length-take-le, take-suc}
 use Rattle.lists.specs.Answers.{done}
-use Rattle.forms.specs.Form.{Sound, fieldOf, mostNumbers}
+use Rattle.lists.specs.Lists.{mostNumbers}
+use Rattle.forms.specs.Form.{Sound, fieldOf}
 use Rattle.forms.specs.Read.{walk, itself, judgeNumbers}
 use Rattle.forms.specs.declared.form.Field.the-variants.{Line, End}
 use Rattle.lists.specs.declared.Answer.the-variants.{Done}

@@ -1,120 +1,120 @@
 -- `forms::sums::first_missed` meets its contract.
-use Prim.Native.Nat.{ℕ, _≤_, _<_, _-_}
-use mathlib.Core.Path.{_≡_, sym, _∙_}
+use Prim.Native.Nat.{ℕ, _≤_, _<_, _-_, _+_}
+use mathlib.Core.Path.{_≡_, sym, ap, _∙_}
 use mathlib.Core.List.{List}
 use mathlib.Core.Option.{none}
-use native.Mathlib.Omega.{arith}
 use lib.ListN.{getD}
+use Rattle.model.specs.Net.{Net}
 use Rattle.model.specs.Search.{first}
 use Rattle.model.specs.Limits.{mostFlows}
 use Rattle.model.specs.Rule.{flowSum, missedBy}
 use Rattle.model.proofs.Searches.{first-zero, first-on}
-use Rattle.lists.specs.Lists.{at, networkOf}
-use Rattle.forms.specs.Good.{NetworkRanges}
+use Rattle.lists.specs.Lists.{at, networkSizes, networkOf}
+use Rattle.lists.specs.Good.{NetworkRanges}
+use Rattle.lists.specs.declared.Network as counts
+use Rattle.lists.proofs.Positions.{FlowPlace, flow-place, limited, head-in}
 use Rattle.forms.proofs.Gathering.{gathered-all, miss-old, miss-new, miss-none, missed-at, missed-none}
+use native.Mathlib.Omega.{arith}
 use borrow.Author.Needs.{needs}
 use Rattle.forms.proofs.sums.first_missed.Statement.{statement}
 use Rattle.forms.proofs.sums.first_missed.Tie as tie
+use Rattle.lists.proofs.Network.flow_at.Reads as flow-at-reads
+use Rattle.lists.proofs.Network.of.Reads as of-reads
 
 abbrev Inv-loop : tie.InvT-loop
-Inv-loop list old new links flows f₀ f = (f ≤ at list 4) × (first f (missedBy (networkOf list)) ≡ none)
+Inv-loop list old new sizes f₀ f = (f ≤ sizes .flows) × (first f (missedBy (networkOf list)) ≡ none)
 
 abbrev μ-loop : tie.MeasureT-loop
-μ-loop list old new links flows f₀ f = at list 4 - f
+μ-loop list old new sizes f₀ f = sizes .flows - f
 
-head : (c : tie.Start Inv-loop μ-loop) → NetworkRanges (c .args .list .now)
-head c = c .pre .0
-
--- in a turn: the sums and the rate of the flow
-module _ (c : tie.In-loop Inv-loop μ-loop) where
+-- in a turn: the flow's place, its sums and its rate
+module _ (c : tie.After-flow-at Inv-loop μ-loop) where
   abbrev begin : tie.Start Inv-loop μ-loop
-  begin = c .before .before .before .before
+  begin = c .before .before .before .before .before .before .before .before
 
   abbrev list : List ℕ
   list = begin .args .list .now
 
+  abbrev N : Net
+  N = networkOf list
+
   abbrev f : ℕ
-  f = c .before .loop .f
+  f = c .before .before .before .loop .f
+
+  place : FlowPlace list f (c .flow-at .result)
+  place = flow-place list (begin .pre .0 .sized) _ (c .before .before .before .before .of .ensures) f _ (c .before .if1 .taken) (c .flow-at .ensures)
+
+  there : f < N .flows
+  unfolding networkOf
+  there = place .there
 
   low : f < mostFlows
-  low = let h = head begin in omega arith
+  low = omega (arith, place .there, begin .pre .0 .sized .counts)
 
-  old-sum : getD (begin .args .old .now) f 0 ≡ flowSum (networkOf list) (networkOf list .old) f
+  rate-at : getD list (c .flow-at .result + 1) 0 ≡ N .rate f
+  unfolding networkOf
+  rate-at = ap (λ (i : ℕ). at list (i + 1)) (place .here)
+
+  old-sum : getD (begin .args .old .now) f 0 ≡ flowSum N (N .old) f
   old-sum = gathered-all _ _ _ f (begin .pre .1 .0) low
 
-  new-sum : getD (begin .args .new .now) f 0 ≡ flowSum (networkOf list) (networkOf list .new) f
+  new-sum : getD (begin .args .new .now) f 0 ≡ flowSum N (N .new) f
   new-sum = gathered-all _ _ _ f (begin .pre .1 .1) low
 
-shared-slice-read-links : tie.Need-shared-slice-read-links Inv-loop μ-loop
-shared-slice-read-links c = let h = head (c .before) in omega arith
-
-shared-slice-read-flows : tie.Need-shared-slice-read-flows Inv-loop μ-loop
-shared-slice-read-flows c = let h = head (c .before .before) in omega arith
+of-requires : tie.Need-of-requires Inv-loop μ-loop
+of-requires c κs = head-in _ (c .before .before .before .pre .0 .sized .size)
 
 loop-holds : tie.Need-loop-holds Inv-loop μ-loop
-loop-holds c = (search needs, first-zero _)
+loop-holds c = (omega arith, first-zero _)
+
+flow-at-requires : tie.Need-flow-at-requires Inv-loop μ-loop
+flow-at-requires c κs = (limited _ (c .before .before .before .before .before .before .before .pre .0 .sized) _ (c .before .before .before .of .ensures), omega (arith, c .if1 .taken))
 
 add-rate : tie.Need-add-rate Inv-loop μ-loop
-add-rate c = let h = head (begin c) in omega arith
+add-rate c = record { fits = omega (arith, place c .few) }
 
 mul-rate : tie.Need-mul-rate Inv-loop μ-loop
-mul-rate c = let h = head (begin c) in omega arith
-
-add-rate-2 : tie.Need-add-rate-2 Inv-loop μ-loop
-add-rate-2 c = let h = head (begin c) in omega arith
-
-add-rate-3 : tie.Need-add-rate-3 Inv-loop μ-loop
-add-rate-3 c = let h = head (begin c) in omega arith
-
-mul-rate-2 : tie.Need-mul-rate-2 Inv-loop μ-loop
-mul-rate-2 c = let h = head (begin c) in omega arith
+mul-rate c = record { fits = omega (arith, place c .few) }
 
 shared-slice-read-rate : tie.Need-shared-slice-read-rate Inv-loop μ-loop
-shared-slice-read-rate c = let h = head (begin (c .before)) in omega arith
-
-mul-if1 : tie.Need-mul-if1 Inv-loop μ-loop
-mul-if1 c = omega (arith, low (c .before))
-
-shared-slice-read-if1 : tie.Need-shared-slice-read-if1 Inv-loop μ-loop
-shared-slice-read-if1 c = let i = c .before .before in rw (begin i .pre .1 .0 .size) (low i)
-
-returns : tie.Need-returns Inv-loop μ-loop
-unfolding networkOf
-returns c =
-    let i = c .before .before .before in
-    sym (missed-at (list i) (f i) _ (i .before .loop .inv .1) (miss-old (networkOf (list i)) (f i) (λ e. c .if1 .taken (old-sum i ∙ e))) (i .loop-test .taken))
+shared-slice-read-rate c = omega (arith, place (c .before) .within)
 
 mul-if2 : tie.Need-mul-if2 Inv-loop μ-loop
-mul-if2 c = omega (arith, low (c .before .before .before))
+mul-if2 c = record { fits = omega (arith, low (c .before)) }
 
 shared-slice-read-if2 : tie.Need-shared-slice-read-if2 Inv-loop μ-loop
-shared-slice-read-if2 c = let i = c .before .before .before .before in rw (begin i .pre .1 .1 .size) (low i)
+shared-slice-read-if2 c = rw (c .before .before .before .before .before .before .before .before .before .before .pre .1 .0 .size) (low (c .before .before))
+
+returns : tie.Need-returns Inv-loop μ-loop
+returns c = let p = c .before .before .before in
+    sym (missed-at (list p) (f p) _ (c .before .before .before .before .before .before .loop .inv .1) (miss-old (N p) (f p) (λ e. c .if2 .taken (old-sum p ∙ e ∙ sym (rate-at p)))) (there p))
+
+mul-if3 : tie.Need-mul-if3 Inv-loop μ-loop
+mul-if3 c = record { fits = omega (arith, low (c .before .before .before)) }
+
+shared-slice-read-if3 : tie.Need-shared-slice-read-if3 Inv-loop μ-loop
+shared-slice-read-if3 c = rw (c .before .before .before .before .before .before .before .before .before .before .before .before .pre .1 .1 .size) (low (c .before .before .before .before))
 
 returns-2 : tie.Need-returns-2 Inv-loop μ-loop
-unfolding networkOf
-returns-2 c =
-    let i = c .before .before .before .before .before in
-    sym (missed-at (list i) (f i) _ (i .before .loop .inv .1)
-    (miss-new (networkOf (list i)) (f i) (sym (old-sum i) ∙ c .before .before .if1 .left) (λ e. c .if2 .taken (new-sum i ∙ e))) (i .loop-test .taken))
+returns-2 c = let p = c .before .before .before .before .before in
+    sym (missed-at (list p) (f p) _ (c .before .before .before .before .before .before .before .before .loop .inv .1) (miss-new (N p) (f p) (sym (old-sum p) ∙ c .before .before .if2 .left ∙ rate-at p) (λ e. c .if3 .taken (new-sum p ∙ e ∙ sym (rate-at p)))) (there p))
 
 add-f : tie.Need-add-f Inv-loop μ-loop
-add-f c = omega (arith, low (c .before .before .before .before .before))
+add-f c = search needs
 
 loop-less : tie.Need-loop-less Inv-loop μ-loop
-loop-less c = omega (arith, c .before .before .before .before .before .loop-test .taken)
+loop-less c = search needs
 
 loop-again : tie.Need-loop-again Inv-loop μ-loop
-unfolding networkOf
-loop-again c =
-    let i = c .before .before .before .before .before in
-    (omega (arith, i .loop-test .taken), first-on _ (f i) (i .before .loop .inv .1) (miss-none (networkOf (list i)) (f i) (sym (old-sum i) ∙ c .before .before .if1 .left) (sym (new-sum i) ∙ c .if2 .left)))
+loop-again c = let p = c .before .before .before .before .before in
+    (omega (arith, c .before .before .before .before .before .before .if1 .taken), first-on _ (f p) (c .before .before .before .before .before .before .before .before .loop .inv .1) (miss-none (N p) (f p) (sym (old-sum p) ∙ c .before .before .if2 .left ∙ rate-at p) (sym (new-sum p) ∙ c .if3 .left ∙ rate-at p)))
 
 returns-3 : tie.Need-returns-3 Inv-loop μ-loop
 unfolding networkOf
 returns-3 c =
-    let l = c .before .before .before .before .args .list .now in
-    let e : c .before .loop .f ≡ at l 4 = omega arith in
-    sym (missed-none l (rw e at (c .before .loop .inv .1)))
+    let l = c .before .before .before .before .before .before .before .args .list .now in
+    let e : c .before .before .loop .f ≡ networkSizes l .flows = omega (arith, c .before .before .loop .inv .0, ap (λ (n : counts.Network). n .flows) (c .before .before .before .of .ensures)) in
+    sym (missed-none l (rw e at (c .before .before .loop .inv .1)))
 
 pub first-missed-spec : {M : Type 1} → statement M
 first-missed-spec =
@@ -122,20 +122,17 @@ first-missed-spec =
     (tie.spec
     Inv-loop
     μ-loop
-    shared-slice-read-links
-    shared-slice-read-flows
+    of-requires
     loop-holds
+    flow-at-requires
     add-rate
     mul-rate
-    add-rate-2
-    add-rate-3
-    mul-rate-2
     shared-slice-read-rate
-    mul-if1
-    shared-slice-read-if1
-    returns
     mul-if2
     shared-slice-read-if2
+    returns
+    mul-if3
+    shared-slice-read-if3
     returns-2
     add-f
     loop-less
