@@ -12,7 +12,7 @@ use Rattle.model.specs.Net.{Net}
 use Rattle.model.specs.Even.{evenRow}
 use Rattle.model.proofs.Rows.{even-at}
 use Rattle.model.specs.Listed.{listed}
-use Rattle.lists.specs.Lists.{at, tunnelAt, networkOf, planOf}
+use Rattle.lists.specs.Lists.{at, planOf}
 use Rattle.planner.specs.Planned.{evenRows, evenList}
 use Rattle.model.proofs.Listed.{listed-length, listed-to, listed-at}
 
@@ -22,9 +22,9 @@ pub listed-all : (x : ℕ → ℕ) (t : ℕ) (s r : List ℕ) → r ≡ listed t
 listed-all x t s r e h = listed-to x t (length s) s r e h ∙ ap (λ (l : List ℕ). listed (length s) x ++ l) (drop-length s) ∙ append-nil _
 
 -- the number that is written is that of the even plan
-pub even-number : (l : List ℕ) (q a t : ℕ) → a ≤ q → (q - a) * at l (tunnelAt l t + 2) + a * at l (tunnelAt l t + 3) ≡ evenRow (networkOf l) q a t
-unfolding evenRow networkOf
-even-number l q a t h = sym (even-at q a (at l (tunnelAt l t + 2)) (at l (tunnelAt l t + 3)) h)
+pub even-number : (N : Net) (q a t : ℕ) → a ≤ q → (q - a) * N .old t + a * N .new t ≡ evenRow N q a t
+unfolding evenRow
+even-number N q a t h = sym (even-at q a (N .old t) (N .new t) h)
 
 -- ---- the rows
 

@@ -4,19 +4,21 @@ use mathlib.Core.Path.{_≡_}
 use mathlib.Core.Bool.{true, false}
 use mathlib.Core.List.{List}
 use borrow.Author.Tests.{le-leb, lt-leb}
+use Rattle.model.specs.Net.{Net}
 use Rattle.model.specs.Scan.{Bound}
 use Rattle.model.specs.Rule.{counts}
-use Rattle.lists.specs.Lists.{at, flowAt, tunnelAt, networkOf, GoodNetwork}
+use Rattle.lists.specs.Lists.{networkOf}
+use Rattle.lists.specs.Good.{GoodNetwork}
 use Rattle.planner.proofs.Tables.{InRange}
 
 pub good-range : (l : List ℕ) → GoodNetwork l → InRange (networkOf l)
 unfolding networkOf
-good-range l g = (g .tunnels, λ t h. (g .old t h, g .new t h))
+good-range l g = (g .ranges .sized .counts .tunnels, λ t h. (g .ranges .old t h, g .ranges .new t h))
 
-pub is-protected : (l : List ℕ) (t : ℕ) → at l (flowAt l (at l (tunnelAt l t))) ≤ 1 → counts (networkOf l) Bound.protected t ≡ true
-unfolding networkOf counts
-is-protected l t h = le-leb _ 1 h
+pub is-protected : (N : Net) (t : ℕ) → N .class (N .flow t) ≤ 1 → counts N Bound.protected t ≡ true
+unfolding counts
+is-protected N t h = le-leb _ 1 h
 
-pub not-protected : (l : List ℕ) (t : ℕ) → 1 < at l (flowAt l (at l (tunnelAt l t))) → counts (networkOf l) Bound.protected t ≡ false
-unfolding networkOf counts
-not-protected l t h = lt-leb _ 1 h
+pub not-protected : (N : Net) (t : ℕ) → 1 < N .class (N .flow t) → counts N Bound.protected t ≡ false
+unfolding counts
+not-protected N t h = lt-leb _ 1 h

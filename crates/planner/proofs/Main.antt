@@ -19,10 +19,11 @@ use Rattle.model.proofs.Choices as choices
 use Rattle.model.proofs.Rows.{Same, row-missed-same, overload-same, accepted-both, even-at, even-adds-up}
 use Rattle.model.proofs.Bounded as model
 use Rattle.lists.specs.Answers.{withRoom}
-use Rattle.lists.specs.Lists.{at, networkOf, planOf, GoodNetwork}
+use Rattle.lists.specs.Lists.{networkOf, planOf}
+use Rattle.lists.specs.Good.{GoodNetwork}
 use Rattle.model.specs.Outcome.{andThen}
 use Rattle.lists.proofs.Rooms.{good-room}
-use Rattle.forms.proofs.Good.{good-network, plan-good}
+use Rattle.forms.proofs.Good.{good-network, good-valid, plan-good}
 use Rattle.planner.specs.Planned.{evenList, stuck, byFewest, evenPlan, planned}
 use Rattle.planner.specs.Claim.{FewestSteps, NoneBelow, Safe, Claim}
 use Rattle.planner.proofs.EvenLists.{list-length, list-head, list-at, rows-most, list-beyond}
@@ -97,10 +98,10 @@ module _ (l : List ℕ) (g : GoodNetwork l) (q : ℕ) (one : 1 ≤ q) (most : q 
     edition = refl;
     parts = (one, most);
     steps = (one, most);
-    tunnels = g .tunnels;
+    tunnels = g .ranges .sized .counts .tunnels;
     size = list-length (networkOf l) q;
-    amounts = λ i four _. rw (list-beyond (networkOf l) q i four)
-        (rows-most (mostAmount * q) (networkOf l) q (q - 1) (λ a t ha ht. even-most q a _ _ (omega arith) (g .old t ht) (g .new t ht)) (i - 4));
+    amounts = λ i four _. rw (list-beyond (networkOf l) q i (omega arith))
+        (rows-most (mostAmount * q) (networkOf l) q (q - 1) (λ a t ha ht. even-most q a _ _ (omega arith) (g .ranges .old t ht) (g .ranges .new t ht)) (i - 4));
   })
 
   even-same : Same (networkOf l) (planOf (evenList (networkOf l) q)) (even (networkOf l) q)
@@ -141,7 +142,7 @@ unfolding evenPlan byFewest stuck
 nine l j h =
     let N = networkOf l in
     let e = accepted-none N h in
-    let s = stuck-somewhere N (good-network l l j .1 .valid .sums) e in
+    let s = stuck-somewhere N (good-network l l j .1 .sums) e in
     (s .0, s .1, planned-good l j ∙ ap (byFewest N) e ∙ ap stuck (s .1))
 
 nine-by-fewest : (N : Net) (o : Option ℕ) (p s : ℕ) → byFewest N o ≡ refused noEvenPlan p s → o ≡ none
@@ -160,11 +161,11 @@ nine-only l place second e =
 
 pub bounded : (l : List ℕ) → judgeNetwork l ≡ good l → keepsScratch (networkOf l) ≡ true
     → (p : List ℕ) × (planned l ≡ good p) × ((room : ℕ) → length p ≤ room → withRoom room (planned l) ≡ good p)
-    × (at p 2 ≤ stepBound (networkOf l .scratch) (networkOf l .overrun))
-unfolding evenPlan byFewest
+    × (planOf p .steps ≤ stepBound (networkOf l .scratch) (networkOf l .overrun))
+unfolding evenPlan byFewest planOf
 bounded l j k =
     let N = networkOf l in
-    let b = model.bounded N (good-network l l j .1 .valid) k in
+    let b = model.bounded N (good-valid l (good-network l l j .1)) k in
     let p : List ℕ = evenList N (b .0) in
     let e : planned l ≡ good p = planned-good l j ∙ ap (byFewest N) (b .1) in (
       p,

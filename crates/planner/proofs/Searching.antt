@@ -22,7 +22,7 @@ use Rattle.model.proofs.Scans.{link-protected, link-total, link-neither, scan-a
 use Rattle.model.proofs.Choices.{factor, room}
 use Rattle.model.proofs.Evens.{even-load, even-accepted}
 use Rattle.lists.specs.Answers.{plan}
-use Rattle.lists.specs.Lists.{at, networkOf}
+use Rattle.lists.specs.Lists.{networkOf}
 use Rattle.lists.specs.declared.Answer.the-variants.{Refused}
 use Rattle.planner.specs.Tables.{Part, Room, onPart, Loads, Ready, stepSum, endSum}
 use Rattle.planner.specs.Planned.{stuck}
@@ -49,16 +49,18 @@ sum-step N b s T q i l h =
     ap₂ (λ (m k : ℕ). m + k) (ap₂ (λ (o n : ℕ). (q - suc i) * o + i * n) (T .each Part.old l h) (T .each Part.new l h)) (T .each Part.peak l h)
 
 -- what is known where the code looks at link k, in plans of q steps
-pub record AtLink (l p a : List ℕ) (q k : ℕ) : Type 0 where
+pub record AtLink (l p a : List ℕ) (q k cap : ℕ) : Type 0 where
   pub ready : Ready l p a
   pub least : 1 ≤ q
   pub most : q ≤ mostSteps
-  pub link : k < at l 3
+  pub link : k < networkOf l .links
+  pub same : cap ≡ networkOf l .cap k
 
-module _ {l p a : List ℕ} {q k : ℕ} (h : AtLink l p a q k) where
+module _ {l p a : List ℕ} {q k cap : ℕ} (h : AtLink l p a q k cap) where
   -- all that is computed there fits 64 bits
   pub link-low : k < mostLinks
-  link-low = omega (arith, h .ready .good .links)
+  unfolding networkOf
+  link-low = omega (arith, h .link, h .ready .good .ranges .sized .counts)
 
   pub protected-room : Room mostTunnels p
   protected-room = table-room _ _ _ _ (h .ready .protected) (le-refl _) (good-range l (h .ready .good))
@@ -66,15 +68,19 @@ module _ {l p a : List ℕ} {q k : ℕ} (h : AtLink l p a q k) where
   pub all-room : Room mostTunnels a
   all-room = table-room _ _ _ _ (h .ready .all) (le-refl _) (good-range l (h .ready .good))
 
-  pub overrun-most : at l 2 ≤ mostShare
+  pub overrun-most : networkOf l .overrun ≤ mostShare
   unfolding networkOf
-  overrun-most = ⊎-elim (λ z. omega arith) (λ b. omega arith) (h .ready .good .valid .overrun)
+  overrun-most = ⊎-elim (λ z. omega arith) (λ b. omega arith) (h .ready .good .ranges .overrun)
 
-  pub cap-room : q * at l (6 + k) ≤ mostSteps * mostAmount
-  cap-room = mul-le-mul (h .most) (h .ready .good .cap k (h .link))
+  cap-most : cap ≤ mostAmount
+  unfolding networkOf
+  cap-most = omega (arith, h .same, h .ready .good .ranges .cap k (h .link))
 
-  pub overrun-room : (1000 + at l 2) * (q * at l (6 + k)) ≤ (1000 + mostShare) * (mostSteps * mostAmount)
-  overrun-room = let o : 1000 + at l 2 ≤ 1000 + mostShare = omega (arith, overrun-most) in mul-le-mul o cap-room
+  pub cap-room : q * cap ≤ mostSteps * mostAmount
+  cap-room = mul-le-mul (h .most) cap-most
+
+  pub overrun-room : (1000 + networkOf l .overrun) * (q * cap) ≤ (1000 + mostShare) * (mostSteps * mostAmount)
+  overrun-room = let o : 1000 + networkOf l .overrun ≤ 1000 + mostShare = omega (arith, overrun-most) in mul-le-mul o cap-room
 
   -- the two comparisons decide for the link
   protected-sum : endSum p q k ≡ endLoad (networkOf l) Bound.protected q k
@@ -83,19 +89,25 @@ module _ {l p a : List ℕ} {q k : ℕ} (h : AtLink l p a q k) where
   all-sum : 1000 * endSum a q k ≡ 1000 * endLoad (networkOf l) Bound.total q k
   all-sum = ap (λ (w : ℕ). 1000 * w) (sum-end (networkOf l) Bound.total a (h .ready .all) q k link-low)
 
-  pub over-protected : q * at l (6 + k) < endSum p q k → accepted (networkOf l) (even (networkOf l) q) ≡ false
-  unfolding networkOf factor room
-  over-protected o = not-accepted (networkOf l) (h .ready .good .valid .sums) q (h .least) k (h .link) Bound.protected (omega (arith, protected-sum))
+  room-same : q * cap ≡ q * networkOf l .cap k
+  room-same = ap (λ (x : ℕ). q * x) (h .same)
 
-  pub over-total : (1000 + at l 2) * (q * at l (6 + k)) < 1000 * endSum a q k → accepted (networkOf l) (even (networkOf l) q) ≡ false
-  unfolding networkOf factor room
-  over-total o = not-accepted (networkOf l) (h .ready .good .valid .sums) q (h .least) k (h .link) Bound.total (omega (arith, all-sum))
+  overrun-same : (1000 + networkOf l .overrun) * (q * cap) ≡ (1000 + networkOf l .overrun) * (q * networkOf l .cap k)
+  overrun-same = ap (λ (x : ℕ). (1000 + networkOf l .overrun) * x) room-same
 
-  pub kept-both : endSum p q k ≤ q * at l (6 + k) → 1000 * endSum a q k ≤ (1000 + at l 2) * (q * at l (6 + k))
+  pub over-protected : q * cap < endSum p q k → accepted (networkOf l) (even (networkOf l) q) ≡ false
+  unfolding factor room
+  over-protected o = not-accepted (networkOf l) (h .ready .good .sums) q (h .least) k (h .link) Bound.protected (omega (arith, protected-sum, room-same))
+
+  pub over-total : (1000 + networkOf l .overrun) * (q * cap) < 1000 * endSum a q k → accepted (networkOf l) (even (networkOf l) q) ≡ false
+  unfolding factor room
+  over-total o = not-accepted (networkOf l) (h .ready .good .sums) q (h .least) k (h .link) Bound.total (omega (arith, all-sum, overrun-same))
+
+  pub kept-both : endSum p q k ≤ q * cap → 1000 * endSum a q k ≤ (1000 + networkOf l .overrun) * (q * cap)
       → (b : Bound) → factor b * endLoad (networkOf l) b q k ≤ q * room (networkOf l) b k
-  unfolding networkOf factor room
-  kept-both i j Bound.protected = omega (arith, protected-sum)
-  kept-both i j Bound.total = omega (arith, all-sum)
+  unfolding factor room
+  kept-both i j Bound.protected = omega (arith, protected-sum, room-same)
+  kept-both i j Bound.total = omega (arith, all-sum, overrun-same)
 
 -- ---- the fewest steps
 
@@ -121,21 +133,21 @@ worst-step : (N : Net) (b : Bound) (s : List ℕ) → Loads N b s → (i l : ℕ
 unfolding worstOver even
 worst-step N b s T i l hi hl = ap (exceeds N b mostSteps l) (even-load N b l mostSteps i hi ∙ sym (sum-step N b s T mostSteps i l hl))
 
-module _ {l p a : List ℕ} {k : ℕ} (h : AtLink l p a mostSteps k) (i : ℕ) (hi : i < mostSteps) where
-  protected-over : worstOver (networkOf l) (even (networkOf l) mostSteps) i k Bound.protected ≡ ltb (mostSteps * at l (6 + k)) (stepSum p mostSteps i k)
-  unfolding networkOf exceeds
-  protected-over = worst-step (networkOf l) Bound.protected p (h .ready .protected) i k hi (link-low h)
+module _ {l p a : List ℕ} {k cap : ℕ} (h : AtLink l p a mostSteps k cap) (i : ℕ) (hi : i < mostSteps) where
+  protected-over : worstOver (networkOf l) (even (networkOf l) mostSteps) i k Bound.protected ≡ ltb (mostSteps * cap) (stepSum p mostSteps i k)
+  unfolding exceeds
+  protected-over = rw (h .same) (worst-step (networkOf l) Bound.protected p (h .ready .protected) i k hi (link-low h))
 
   total-over : worstOver (networkOf l) (even (networkOf l) mostSteps) i k Bound.total
-      ≡ ltb ((1000 + at l 2) * (mostSteps * at l (6 + k))) (1000 * stepSum a mostSteps i k)
-  unfolding networkOf exceeds
-  total-over = worst-step (networkOf l) Bound.total a (h .ready .all) i k hi (link-low h)
+      ≡ ltb ((1000 + networkOf l .overrun) * (mostSteps * cap)) (1000 * stepSum a mostSteps i k)
+  unfolding exceeds
+  total-over = rw (h .same) (worst-step (networkOf l) Bound.total a (h .ready .all) i k hi (link-low h))
 
-  pub is-over-first : mostSteps * at l (6 + k) < stepSum p mostSteps i k → true ≡ isOver (networkOf l) i k
+  pub is-over-first : mostSteps * cap < stepSum p mostSteps i k → true ≡ isOver (networkOf l) i k
   is-over-first o = sym (ap (λ (b : Bool). b || worstOver (networkOf l) (even (networkOf l) mostSteps) i k Bound.total) (protected-over ∙ lt-ltb _ _ o))
 
-  pub is-over-second : stepSum p mostSteps i k ≤ mostSteps * at l (6 + k)
-      → ltb ((1000 + at l 2) * (mostSteps * at l (6 + k))) (1000 * stepSum a mostSteps i k) ≡ isOver (networkOf l) i k
+  pub is-over-second : stepSum p mostSteps i k ≤ mostSteps * cap
+      → ltb ((1000 + networkOf l .overrun) * (mostSteps * cap)) (1000 * stepSum a mostSteps i k) ≡ isOver (networkOf l) i k
   is-over-second o = sym (ap₂ _||_ (protected-over ∙ le-ltb _ _ o) total-over)
 
 -- what one link tells of the search for the first overload

@@ -12,7 +12,7 @@ use Rattle.model.specs.Scan.{Bound, Overload, step}
 use Rattle.model.specs.Rule.{Choice, overloads, stepCount, missedRow, firstOverload, accepted}
 use Rattle.model.specs.Even.{even, keepsScratch, stepBound}
 use Rattle.lists.specs.Answers.{withRoom}
-use Rattle.lists.specs.Lists.{at, networkOf, planOf}
+use Rattle.lists.specs.Lists.{networkOf, planSizes, planOf}
 use Rattle.planner.specs.Planned.{evenList, planned}
 use Rattle.forms.specs.Named.{judgeNetwork, judgePlan}
 
@@ -33,7 +33,7 @@ pub record FewestSteps (N : Net) (p : List ℕ) : Type 0 where
 pub record Safe (l p : List ℕ) : Type 0 where
   pub network : judgeNetwork l ≡ good l
   pub judged : judgePlan p ≡ good p
-  pub tunnels : at p 3 ≡ at l 5
+  pub tunnels : planSizes p .tunnels ≡ networkOf l .tunnels
   -- "In every row a flow's amounts add up to parts × rate"
   pub rows : missedRow (networkOf l) (planOf p) ≡ none
   pub overload : firstOverload (networkOf l) (planOf p) ≡ none
@@ -56,4 +56,4 @@ pub record Claim : Type 0 where
   -- "at most ceil(1000/scratch) - 1, or the larger of that and ceil(1000/overrun) if overrun is not 0"
   pub bounded : (l : List ℕ) → judgeNetwork l ≡ good l → keepsScratch (networkOf l) ≡ true
       → (p : List ℕ) × (planned l ≡ good p) × ((room : ℕ) → length p ≤ room → withRoom room (planned l) ≡ good p)
-      × (at p 2 ≤ stepBound (networkOf l .scratch) (networkOf l .overrun))
+      × (planOf p .steps ≤ stepBound (networkOf l .scratch) (networkOf l .overrun))

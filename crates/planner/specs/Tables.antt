@@ -9,7 +9,9 @@ use Rattle.model.specs.Sum.{sumOver}
 use Rattle.model.specs.Net.{Net}
 use Rattle.model.specs.Scan.{Bound}
 use Rattle.model.specs.Rule.{onLink, counts}
-use Rattle.lists.specs.Lists.{at, networkOf, GoodNetwork}
+use Rattle.lists.specs.Lists.{at, networkOf}
+use Rattle.lists.specs.Good.{GoodNetwork}
+use Rattle.lists.specs.declared.PlanSizes.{PlanSizes}
 
 -- a table has three parts, with a number for each link that a network can have: of the old amounts, the new ones, and the larger of the two
 pub data Part : Type 0 where
@@ -75,3 +77,7 @@ stepSum s q i l = (q - suc i) * sumAt s old l + i * sumAt s new l + sumAt s peak
 
 abbrev pub endSum : List ℕ → ℕ → ℕ → ℕ
 endSum s q l = (q - 1) * max (sumAt s old l) (sumAt s new l) + sumAt s peak l
+
+-- the sizes of the even plan of q steps
+abbrev pub evenSizes : Net → ℕ → PlanSizes
+evenSizes N q = record { parts = q; steps = q; tunnels = N .tunnels }

@@ -2,7 +2,8 @@
 ghost use mathlib.Core.Path.{_≡_};
 ghost use lib.ListN.{length};
 ghost use Rattle.lists.specs.Answers.{withRoom, plan, lent};
-ghost use Rattle.lists.specs.Lists.{networkOf, GoodNetwork};
+ghost use Rattle.lists.specs.Lists.{networkOf};
+ghost use Rattle.lists.specs.Good.{GoodNetwork};
 ghost use Rattle.planner.specs.Planned.{evenPlan, planned};
 use crate::steps::Fewest;
 use forms::judge;
@@ -25,8 +26,8 @@ fn plan_good(network: &[u64], out: &mut [u64]) -> Answer
     let Fewest::Steps(q) = fewest else {
         return steps::first_overload(network, &protected, &all);
     };
-    let tunnels = network[5] as usize;
-    let size = 4 + (q - 1) as usize * tunnels;
+    let sizes = rows::plan_sizes(network, q);
+    let size = sizes.row_at(sizes.steps);
     if out.len() < size {
         return Answer::Refused {
             number: 10,

@@ -7,7 +7,7 @@ ghost use Rattle.model.specs.Limits.{mostLinks, mostTunnels, mostSteps};
 ghost use Rattle.model.specs.Rule.{accepted, firstOverload};
 ghost use Rattle.model.specs.Even.{even, fewest};
 ghost use Rattle.lists.specs.Answers.{plan};
-ghost use Rattle.lists.specs.Lists.{at, networkOf};
+ghost use Rattle.lists.specs.Lists.{networkSizes, networkOf};
 ghost use Rattle.planner.specs.Tables.{Room, Ready, stepSum, endSum};
 ghost use Rattle.planner.specs.Planned.{stuck};
 ghost use Rattle.planner.specs.Search.{answered, isOver};
@@ -48,10 +48,10 @@ fn fits(network: &[u64], protected: &[u64], all: &[u64], q: u64) -> bool
     ensures { λ r. ⌜ r ≡ accepted (networkOf (now (network .entry))) (even (networkOf (now (network .entry))) q) ⌝ }
 {
     let overrun = network[2];
-    let links = network[3] as usize;
+    let sizes = Network::of(network);
     let mut link: usize = 0;
-    while link < links {
-        let room = q * network[6 + link];
+    while link < sizes.links {
+        let room = q * network[sizes.link_at(link)];
         if room < end_load(protected, q, link) {
             return false;
         }
@@ -81,10 +81,11 @@ pub fn fewest_steps(network: &[u64], protected: &[u64], all: &[u64]) -> Fewest
 // Does the plan of 50 steps break a bound on the link in the step that leads from the given row?
 fn is_over(network: &[u64], protected: &[u64], all: &[u64], row: u64, link: usize) -> bool
     requires { ⌜ Ready (now network) (now protected) (now all) ⌝ }
-    requires { ⌜ (row < mostSteps) × (link < at (now network) 3) ⌝ }
+    requires { ⌜ (row < mostSteps) × (link < networkSizes (now network) .links) ⌝ }
     ensures { λ r. ⌜ r ≡ isOver (networkOf (now (network .entry))) row link ⌝ }
 {
-    let room = Network::STEPS * network[6 + link];
+    let sizes = Network::of(network);
+    let room = Network::STEPS * network[sizes.link_at(link)];
     if room < step_load(protected, row, link) {
         return true;
     }
@@ -96,7 +97,7 @@ pub fn first_overload(network: &[u64], protected: &[u64], all: &[u64]) -> Answer
     requires { ⌜ Ready (now network) (now protected) (now all) ⌝ }
     ensures { λ r. ⌜ r ≡ plan (stuck (firstOverload (networkOf (now (network .entry))) (even (networkOf (now (network .entry))) mostSteps))) ⌝ }
 {
-    let links = network[3] as usize;
+    let links = Network::of(network).links;
     let mut place: u64 = 0;
     let mut second: u64 = 0;
     let mut row: u64 = 0;

@@ -7,7 +7,8 @@ ghost use lib.ListN.{length, getD, set, replicate};
 ghost use Rattle.model.specs.Limits.{mostAmount, mostLinks, mostTunnels};
 ghost use Rattle.model.specs.Scan.{Bound};
 ghost use Rattle.model.specs.Sets.{inSet};
-ghost use Rattle.lists.specs.Lists.{networkOf, GoodNetwork};
+ghost use Rattle.lists.specs.Lists.{networkOf};
+ghost use Rattle.lists.specs.Good.{GoodNetwork};
 ghost use Rattle.planner.specs.Tables.{tableSize, Room, Added, Table, unprotected, Loads, Ready, Joined};
 use lists::Network;
 
@@ -61,17 +62,16 @@ fn split(network: &[u64], protected: &mut [u64], others: &mut [u64])
     ensures { λ _. ⌜ Loads (networkOf (now (network .entry))) Bound.protected (now (protected .exit)) ⌝ }
     ensures { λ _. ⌜ Table (networkOf (now (network .entry))) (networkOf (now (network .entry)) .tunnels) (unprotected (networkOf (now (network .entry)))) (now (others .exit)) ⌝ }
 {
-    let flows_at = 6 + network[3] as usize;
-    let tunnels_at = flows_at + 2 * network[4] as usize;
-    let tunnels = network[5] as usize;
+    let sizes = Network::of(network);
     let mut t: usize = 0;
-    while t < tunnels {
-        let at = tunnels_at + 4 * t;
+    while t < sizes.tunnels {
+        let at = sizes.tunnel_at(t);
         let flow = network[at] as usize;
         let via = network[at + 1];
         let old = network[at + 2];
         let new = network[at + 3];
-        if network[flows_at + 2 * flow] <= 1 {
+        let class = network[sizes.flow_at(flow)];
+        if class <= 1 {
             add_tunnel(protected, via, old, new);
         } else {
             add_tunnel(others, via, old, new);

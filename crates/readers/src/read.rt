@@ -19,16 +19,8 @@ use forms::form::Range;
 use forms::sums;
 use lists::Answer;
 use lists::Network;
+use lists::PlanSizes;
 use lists::RuleTables;
-
-// The most numbers that a network's list has; a plan's has form::NUMBERS.
-const NETWORK_NUMBERS: usize = 6
-    + Network::LINKS as usize
-    + 2 * Network::FLOWS as usize
-    + 4 * Network::TUNNELS as usize;
-
-// The most that a list of rule tables has.
-const RULES_NUMBERS: usize = 4 + RuleTables::SWITCHES as usize + 2 * RuleTables::TUNNELS as usize;
 
 // What the next line gives: its number and where the line after it begins, or the number of its refusal; or the text ends
 // where the form does.
@@ -213,7 +205,7 @@ pub fn read_network(text: &[u8], out: &mut [u64]) -> Answer
     ensures { λ r. ⌜ now (out .exit) ≡ lent (withRoom (length (now (out .entry))) (readNetwork (now (text .entry)))) (now (out .entry)) ⌝ }
 {
     let keys = form::KEYS;
-    let mut vals = [0u64; NETWORK_NUMBERS];
+    let mut vals = [0u64; Network::NUMBERS];
     let lines = read(Form::Network, &keys, text, &mut vals);
     let Answer::Done(n) = lines else {
         return lines;
@@ -231,7 +223,7 @@ pub fn read_plan(text: &[u8], out: &mut [u64]) -> Answer
     ensures { λ r. ⌜ now (out .exit) ≡ lent (withRoom (length (now (out .entry))) (readPlan (now (text .entry)))) (now (out .entry)) ⌝ }
 {
     let keys = form::KEYS;
-    let mut vals = [0u64; form::NUMBERS];
+    let mut vals = [0u64; PlanSizes::NUMBERS];
     let lines = read(Form::Plan, &keys, text, &mut vals);
     let Answer::Done(n) = lines else {
         return lines;
@@ -245,7 +237,7 @@ pub fn read_rules(text: &[u8], out: &mut [u64]) -> Answer
     ensures { λ r. ⌜ now (out .exit) ≡ lent (withRoom (length (now (out .entry))) (readRules (now (text .entry)))) (now (out .entry)) ⌝ }
 {
     let keys = form::KEYS;
-    let mut vals = [0u64; RULES_NUMBERS];
+    let mut vals = [0u64; RuleTables::NUMBERS];
     let lines = read(Form::Rules, &keys, text, &mut vals);
     let Answer::Done(n) = lines else {
         return lines;

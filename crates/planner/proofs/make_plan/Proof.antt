@@ -4,7 +4,7 @@ use lib.ListN.{length}
 use borrow.Author.Needs.{needs}
 use Rattle.model.specs.Outcome.{good}
 use Rattle.lists.specs.Answers.{withRoom, plan, lent}
-use Rattle.lists.specs.Lists.{GoodNetwork}
+use Rattle.lists.specs.Good.{GoodNetwork}
 use Rattle.forms.proofs.Answers.{done-good}
 use Rattle.forms.proofs.Good.{good-network}
 use Rattle.planner.proofs.Judged.{planned-good, planned-refused}

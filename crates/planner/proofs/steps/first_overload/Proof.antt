@@ -1,18 +1,22 @@
--- `planner::steps::first_overload` meets its contract: no step passed overloads a link, nor does the present one a link passed.
+-- `planner::steps::first_overload` meets its contract.
 use Prim.Native.Nat.{ℕ, _-_, _≤_}
-use mathlib.Core.Path.{_≡_, refl, sym, ap₂, subst, _∙_}
-use native.Mathlib.Omega.{arith}
-use borrow.Author.Needs.{needs}
+use mathlib.Core.Path.{_≡_, refl, sym, ap, ap₂, subst, _∙_}
 use Rattle.model.specs.Limits.{mostSteps}
 use Rattle.model.specs.Rule.{worstOver}
 use Rattle.model.specs.Even.{even}
 use Rattle.model.proofs.Searches.{first-zero}
 use Rattle.model.proofs.Scans.{step-on}
-use Rattle.lists.specs.Lists.{at, networkOf}
+use Rattle.lists.specs.Lists.{networkSizes, networkOf}
 use Rattle.lists.specs.declared.Answer.the-variants.{Refused}
+use Rattle.lists.specs.declared.Network as counts
+use Rattle.lists.proofs.Positions.{head-in}
 use Rattle.planner.proofs.Searching.{stepsKept, linksKept, links-on, stuck-here, stuck-nowhere}
+use native.Mathlib.Omega.{arith}
+use borrow.Author.Needs.{needs}
 use Rattle.planner.proofs.steps.first_overload.Statement.{statement}
 use Rattle.planner.proofs.steps.first_overload.Tie as tie
+use Rattle.lists.proofs.Network.of.Reads as of-reads
+use Rattle.planner.proofs.steps.is_over.Reads as is-over-reads
 
 abbrev Inv-loop : tie.InvT-loop
 Inv-loop network protected all links place₀ second₀ row link₀ place second link = record {
@@ -34,8 +38,12 @@ Inv-steps network protected all links place₀ second₀ row₀ place second row
 abbrev μ-steps : tie.MeasureT-steps
 μ-steps network protected all links place₀ second₀ row₀ place second row = mostSteps - row
 
-shared-slice-read-links : tie.Need-shared-slice-read-links Inv-loop μ-loop Inv-steps μ-steps
-shared-slice-read-links c = search needs
+same : (c : tie.After-of Inv-loop μ-loop Inv-steps μ-steps) → c .of .result .links ≡ networkOf (c .before .before .before .before .args .network .now) .links
+unfolding networkOf
+same c = ap (λ (n : counts.Network). n .links) (c .of .ensures)
+
+of-requires : tie.Need-of-requires Inv-loop μ-loop Inv-steps μ-steps
+of-requires c κs = head-in _ (c .before .before .before .pre .good .ranges .sized .size)
 
 steps-holds : tie.Need-steps-holds Inv-loop μ-loop Inv-steps μ-steps
 steps-holds c = record { low = omega arith; none = (refl, refl); kept = first-zero _ }
@@ -44,7 +52,7 @@ loop-holds : tie.Need-loop-holds Inv-loop μ-loop Inv-steps μ-steps
 loop-holds c = record { low = omega arith; none = c .before .steps .inv .none; kept = first-zero _ }
 
 is-over-requires : tie.Need-is-over-requires Inv-loop μ-loop Inv-steps μ-steps
-is-over-requires c κs = (c .before .before .before .before .before .before .before .before .pre, (c .before .before .steps-test .taken, c .loop-test .taken))
+is-over-requires c κs = (c .before .before .before .before .before .before .before .before .pre, (c .before .before .steps-test .taken, omega (arith, c .loop-test .taken, ap (λ (n : counts.Network). n .links) (c .before .before .before .before .of .ensures))))
 
 add-place : tie.Need-add-place Inv-loop μ-loop Inv-steps μ-steps
 add-place c = search needs
@@ -56,9 +64,7 @@ loop-less : tie.Need-loop-less Inv-loop μ-loop Inv-steps μ-steps
 loop-less c = search needs
 
 loop-again : tie.Need-loop-again Inv-loop μ-loop Inv-steps μ-steps
-loop-again c =
-    let i = c .before .before .before .loop in
-    record { low = omega arith; none = i .inv .none; kept = links-on _ _ (i .link) (i .inv .kept) (sym (c .before .is-over .ensures) ∙ c .if1 .left) }
+loop-again c = record { low = omega arith; none = c .before .before .before .loop .inv .none; kept = links-on _ _ (c .before .before .before .loop .link) (c .before .before .before .loop .inv .kept) (sym (c .before .is-over .ensures) ∙ c .if1 .left) }
 
 add-row : tie.Need-add-row Inv-loop μ-loop Inv-steps μ-steps
 add-row c = search needs
@@ -67,12 +73,9 @@ steps-less : tie.Need-steps-less Inv-loop μ-loop Inv-steps μ-steps
 steps-less c = search needs
 
 steps-again : tie.Need-steps-again Inv-loop μ-loop Inv-steps μ-steps
-unfolding networkOf
-steps-again c =
-    let l = c .before .before .before .before .before .before .before .before .args .network .now in
-    let N = networkOf l in
+steps-again c = let N = networkOf (c .before .before .before .before .before .before .before .before .args .network .now) in
     let s = c .before .before .before .steps in
-    let e : c .before .loop .link ≡ at l 3 = omega arith in
+    let e : c .before .loop .link ≡ N .links = omega (arith, same (c .before .before .before .before)) in
     record {
       low = omega arith;
       none = c .before .loop .inv .none;
@@ -80,20 +83,16 @@ steps-again c =
     }
 
 returns : tie.Need-returns Inv-loop μ-loop Inv-steps μ-steps
-unfolding networkOf
-returns c =
-    let N = networkOf (c .before .before .before .before .before .before .args .network .now) in
+returns c = let N = networkOf (c .before .before .before .before .before .before .args .network .now) in
     let s = c .before .steps in
     let e : s .row ≡ mostSteps = omega arith in
     ap₂ (λ (p n : ℕ). Refused 9 p n) (s .inv .none .0) (s .inv .none .1) ∙ stuck-nowhere N (subst (stepsKept N) e (s .inv .kept))
 
 returns-2 : tie.Need-returns-2 Inv-loop μ-loop Inv-steps μ-steps
-unfolding networkOf
-returns-2 c =
-    let N = networkOf (c .before .before .before .before .before .before .before .before .before .before .args .network .now) in
+returns-2 c = let N = networkOf (c .before .before .before .before .before .before .before .before .before .before .args .network .now) in
     let s = c .before .before .before .before .before .steps in
     let i = c .before .before .before .loop in
-    stuck-here N (s .row) (i .link) (s .inv .kept) (i .inv .kept) (sym (c .before .is-over .ensures) ∙ c .if1 .taken) (c .before .before .before .before .steps-test .taken) (c .before .before .loop-test .taken)
+    stuck-here N (s .row) (i .link) (s .inv .kept) (i .inv .kept) (sym (c .before .is-over .ensures) ∙ c .if1 .taken) (c .before .before .before .before .steps-test .taken) (omega (arith, c .before .before .loop-test .taken, same (c .before .before .before .before .before .before)))
 
 pub first-overload-spec : {M : Type 1} → statement M
 first-overload-spec =
@@ -103,7 +102,7 @@ first-overload-spec =
     μ-loop
     Inv-steps
     μ-steps
-    shared-slice-read-links
+    of-requires
     steps-holds
     loop-holds
     is-over-requires

@@ -2,48 +2,61 @@
 use Prim.Native.Nat.{ℕ, _-_, _*_, _≤_, _<_}
 use mathlib.Core.Path.{_≡_, sym, ap}
 use mathlib.Core.Logic.{⊎-elim}
-use native.Mathlib.Omega.{arith}
-use native.Mathlib.Nat.{eq-or-lt-of-le, le-of-suc-le-suc, lt-of-lt-of-le}
+use native.Mathlib.Nat.{eq-or-lt-of-le, le-of-suc-le-suc}
 use native.Mathlib.Numerals.{add-one}
-use borrow.Author.Needs.{needs}
+use lib.ListN.{getD}
 use Rattle.model.specs.Scan.{Bound}
 use Rattle.model.specs.ThreeSums.{endLoad}
 use Rattle.model.proofs.Choices.{factor, room}
 use Rattle.model.proofs.Evens.{even-accepted}
-use Rattle.lists.specs.Lists.{networkOf}
+use Rattle.lists.specs.Lists.{at, networkSizes, networkOf}
+use Rattle.lists.specs.declared.Network as counts
+use Rattle.lists.proofs.Positions.{LinkPlace, link-place, limited, head-in, head-size}
 use Rattle.planner.proofs.Tables.{end-room}
 use Rattle.planner.proofs.Searching.{AtLink, link-low, protected-room, all-room, overrun-most, cap-room, overrun-room, over-protected, over-total, kept-both}
+use native.Mathlib.Omega.{arith}
+use borrow.Author.Needs.{needs}
 use Rattle.planner.proofs.steps.fits.Statement.{statement}
 use Rattle.planner.proofs.steps.fits.Tie as tie
+use Rattle.lists.proofs.Network.link_at.Reads as link-at-reads
+use Rattle.lists.proofs.Network.of.Reads as of-reads
+use Rattle.planner.proofs.steps.end_load.Reads as end-load-reads
 
 abbrev Inv-loop : tie.InvT-loop
-Inv-loop network protected all q overrun links link₀ link =
-    record { low : link ≤ links; kept : (k : ℕ) → k < link → (b : Bound) → factor b * endLoad (networkOf network) b q k ≤ q * room (networkOf network) b k }
+Inv-loop network protected all q overrun sizes link₀ link = record { low : link ≤ sizes .links; kept : (k : ℕ) → k < link → (b : Bound) → factor b * endLoad (networkOf network) b q k ≤ q * room (networkOf network) b k }
 
 abbrev μ-loop : tie.MeasureT-loop
-μ-loop network protected all q overrun links link₀ link = links - link
+μ-loop network protected all q overrun sizes link₀ link = sizes .links - link
+
+-- what is known where the code looks at a link
+module _ (c : tie.After-link-at Inv-loop μ-loop) where
+  abbrev begin : tie.Start Inv-loop μ-loop
+  begin = c .before .before .before .before .before .before .before .before .before
+
+  place : LinkPlace (begin .args .network .now) (c .before .before .before .loop .link) (c .link-at .result)
+  place = link-place _ (begin .pre .0 .good .ranges .sized) _ (c .before .before .before .before .of .ensures) _ _ (c .before .if1 .taken) (c .link-at .ensures)
+
+  here : AtLink (begin .args .network .now) (begin .args .protected .now) (begin .args .all .now) (begin .args .q) (c .before .before .before .loop .link) (getD (begin .args .network .now) (c .link-at .result) 0)
+  unfolding networkOf
+  here = record { ready = begin .pre .0; least = begin .pre .1 .0; most = begin .pre .1 .1; link = place .there; same = ap (at (begin .args .network .now)) (place .here) }
 
 shared-slice-read-overrun : tie.Need-shared-slice-read-overrun Inv-loop μ-loop
-shared-slice-read-overrun c = search needs
+shared-slice-read-overrun c = omega (arith, head-in _ (c .before .before .before .before .pre .0 .good .ranges .sized .size), head-size (networkSizes (c .before .before .before .before .args .network .now)))
 
-shared-slice-read-links : tie.Need-shared-slice-read-links Inv-loop μ-loop
-shared-slice-read-links c = search needs
+of-requires : tie.Need-of-requires Inv-loop μ-loop
+of-requires c κs = head-in _ (c .before .before .before .before .pre .0 .good .ranges .sized .size)
 
 loop-holds : tie.Need-loop-holds Inv-loop μ-loop
-loop-holds c = search needs
+loop-holds c = record { low = omega arith; kept = λ k h. absurd (omega arith) }
 
-add-room : tie.Need-add-room Inv-loop μ-loop
-add-room c = search needs
+link-at-requires : tie.Need-link-at-requires Inv-loop μ-loop
+link-at-requires c κs = (limited _ (c .before .before .before .before .before .before .before .before .pre .0 .good .ranges .sized) _ (c .before .before .before .of .ensures), omega (arith, c .if1 .taken))
 
 mul-room : tie.Need-mul-room Inv-loop μ-loop
-mul-room c = search needs
+mul-room c = record { fits = omega (arith, place (c) .few) }
 
 shared-slice-read-room : tie.Need-shared-slice-read-room Inv-loop μ-loop
-shared-slice-read-room c = search needs
-
-here : (c : tie.In-loop Inv-loop μ-loop)
-    → AtLink (c .before .before .before .before .before .before .before .args .network .now) (c .before .before .before .before .before .before .before .args .protected .now) (c .before .before .before .before .before .before .before .args .all .now) (c .before .before .before .before .before .before .before .args .q) (c .before .loop .link)
-here c = let s = c .before .before .before .before .before .before .before in record { ready = s .pre .0; least = s .pre .1 .0; most = s .pre .1 .1; link = c .loop-test .taken }
+shared-slice-read-room c = omega (arith, place (c .before) .within)
 
 mul-room-2 : tie.Need-mul-room-2 Inv-loop μ-loop
 mul-room-2 c = record { fits = omega (arith, cap-room (here (c .before))) }
@@ -52,22 +65,25 @@ end-load-requires : tie.Need-end-load-requires Inv-loop μ-loop
 end-load-requires c κs = let h = here (c .before) in (protected-room h, h .least, h .most, link-low h)
 
 returns : tie.Need-returns Inv-loop μ-loop
-returns c = sym (over-protected (here (c .before .before .before)) (omega (arith, c .before .end-load .ensures, c .if1 .taken)))
+returns c = sym (over-protected (here (c .before .before .before)) (omega (arith, c .before .end-load .ensures, c .if2 .taken)))
 
-add-if2 : tie.Need-add-if2 Inv-loop μ-loop
-add-if2 c = record { fits = omega (arith, overrun-most (here (c .before .before .before))) }
+add-if3 : tie.Need-add-if3 Inv-loop μ-loop
+unfolding networkOf
+add-if3 c = record { fits = omega (arith, overrun-most (here (c .before .before .before))) }
 
-mul-if2 : tie.Need-mul-if2 Inv-loop μ-loop
-mul-if2 c = record { fits = omega (arith, overrun-room (here (c .before .before .before))) }
+mul-if3 : tie.Need-mul-if3 Inv-loop μ-loop
+unfolding networkOf
+mul-if3 c = record { fits = omega (arith, overrun-room (here (c .before .before .before))) }
 
 end-load-requires-2 : tie.Need-end-load-requires-2 Inv-loop μ-loop
 end-load-requires-2 c κs = let h = here (c .before .before .before) in (all-room h, h .least, h .most, link-low h)
 
-mul-if2-2 : tie.Need-mul-if2-2 Inv-loop μ-loop
-mul-if2-2 c = let h = here (c .before .before .before .before) in record { fits = omega (arith, c .end-load2 .ensures, end-room _ (all-room h) _ (link-low h) _ (h .most)) }
+mul-if3-2 : tie.Need-mul-if3-2 Inv-loop μ-loop
+mul-if3-2 c = let h = here (c .before .before .before .before) in record { fits = omega (arith, c .end-load2 .ensures, end-room _ (all-room h) _ (link-low h) _ (h .most)) }
 
 returns-2 : tie.Need-returns-2 Inv-loop μ-loop
-returns-2 c = sym (over-total (here (c .before .before .before .before .before)) (omega (arith, ap (λ (w : ℕ). 1000 * w) (c .before .end-load2 .ensures), c .if2 .taken)))
+unfolding networkOf
+returns-2 c = sym (over-total (here (c .before .before .before .before .before)) (omega (arith, ap (λ (w : ℕ). 1000 * w) (c .before .end-load2 .ensures), c .if3 .taken)))
 
 add-link : tie.Need-add-link Inv-loop μ-loop
 add-link c = search needs
@@ -76,22 +92,19 @@ loop-less : tie.Need-loop-less Inv-loop μ-loop
 loop-less c = search needs
 
 loop-again : tie.Need-loop-again Inv-loop μ-loop
+unfolding networkOf
 loop-again c =
-    let i = c .before .before .before .before .before .before .loop in
-    let both = kept-both (here (c .before .before .before .before .before))
-    (omega (arith, c .before .before .before .end-load .ensures, c .before .before .if1 .left))
-    (omega (arith, ap (λ (w : ℕ). 1000 * w) (c .before .end-load2 .ensures), c .if2 .left)) in
+    let both = kept-both (here (c .before .before .before .before .before)) (omega (arith, c .before .before .before .end-load .ensures, c .before .before .if2 .left)) (omega (arith, ap (λ (w : ℕ). 1000 * w) (c .before .end-load2 .ensures), c .if3 .left)) in
     record {
-      low = omega arith;
-      kept = λ j h. ⊎-elim (λ (e : j ≡ i .link). rw e both) (i .inv .kept j) (eq-or-lt-of-le (le-of-suc-le-suc (rw add-one at h)));
+      low = omega (arith, c .before .before .before .before .before .before .if1 .taken);
+      kept = λ j h. ⊎-elim (λ (e : j ≡ c .before .before .before .before .before .before .before .before .loop .link). rw e both) (c .before .before .before .before .before .before .before .before .loop .inv .kept j) (eq-or-lt-of-le (le-of-suc-le-suc (rw add-one at h)));
     }
 
 returns-3 : tie.Need-returns-3 Inv-loop μ-loop
 unfolding networkOf
 returns-3 c =
-    let s = c .before .before .before .before .before .before .before in
-    let N = networkOf (s .args .network .now) in
-    sym (even-accepted N (s .pre .0 .good .valid .sums) (s .args .q) (s .pre .1 .0) .1 (λ k h. c .before .loop .inv .kept k (lt-of-lt-of-le h (c .loop-test .left))))
+    let N = networkOf (c .before .before .before .before .before .before .before .before .args .network .now) in
+    sym (even-accepted N (c .before .before .before .before .before .before .before .before .pre .0 .good .sums) (c .before .before .before .before .before .before .before .before .args .q) (c .before .before .before .before .before .before .before .before .pre .1 .0) .1 (λ k h. c .before .before .loop .inv .kept k (omega (arith, c .if1 .left, ap (λ (n : counts.Network). n .links) (c .before .before .before .of .ensures)))))
 
 pub fits-spec : {M : Type 1} → statement M
 fits-spec =
@@ -100,18 +113,18 @@ fits-spec =
     Inv-loop
     μ-loop
     shared-slice-read-overrun
-    shared-slice-read-links
+    of-requires
     loop-holds
-    add-room
+    link-at-requires
     mul-room
     shared-slice-read-room
     mul-room-2
     end-load-requires
     returns
-    add-if2
-    mul-if2
+    add-if3
+    mul-if3
     end-load-requires-2
-    mul-if2-2
+    mul-if3-2
     returns-2
     add-link
     loop-less

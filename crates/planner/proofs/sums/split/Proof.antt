@@ -1,124 +1,169 @@
 -- `planner::sums::split` meets its contract: each table has those of the tunnels passed that it is for.
 use Prim.Native.Nat.{ℕ, _+_, _-_, _≤_, _<_}
-use mathlib.Core.Path.{_≡_, ap, subst}
+use mathlib.Core.Path.{_≡_, ap, subst, _∙_}
 use mathlib.Core.Logic.{⊎-elim}
-use mathlib.Core.Bool.{not}
-use native.Mathlib.Omega.{arith}
-use borrow.Author.Needs.{needs}
+use mathlib.Core.Bool.{Bool, not}
+use mathlib.Core.List.{List}
+use lib.ListN.{getD}
+use Rattle.model.specs.Limits.{mostAmount}
+use Rattle.model.specs.Net.{Net}
 use Rattle.model.specs.Scan.{Bound}
+use Rattle.model.specs.Sets.{inSet}
 use Rattle.model.specs.Rule.{counts}
-use Rattle.lists.specs.Lists.{at, tunnelAt, networkOf}
-use Rattle.planner.specs.Tables.{Table, unprotected}
+use Rattle.lists.specs.Lists.{at, networkSizes, networkOf}
+use Rattle.lists.specs.Good.{NetworkRanges}
+use Rattle.lists.specs.declared.Network as sizes
+use Rattle.lists.proofs.Positions.{TunnelPlace, tunnel-place, FlowPlace, flow-place, limited, head-in}
+use Rattle.planner.specs.Tables.{Added, Table, unprotected}
 use Rattle.planner.proofs.Tables.{table-zero, table-take, table-skip, table-room}
 use Rattle.planner.proofs.Good.{good-range, is-protected, not-protected}
+use native.Mathlib.Omega.{arith}
+use borrow.Author.Needs.{needs}
 use Rattle.planner.proofs.sums.split.Statement.{statement}
 use Rattle.planner.proofs.sums.split.Tie as tie
+use Rattle.lists.proofs.Network.flow_at.Reads as flow-at-reads
+use Rattle.lists.proofs.Network.of.Reads as of-reads
+use Rattle.lists.proofs.Network.tunnel_at.Reads as tunnel-at-reads
+use Rattle.planner.proofs.sums.add_tunnel.Reads as add-tunnel-reads
 
 abbrev Inv-loop : tie.InvT-loop
-Inv-loop network protected₀ others₀ flows-at tunnels-at tunnels t₀ protected others t =
-    record {
-      low : t ≤ tunnels;
-      protected : Table (networkOf network) t (counts (networkOf network) Bound.protected) protected;
-      others : Table (networkOf network) t (unprotected (networkOf network)) others;
-    }
+Inv-loop network protected₀ others₀ sizes t₀ protected others t = record {
+  low : t ≤ sizes .tunnels;
+  protected : Table (networkOf network) t (counts (networkOf network) Bound.protected) protected;
+  others : Table (networkOf network) t (unprotected (networkOf network)) others;
+}
 
 abbrev μ-loop : tie.MeasureT-loop
-μ-loop network protected₀ others₀ flows-at tunnels-at tunnels t₀ protected others t = tunnels - t
+μ-loop network protected₀ others₀ sizes t₀ protected others t = sizes .tunnels - t
 
-shared-slice-read-flows-at : tie.Need-shared-slice-read-flows-at Inv-loop μ-loop
-shared-slice-read-flows-at c = search needs
+-- in a turn: the tunnel's numbers
+module _ (c : tie.After-tunnel-at Inv-loop μ-loop) where
+  abbrev begin : tie.Start Inv-loop μ-loop
+  begin = c .before .before .before .before .before .before .before .before
 
-add-flows-at : tie.Need-add-flows-at Inv-loop μ-loop
-add-flows-at c = search needs
+  abbrev list : List ℕ
+  list = begin .args .network .now
 
-shared-slice-read-tunnels-at : tie.Need-shared-slice-read-tunnels-at Inv-loop μ-loop
-shared-slice-read-tunnels-at c = search needs
+  abbrev N : Net
+  N = networkOf list
 
-mul-tunnels-at : tie.Need-mul-tunnels-at Inv-loop μ-loop
-mul-tunnels-at c = search needs
+  abbrev t : ℕ
+  t = c .before .before .before .loop .t
 
-add-tunnels-at : tie.Need-add-tunnels-at Inv-loop μ-loop
-add-tunnels-at c = search needs
+  abbrev ranges : NetworkRanges list
+  ranges = begin .pre .0 .ranges
 
-shared-slice-read-tunnels : tie.Need-shared-slice-read-tunnels Inv-loop μ-loop
-shared-slice-read-tunnels c = search needs
+  place : TunnelPlace list t (c .tunnel-at .result)
+  place = tunnel-place list (ranges .sized) _ (c .before .before .before .before .of .ensures) t _ (c .before .if1 .taken) (c .tunnel-at .ensures)
+
+  there : t < N .tunnels
+  unfolding networkOf
+  there = place .there
+
+  flow-at : getD list (c .tunnel-at .result) 0 ≡ N .flow t
+  unfolding networkOf
+  flow-at = ap (at list) (place .here)
+
+  via-at : getD list (c .tunnel-at .result + 1) 0 ≡ N .via t
+  unfolding networkOf
+  via-at = ap (λ (i : ℕ). at list (i + 1)) (place .here)
+
+  old-at : getD list (c .tunnel-at .result + 2) 0 ≡ N .old t
+  unfolding networkOf
+  old-at = ap (λ (i : ℕ). at list (i + 2)) (place .here)
+
+  new-at : getD list (c .tunnel-at .result + 3) 0 ≡ N .new t
+  unfolding networkOf
+  new-at = ap (λ (i : ℕ). at list (i + 3)) (place .here)
+
+  old-most : getD list (c .tunnel-at .result + 2) 0 ≤ mostAmount
+  unfolding networkOf
+  old-most = omega (arith, old-at, ranges .old t (place .there))
+
+  new-most : getD list (c .tunnel-at .result + 3) 0 ≤ mostAmount
+  unfolding networkOf
+  new-most = omega (arith, new-at, ranges .new t (place .there))
+
+  -- the tunnel's flow is one of the network's
+  flow-low : getD list (c .tunnel-at .result) 0 < c .before .before .before .before .of .result .flows
+  unfolding networkOf
+  flow-low = omega (arith, flow-at, ranges .flow t (place .there), ap (λ (n : sizes.Network). n .flows) (c .before .before .before .before .of .ensures))
+
+  -- what a table becomes by the amounts that are added
+  added : {s s′ : List ℕ} → Added (inSet (getD list (c .tunnel-at .result + 1) 0)) (getD list (c .tunnel-at .result + 2) 0) (getD list (c .tunnel-at .result + 3) 0) s s′ → Added (inSet (N .via t)) (N .old t) (N .new t) s s′
+  added a = rw (← via-at, ← old-at, ← new-at) a
+
+class-place : (c : tie.After-flow-at Inv-loop μ-loop) → FlowPlace (c .before .before .before .before .before .before .before .before .before .before .before .before .before .args .network .now) (getD (c .before .before .before .before .before .before .before .before .before .before .before .before .before .args .network .now) (c .before .before .before .before .before .tunnel-at .result) 0) (c .flow-at .result)
+class-place c =
+    let p = c .before .before .before .before .before in
+    flow-place _ (ranges p .sized) _ (c .before .before .before .before .before .before .before .before .before .of .ensures) _ _ (flow-low p) (c .flow-at .ensures)
+
+class-at : (c : tie.After-flow-at Inv-loop μ-loop) → let p = c .before .before .before .before .before in getD (list p) (c .flow-at .result) 0 ≡ N p .class (N p .flow (t p))
+unfolding networkOf
+class-at c = ap (at (list (c .before .before .before .before .before))) (class-place c .here) ∙ ap (λ (f : ℕ). networkOf (list (c .before .before .before .before .before)) .class f) (flow-at (c .before .before .before .before .before))
+
+of-requires : tie.Need-of-requires Inv-loop μ-loop
+of-requires c κs = head-in _ (c .before .before .before .pre .0 .ranges .sized .size)
 
 loop-holds : tie.Need-loop-holds Inv-loop μ-loop
-loop-holds c =
-    let a = c .before .before .before .before .before .before in
-    record { low = omega arith; protected = table-zero _ _ _ (a .pre .1 .0); others = table-zero _ _ _ (a .pre .1 .1) }
+loop-holds c = record { low = omega arith; protected = table-zero _ _ _ (c .before .before .before .before .pre .1 .0); others = table-zero _ _ _ (c .before .before .before .before .pre .1 .1) }
 
-mul-at : tie.Need-mul-at Inv-loop μ-loop
-mul-at c = search needs
-
-add-at : tie.Need-add-at Inv-loop μ-loop
-add-at c = search needs
+tunnel-at-requires : tie.Need-tunnel-at-requires Inv-loop μ-loop
+tunnel-at-requires c κs = (limited _ (c .before .before .before .before .before .before .before .pre .0 .ranges .sized) _ (c .before .before .before .of .ensures), omega (arith, c .if1 .taken))
 
 mul-flow : tie.Need-mul-flow Inv-loop μ-loop
-mul-flow c = search needs
+mul-flow c = record { fits = omega (arith, place (c) .few) }
 
 shared-slice-read-flow : tie.Need-shared-slice-read-flow Inv-loop μ-loop
-shared-slice-read-flow c = search needs
+shared-slice-read-flow c = omega (arith, place (c .before) .within)
 
 add-via : tie.Need-add-via Inv-loop μ-loop
-add-via c = search needs
+add-via c = record { fits = omega (arith, place (c .before) .few) }
 
 mul-via : tie.Need-mul-via Inv-loop μ-loop
-mul-via c = search needs
+mul-via c = record { fits = omega (arith, place (c .before) .few) }
 
 shared-slice-read-via : tie.Need-shared-slice-read-via Inv-loop μ-loop
-shared-slice-read-via c = search needs
+shared-slice-read-via c = omega (arith, place (c .before .before) .within)
 
 add-old : tie.Need-add-old Inv-loop μ-loop
-add-old c = search needs
+add-old c = record { fits = omega (arith, place (c .before .before) .few) }
 
 mul-old : tie.Need-mul-old Inv-loop μ-loop
-mul-old c = search needs
+mul-old c = record { fits = omega (arith, place (c .before .before) .few) }
 
 shared-slice-read-old : tie.Need-shared-slice-read-old Inv-loop μ-loop
-shared-slice-read-old c = search needs
+shared-slice-read-old c = omega (arith, place (c .before .before .before) .within)
 
 add-new : tie.Need-add-new Inv-loop μ-loop
-add-new c = search needs
+add-new c = record { fits = omega (arith, place (c .before .before .before) .few) }
 
 mul-new : tie.Need-mul-new Inv-loop μ-loop
-mul-new c = search needs
+mul-new c = record { fits = omega (arith, place (c .before .before .before) .few) }
 
 shared-slice-read-new : tie.Need-shared-slice-read-new Inv-loop μ-loop
-shared-slice-read-new c = search needs
+shared-slice-read-new c = omega (arith, place (c .before .before .before .before) .within)
 
--- the tunnel's flow is one of the network's
-flow-low : (c : tie.In-loop Inv-loop μ-loop)
-    → at (c .before .before .before .before .before .before .before .before .args .network .now) (tunnelAt (c .before .before .before .before .before .before .before .before .args .network .now) (c .before .loop .t)) < at (c .before .before .before .before .before .before .before .before .args .network .now) 4
-flow-low c = c .before .before .before .before .before .before .before .before .pre .0 .flow (c .before .loop .t) (c .loop-test .taken)
+flow-at-requires : tie.Need-flow-at-requires Inv-loop μ-loop
+flow-at-requires c κs = (limited _ (c .before .before .before .before .before .before .before .before .before .before .before .before .pre .0 .ranges .sized) _ (c .before .before .before .before .before .before .before .before .of .ensures), omega (arith, flow-low (c .before .before .before .before)))
 
-mul-if1 : tie.Need-mul-if1 Inv-loop μ-loop
-mul-if1 c = omega (arith, flow-low (c .before .before .before .before))
+mul-class : tie.Need-mul-class Inv-loop μ-loop
+mul-class c = record { fits = omega (arith, class-place (c) .few) }
 
-add-if1 : tie.Need-add-if1 Inv-loop μ-loop
-add-if1 c = omega (arith, flow-low (c .before .before .before .before))
-
-mul-if1-2 : tie.Need-mul-if1-2 Inv-loop μ-loop
-mul-if1-2 c = omega (arith, flow-low (c .before .before .before .before))
-
-shared-slice-read-if1 : tie.Need-shared-slice-read-if1 Inv-loop μ-loop
-shared-slice-read-if1 c = omega (arith, flow-low (c .before .before .before .before .before))
+shared-slice-read-class : tie.Need-shared-slice-read-class Inv-loop μ-loop
+shared-slice-read-class c = omega (arith, class-place (c .before) .within)
 
 add-tunnel-requires : tie.Need-add-tunnel-requires Inv-loop μ-loop
 unfolding networkOf
 add-tunnel-requires c κs =
-    let i = c .before .before .before .before .before .before .before .before in
-    let g = i .before .before .before .before .before .before .before .pre .0 in
-    let h = c .before .before .before .before .before .before .before .loop-test .taken in
-    (table-room _ _ _ _ (i .loop .inv .protected) (i .loop .inv .low) (good-range _ g), g .old (i .loop .t) h, g .new (i .loop .t) h)
+    let p = c .before .before .before .before .before .before .before .before in
+    (table-room _ _ _ _ (c .before .before .before .before .before .before .before .before .before .before .before .loop .inv .protected) (omega (arith, there p)) (good-range _ (c .before .before .before .before .before .before .before .before .before .before .before .before .before .before .before .before .pre .0)), old-most p, new-most p)
 
 add-tunnel-requires-2 : tie.Need-add-tunnel-requires-2 Inv-loop μ-loop
 unfolding networkOf
 add-tunnel-requires-2 c κs =
-    let i = c .before .before .before .before .before .before .before .before in
-    let g = i .before .before .before .before .before .before .before .pre .0 in
-    let h = c .before .before .before .before .before .before .before .loop-test .taken in
-    (table-room _ _ _ _ (i .loop .inv .others) (i .loop .inv .low) (good-range _ g), g .old (i .loop .t) h, g .new (i .loop .t) h)
+    let p = c .before .before .before .before .before .before .before .before in
+    (table-room _ _ _ _ (c .before .before .before .before .before .before .before .before .before .before .before .loop .inv .others) (omega (arith, there p)) (good-range _ (c .before .before .before .before .before .before .before .before .before .before .before .before .before .before .before .before .pre .0)), old-most p, new-most p)
 
 add-t : tie.Need-add-t Inv-loop μ-loop
 add-t c = search needs
@@ -127,21 +172,18 @@ loop-less : tie.Need-loop-less Inv-loop μ-loop
 loop-less c = search needs
 
 loop-again : tie.Need-loop-again Inv-loop μ-loop
-unfolding networkOf
-loop-again c =
-    let i = c .before .before .before .before .before .before .before in
-    let s = i .before .before .before .before .before .before .before in
-    let l = s .args .network .now in
-    let t = i .loop .t in
-    let N = networkOf l in
-    let tables : Table N (t + 1) (counts N Bound.protected) (c .if1 .protected) × Table N (t + 1) (unprotected N) (c .if1 .others) =
+loop-again c = let p = c .before .before .before .before .before .before .before in
+    let e = class-at (c .before .before) in
+    let n = N p in
+    let k = t p in
+    let tables : Table n (k + 1) (counts n Bound.protected) (c .if2 .protected) × Table n (k + 1) (unprotected n) (c .if2 .others) =
     ⊎-elim
-    (λ w. let e = is-protected l t (omega (arith, w .0 .taken)) in
-    (rw (w .5) (table-take N t _ _ _ (i .loop .inv .protected) e (w .2 .ensures)), rw (w .6) (table-skip N t _ _ (i .loop .inv .others) (ap not e))))
-    (λ w. let e = not-protected l t (omega (arith, w .0 .left)) in
-    (rw (w .5) (table-skip N t _ _ (i .loop .inv .protected) e), rw (w .6) (table-take N t _ _ _ (i .loop .inv .others) (ap not e) (w .2 .ensures))))
-    (c .if1 .came) in
-    record { low = omega arith; protected = tables .0; others = tables .1 }
+    (λ w. let q = is-protected n k (omega (arith, e, w .0 .taken)) in
+    (rw (w .5) (table-take n k _ _ _ (c .before .before .before .before .before .before .before .before .before .before .loop .inv .protected) q (added p (w .2 .ensures))), rw (w .6) (table-skip n k _ _ (c .before .before .before .before .before .before .before .before .before .before .loop .inv .others) (ap not q))))
+    (λ w. let q = not-protected n k (omega (arith, e, w .0 .left)) in
+    (rw (w .5) (table-skip n k _ _ (c .before .before .before .before .before .before .before .before .before .before .loop .inv .protected) q), rw (w .6) (table-take n k _ _ _ (c .before .before .before .before .before .before .before .before .before .before .loop .inv .others) (ap not q) (added p (w .2 .ensures)))))
+    (c .if2 .came) in
+    record { low = omega (arith, c .before .before .before .before .before .before .before .before .if1 .taken); protected = tables .0; others = tables .1 }
 
 same-length : tie.Need-same-length Inv-loop μ-loop
 same-length c = search needs
@@ -152,10 +194,10 @@ same-length-2 c = search needs
 returns : tie.Need-returns Inv-loop μ-loop
 unfolding networkOf
 returns c =
-    let l = c .before .before .before .before .before .before .before .before .args .network .now in
-    let e : c .before .loop .t ≡ at l 5 = omega arith in (
-      subst (λ (n : ℕ). Table (networkOf l) n (counts (networkOf l) Bound.protected) (c .before .loop .protected)) e (c .before .loop .inv .protected),
-      subst (λ (n : ℕ). Table (networkOf l) n (unprotected (networkOf l)) (c .before .loop .others)) e (c .before .loop .inv .others),
+    let l = c .before .before .before .before .before .before .before .args .network .now in
+    let e : c .before .before .loop .t ≡ networkSizes l .tunnels = omega (arith, c .before .before .loop .inv .low, ap (λ (n : sizes.Network). n .tunnels) (c .before .before .before .of .ensures)) in (
+      subst (λ (n : ℕ). Table (networkOf l) n (counts (networkOf l) Bound.protected) (c .before .before .loop .protected)) e (c .before .before .loop .inv .protected),
+      subst (λ (n : ℕ). Table (networkOf l) n (unprotected (networkOf l)) (c .before .before .loop .others)) e (c .before .before .loop .inv .others),
     )
 
 pub split-spec : {M : Type 1} → statement M
@@ -164,15 +206,9 @@ split-spec =
     (tie.spec
     Inv-loop
     μ-loop
-    shared-slice-read-flows-at
-    add-flows-at
-    shared-slice-read-tunnels-at
-    mul-tunnels-at
-    add-tunnels-at
-    shared-slice-read-tunnels
+    of-requires
     loop-holds
-    mul-at
-    add-at
+    tunnel-at-requires
     mul-flow
     shared-slice-read-flow
     add-via
@@ -184,10 +220,9 @@ split-spec =
     add-new
     mul-new
     shared-slice-read-new
-    mul-if1
-    add-if1
-    mul-if1-2
-    shared-slice-read-if1
+    flow-at-requires
+    mul-class
+    shared-slice-read-class
     add-tunnel-requires
     add-tunnel-requires-2
     add-t

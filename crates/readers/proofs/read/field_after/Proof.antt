@@ -8,7 +8,7 @@ enum-told : tie.Need-enum-told
 enum-told c = search needs
 
 network-field-requires : tie.Need-network-field-requires
-network-field-requires c κs = search needs
+network-field-requires c κs = rw (c .enum-told .given .1) at (c .before .before .before .pre)
 
 enum-told-2 : tie.Need-enum-told-2
 enum-told-2 c = search needs
@@ -20,7 +20,7 @@ enum-told-3 : tie.Need-enum-told-3
 enum-told-3 c = search needs
 
 rules-field-requires : tie.Need-rules-field-requires
-rules-field-requires c κs = search needs
+rules-field-requires c κs = rw (c .enum-told3 .given .1) at (c .before .before .before .pre)
 
 returns : tie.Need-returns
 unfolding fieldOf

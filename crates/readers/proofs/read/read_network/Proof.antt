@@ -6,6 +6,7 @@ use lib.ListN.{length, take}
 use lib.Seq.{length-take-le}
 use Rattle.model.specs.Outcome.{good}
 use Rattle.model.specs.Outcome.{andThen}
+use Rattle.lists.specs.Lists.{linkAt, flowAt, tunnelAt, mostNetwork}
 use Rattle.forms.specs.Read.{addUp, readLines}
 use Rattle.forms.specs.declared.form.Form.the-variants.{Network}
 use Rattle.forms.proofs.Answers.{done-good, refused-then, refused-room}
@@ -42,6 +43,7 @@ slice-aggregate-read-2 : tie.Need-slice-aggregate-read-2
 slice-aggregate-read-2 c = search needs
 
 read-requires : tie.Need-read-requires
+unfolding mostNetwork linkAt flowAt tunnelAt
 read-requires c κs = search needs
 
 enum-known-lines : tie.Need-enum-known-lines
