@@ -5,7 +5,7 @@ use mathlib.Core.List.{List}
 use native.Mathlib.Omega.{arith}
 use native.Mathlib.Nat.{lt-of-lt-of-le}
 use lib.ListN.{length, getD}
-use Rattle.model.specs.Limits.{mostFlows}
+use Rattle.model.specs.Limits.{mostFlows, mostAmount}
 use Rattle.lists.specs.Lists.{at, networkOf, tunnelAt}
 use Rattle.forms.specs.Good.{NetworkRanges}
 use Rattle.forms.specs.Sums.{Gathered}
@@ -46,14 +46,14 @@ module _ (c : tie.In-loop Inv-loop μ-loop) where
   unfolding networkOf
   old-fits =
       let h = head begin in
-      gathered-fits (networkOf list) (networkOf list .old) t (c .before .loop .old) _ (c .before .loop .inv .olds) flow-low (omega arith)
+      gathered-fits (networkOf list) (networkOf list .old) mostAmount t (c .before .loop .old) _ (omega arith) (c .before .loop .inv .olds) flow-low (omega arith)
       (λ u k. begin .pre .0 .old u (omega arith))
 
   new-fits : getD (c .before .loop .new) (at list (tunnelAt list t)) 0 + at list (tunnelAt list t + 3) < 2 ^ 64
   unfolding networkOf
   new-fits =
       let h = head begin in
-      gathered-fits (networkOf list) (networkOf list .new) t (c .before .loop .new) _ (c .before .loop .inv .news) flow-low (omega arith)
+      gathered-fits (networkOf list) (networkOf list .new) mostAmount t (c .before .loop .new) _ (omega arith) (c .before .loop .inv .news) flow-low (omega arith)
       (λ u k. begin .pre .0 .new u (omega arith))
 
 shared-slice-read-links : tie.Need-shared-slice-read-links Inv-loop μ-loop
