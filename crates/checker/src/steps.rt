@@ -12,7 +12,7 @@ use crate::columns::TUNNELS;
 use crate::rows;
 
 // The first overload: the number of its refusal, the row that its step leads from, and its link.
-pub(crate) enum Found {
+pub enum Found {
     Nothing,
     At(u64, usize, usize),
 }
@@ -37,7 +37,7 @@ fn over(network: &[u64], parts: u64, vias: &[u64], all: &[u64], protected: &[u64
 }
 
 // Steps ascending, links ascending; the first overload ends the check.
-pub(crate) fn first_overload(network: &[u64], plan: &[u64]) -> Found
+pub fn first_overload(network: &[u64], plan: &[u64]) -> Found
     requires { ⌜ Checkable (now network) (now plan) ⌝ }
     ensures { λ r. ⌜ r ≡ foundOf (firstOverload (networkOf (now (network .entry))) (planOf (now (plan .entry)))) ⌝ }
 {

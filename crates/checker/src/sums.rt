@@ -56,6 +56,7 @@ fn missed_flow(network: &[u64], parts: u64, sums: &[u64]) -> usize
     f
 }
 
+// The lowest row that misses parts × rate, and the lowest flow that misses it there.
 pub(crate) fn missed_row(network: &[u64], plan: &[u64]) -> Missed
     requires { ⌜ Checkable (now network) (now plan) ⌝ }
     ensures { λ r. ⌜ r ≡ missedOf (missedRow (networkOf (now (network .entry))) (planOf (now (plan .entry)))) ⌝ }

@@ -1,4 +1,4 @@
--- `checker::marks::put` meets its contract.
+-- `checker::marks::mark_rising` meets its contract.
 use Prim.Native.Nat.{_≤_, _-_}
 use mathlib.Core.Path.{_≡_, refl}
 use mathlib.Core.Bool.{_&&_}
@@ -10,8 +10,8 @@ use lib.ListN.{length, getD, drop, length-set}
 use Rattle.model.specs.Sets.{inSet}
 use Rattle.checker.specs.Inner.{marksOf}
 use Rattle.model.proofs.Listed.{listed-none, listed-on, listed-to}
-use Rattle.checker.proofs.marks.put.Statement.{statement}
-use Rattle.checker.proofs.marks.put.Tie as tie
+use Rattle.checker.proofs.marks.mark_rising.Statement.{statement}
+use Rattle.checker.proofs.marks.mark_rising.Tie as tie
 
 abbrev Inv-loop : tie.InvT-loop
 Inv-loop vias earlier later n l marks₀ t₀ marks t =
@@ -64,8 +64,8 @@ same-length c = search needs
 returns : tie.Need-returns Inv-loop μ-loop
 returns c = listed-to _ _ _ _ _ (c .before .loop .inv .2) (omega arith)
 
-pub put-spec : {M : Type 1} → statement M
-put-spec =
+pub mark-rising-spec : {M : Type 1} → statement M
+mark-rising-spec =
     tie.close
     (tie.spec
     Inv-loop
