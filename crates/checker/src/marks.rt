@@ -53,7 +53,7 @@ pub fn mark(network: &[u64], plan: &[u64], i: usize, l: usize, marks: &mut [u8])
     mark_rising(&vias, &earlier, &later, n, l as u64, marks);
 }
 
-// Marks none of n tunnels.
+// Clears the marks of n tunnels.
 pub fn clear(n: usize, marks: &mut [u8])
     requires { ⌜ n ≤ length (now marks) ⌝ }
     ensures { λ _. ⌜ now (marks .exit) ≡ marksOf (λ t. false) n ++ drop n (now (marks .entry)) ⌝ }
