@@ -6,9 +6,11 @@ use mathlib.Core.List.{List}
 use native.Mathlib.Omega.{arith}
 use native.Mathlib.Nat.{le-trans, mul-le-mul, mul-le-mul-right}
 use lib.ListN.{length, getD}
+use Rattle.model.specs.Limits.{mostFlows, mostTunnels, mostSteps, mostAmount, mostShare}
 use Rattle.model.specs.Net.{row}
 use Rattle.lists.specs.Lists.{at, tunnelAt, networkOf, planOf, GoodNetwork}
 use Rattle.model.proofs.Rows.{row-first, row-last, row-between, row-cases}
+use Rattle.forms.specs.Form.{mostNumbers}
 use Rattle.checker.specs.Columns.{Column, Holds, Small, classOf}
 use Rattle.checker.specs.Inner.{Checkable}
 
@@ -18,7 +20,7 @@ place l start j t e = omega (arith, e)
 
 module _ (l : List ℕ) (g : GoodNetwork l) (start j factor n : ℕ) (e : start ≡ 6 + at l 3 + 2 * at l 4 + j) (en : n ≡ at l 5) where
   -- line j of each tunnel is a column
-  pub network-column : (room : ℕ) → j ≤ 3 → 96 ≤ room → ((t : ℕ) → t < at l 5 → factor * at l (tunnelAt l t + j) < 2 ^ 64) → Column l start 4 factor n room
+  pub network-column : (room : ℕ) → j ≤ 3 → mostTunnels ≤ room → ((t : ℕ) → t < at l 5 → factor * at l (tunnelAt l t + j) < 2 ^ 64) → Column l start 4 factor n room
   network-column room hj hr b = record {
     room = omega (arith, g .tunnels);
     stride = omega arith;
@@ -34,8 +36,8 @@ module _ (l : List ℕ) (g : GoodNetwork l) (start j factor n : ℕ) (e : start 
   }
 
 module _ (l p : List ℕ) (k : Checkable l p) where
-  amount-fits : (m : ℕ) → m ≤ 10000000 → at p 1 * m < 2 ^ 64
-  amount-fits m h = let q : at p 1 * m ≤ 50 * 10000000 = mul-le-mul (k .plan .parts .1) h in omega (arith, q)
+  amount-fits : (m : ℕ) → m ≤ mostAmount → at p 1 * m < 2 ^ 64
+  amount-fits m h = let q : at p 1 * m ≤ mostSteps * mostAmount = mul-le-mul (k .plan .parts .1) h in omega (arith, q)
 
   pub old-fits : (t : ℕ) → t < at l 5 → at p 1 * at l (tunnelAt l t + 2) < 2 ^ 64
   old-fits t h = amount-fits _ (k .network .old t h)
@@ -58,7 +60,7 @@ module _ (l p : List ℕ) (k : Checkable l p) where
         let up : (a - 1) + 1 ≤ at p 2 - 1 = omega arith in
         omega (arith, mul-le-mul-right n up, k .plan .size, ap (λ (i : ℕ). (at p 2 - 1) * i) (en ∙ sym (k .tunnels)))
 
-    pub plan-column : 0 < a → a < at p 2 → (n room : ℕ) → n ≡ at l 5 → 96 ≤ room → ((i : ℕ) → getD p i 0 < 2 ^ 64) → Column p (4 + (a - 1) * n) 1 1 n room
+    pub plan-column : 0 < a → a < at p 2 → (n room : ℕ) → n ≡ at l 5 → mostTunnels ≤ room → ((i : ℕ) → getD p i 0 < 2 ^ 64) → Column p (4 + (a - 1) * n) 1 1 n room
     plan-column h m n room en hr b = record {
       room = omega (arith, k .network .tunnels);
       stride = omega arith;
@@ -67,11 +69,10 @@ module _ (l p : List ℕ) (k : Checkable l p) where
       fits = λ t ht. omega (arith, b (4 + (a - 1) * n + 1 * t));
     }
       where
-        short-plan : length p ≤ 5000
+        short-plan : length p ≤ mostNumbers
         short-plan =
-            let s : at p 2 - 1 ≤ 49 = omega (arith, k .plan .steps) in
-            let q : (at p 2 - 1) * at p 3 ≤ 49 * 96 = mul-le-mul s (k .plan .tunnels) in
-            omega (arith, k .plan .size, q)
+            let s : at p 2 - 1 ≤ mostSteps - 1 = omega (arith, k .plan .steps) in
+            omega (arith, k .plan .size, mul-le-mul s (k .plan .tunnels))
 
     pub plan-holds : 0 < a → a < at p 2 → (n : ℕ) → n ≡ at l 5 → (xs : List ℕ)
         → Holds xs n (λ t. 1 * getD p (4 + (a - 1) * n + 1 * t) 0) → Holds xs (at l 5) (row (networkOf l) (planOf p) a)
@@ -85,7 +86,7 @@ module _ (l p : List ℕ) (k : Checkable l p) where
 -- where a tunnel's flow is named, and where that flow's class stands
 pub record Class (l : List ℕ) (at first t : ℕ) : Type 0 where
   pub named : at < length l
-  pub flow : getD l at 0 ≤ 32
+  pub flow : getD l at 0 ≤ mostFlows
   pub held : first + 2 * getD l at 0 < length l
   pub class : getD l (first + 2 * getD l at 0) 0 ≡ classOf (networkOf l) t
 
@@ -100,8 +101,8 @@ class-at l g i first t e f h =
       class = ap₂ (λ (a b : ℕ). getD l (a + 2 * b) 0) f v;
     }
 
--- no amount is over 10,000,000 in 50 parts
-pub row-small : (l p : List ℕ) → Checkable l p → (a t : ℕ) → a ≤ at p 2 → t < at l 5 → row (networkOf l) (planOf p) a t ≤ 500000000
+-- no amount is over the largest, in as many parts as there can be
+pub row-small : (l p : List ℕ) → Checkable l p → (a t : ℕ) → a ≤ at p 2 → t < at l 5 → row (networkOf l) (planOf p) a t ≤ mostAmount * mostSteps
 unfolding networkOf planOf
 row-small l p k a t h ht =
     row-cases (networkOf l) (planOf p) a t h
@@ -112,22 +113,20 @@ row-small l p k a t h ht =
     let j : 4 + (a - 1) * at p 3 + t < length p = omega (arith, row-ends l p k a z m (at p 3) (k .tunnels), k .tunnels) in
     rw (row-between (networkOf l) (planOf p) a t z m) (le-trans (k .plan .amounts _ i j) (omega (arith, k .plan .parts))))
   where
-    in-parts : (a b : ℕ) → a ≤ 50 → b ≤ 10000000 → a * b ≤ 500000000
-    in-parts a b h k = let q : a * b ≤ 50 * 10000000 = mul-le-mul h k in omega arith
+    in-parts : (a b : ℕ) → a ≤ mostSteps → b ≤ mostAmount → a * b ≤ mostAmount * mostSteps
+    in-parts a b h k = let q : a * b ≤ mostSteps * mostAmount = mul-le-mul h k in omega arith
 
 -- what a link has room for, in parts, and with the overrun, fits
-pub room-small : (l : List ℕ) → GoodNetwork l → (k parts : ℕ) → k < at l 3 → parts ≤ 50 → parts * at l (6 + k) ≤ 500000000
-room-small l g k parts h hp = let q : parts * at l (6 + k) ≤ 50 * 10000000 = mul-le-mul hp (g .cap k h) in omega arith
+pub room-small : (l : List ℕ) → GoodNetwork l → (k parts : ℕ) → k < at l 3 → parts ≤ mostSteps → parts * at l (6 + k) ≤ mostAmount * mostSteps
+room-small l g k parts h hp = let q : parts * at l (6 + k) ≤ mostSteps * mostAmount = mul-le-mul hp (g .cap k h) in omega arith
 
-pub overrun-small : (l : List ℕ) → GoodNetwork l → at l 2 ≤ 500
+pub overrun-small : (l : List ℕ) → GoodNetwork l → at l 2 ≤ mostShare
 unfolding networkOf
 overrun-small l g = ⊎-elim (λ e. omega (arith, e)) (λ h. h .1) (g .valid .overrun)
 
-pub most-small : (l : List ℕ) → GoodNetwork l → (k parts : ℕ) → k < at l 3 → parts ≤ 50 → (1000 + at l 2) * (parts * at l (6 + k)) ≤ 750000000000
+pub most-small : (l : List ℕ) → GoodNetwork l → (k parts : ℕ) → k < at l 3 → parts ≤ mostSteps → (1000 + at l 2) * (parts * at l (6 + k)) ≤ (1000 + mostShare) * (mostAmount * mostSteps)
 most-small l g k parts h hp =
-    let o : 1000 + at l 2 ≤ 1500 = omega (arith, overrun-small l g) in
-    let q : (1000 + at l 2) * (parts * at l (6 + k)) ≤ 1500 * 500000000 = mul-le-mul o (room-small l g k parts h hp) in
-    omega arith
+    let o : 1000 + at l 2 ≤ 1000 + mostShare = omega (arith, overrun-small l g) in mul-le-mul o (room-small l g k parts h hp)
 
 pub row-column-small : (l p : List ℕ) → Checkable l p → (a : ℕ) (xs : List ℕ) → a ≤ at p 2 → Holds xs (at l 5) (row (networkOf l) (planOf p) a) → Small xs (at l 5)
 row-column-small l p k a xs h hx = record { each = λ t ht. rw (hx .each t ht) (row-small l p k a t h ht) }

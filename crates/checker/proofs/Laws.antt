@@ -1,5 +1,5 @@
 -- The laws of columns: what a loop that fills one, or adds one up, proves at each turn.
-use Prim.Native.Nat.{ℕ, _+_, _/_, _%_, _^_, _≤_, _<_, max}
+use Prim.Native.Nat.{ℕ, _+_, _*_, _≤_, _<_, max}
 use mathlib.Core.Path.{_≡_, refl, sym, ap, ap₂, _∙_}
 use mathlib.Core.Logic.{⊎-elim}
 use mathlib.Core.Bool.{cond}
@@ -7,9 +7,11 @@ use mathlib.Core.List.{List}
 use native.Mathlib.Omega.{arith}
 use native.Mathlib.Numerals.{add-one}
 use native.Mathlib.Nat.{eq-or-lt-of-le, le-trans, mul-le-mul-right}
-use lib.Dec.{leb, eqb}
+use lib.Dec.{leb}
 use lib.ListN.{length, getD, set}
 use lib.Seq.{getD-set-same, getD-set-other}
+use Rattle.model.specs.Limits.{mostTunnels, mostSteps, mostAmount}
+use Rattle.model.specs.Sets.{inSet}
 use Rattle.model.specs.Sum.{sumOver}
 use Rattle.model.proofs.Sums.{sum-bound}
 use Rattle.model.specs.Net.{Net, Plan, row}
@@ -37,13 +39,13 @@ unfolding linkSum sumOver
 link-none vias amounts l = refl
 
 pub link-more : (vias amounts : List ℕ) (n l : ℕ)
-    → linkSum vias amounts (n + 1) l ≡ linkSum vias amounts n l + cond (eqb (getD vias n 0 / 2 ^ l % 2) 1) (getD amounts n 0) 0
+    → linkSum vias amounts (n + 1) l ≡ linkSum vias amounts n l + cond (inSet (getD vias n 0) l) (getD amounts n 0) 0
 unfolding linkSum sumOver
 link-more vias amounts n l = rw add-one refl
 
-pub link-small : (vias amounts : List ℕ) (n l : ℕ) → n ≤ 96 → Small amounts n → linkSum vias amounts n l ≤ 48000000000
+pub link-small : (vias amounts : List ℕ) (n l : ℕ) → n ≤ mostTunnels → Small amounts n → linkSum vias amounts n l ≤ mostTunnels * (mostAmount * mostSteps)
 unfolding linkSum
-link-small vias amounts n l h s = le-trans (sum-bound n _ _ 500000000 (s .each)) (omega (arith, mul-le-mul-right 500000000 h))
+link-small vias amounts n l h s = le-trans (sum-bound n _ _ (mostAmount * mostSteps) (s .each)) (mul-le-mul-right (mostAmount * mostSteps) h)
 
 pub small-at : (xs : List ℕ) (n m : ℕ) → Small xs n → m ≤ n → Small xs m
 small-at xs n m s h = record { each = λ t k. s .each t (omega arith) }

@@ -1,5 +1,5 @@
 -- What the loads of a step's columns say of the rule.
-use Prim.Native.Nat.{ℕ, zero, suc, _+_, _*_, _/_, _%_, _^_, _≤_, _<_, max}
+use Prim.Native.Nat.{ℕ, zero, suc, _+_, _*_, _≤_, _<_, max}
 use mathlib.Core.Path.{_≡_, refl, ap, ap₂, _∙_}
 use mathlib.Core.Logic.{_≢_}
 use mathlib.Core.Bool.{Bool, true, false, cond}
@@ -8,7 +8,8 @@ use mathlib.Core.Option.{none, some}
 use native.Mathlib.Omega.{arith}
 use native.Mathlib.Nat.{max-le}
 use borrow.Author.Tests.{lt-ltb, le-ltb}
-use lib.Dec.{eqb}
+use Rattle.model.specs.Limits.{mostSteps, mostAmount}
+use Rattle.model.specs.Sets.{inSet}
 use Rattle.model.specs.Sum.{sumOver}
 use Rattle.model.specs.Search.{onlyIf, orElse}
 use Rattle.model.specs.Net.{Net, Plan, row}
@@ -39,8 +40,8 @@ module _ (N : Net) (P : Plan) (i l : ℕ) where
   unfolding linkSum load worst onLink crosses counted
   load-sum b vias xs n e hv hx =
       sum-terms n _ (counts N b) _ _ (λ t h.
-      ap₂ (λ (v x : ℕ). cond (eqb (v / 2 ^ l % 2) 1) x 0) (hv .each t h) (hx .each t h)
-      ∙ counted-on (eqb (N .via t / 2 ^ l % 2) 1) (counts N b t) (row N P i t) (row N P (suc i) t))
+      ap₂ (λ (v x : ℕ). cond (inSet v l) x 0) (hv .each t h) (hx .each t h)
+      ∙ counted-on (inSet (N .via t) l) (counts N b t) (row N P i t) (row N P (suc i) t))
       ∙ ap (λ (m : ℕ). sumOver m (counts N b) (worst N P i l)) e
 
   -- the refusal that a link meets in a step, or 0
@@ -92,6 +93,6 @@ counted-small l p k i b xs h hx = record {
   each = λ t ht. rw (hx .each t ht) (small-if (counts (networkOf l) b t) _ (max-le (row-small l p k i t (omega arith) ht) (row-small l p k (suc i) t h ht)));
 }
   where
-    small-if : (c : Bool) (m : ℕ) → m ≤ 500000000 → cond c m 0 ≤ 500000000
+    small-if : (c : Bool) (m : ℕ) → m ≤ mostAmount * mostSteps → cond c m 0 ≤ mostAmount * mostSteps
     small-if true m h = h
     small-if false m h = omega arith

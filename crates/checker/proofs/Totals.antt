@@ -1,5 +1,5 @@
 -- The sums of a row: what is gathered for each flow, and the first flow whose sum is not parts × rate.
-use Prim.Native.Nat.{ℕ, _+_, _*_, _^_, _≤_, _<_}
+use Prim.Native.Nat.{ℕ, _+_, _*_, _≤_, _<_}
 use mathlib.Core.Path.{_≡_, sym, ap, _∙_, subst}
 use mathlib.Core.Logic.{⊎-elim}
 use mathlib.Core.Bool.{not}
@@ -8,12 +8,12 @@ use mathlib.Core.Option.{none, some}
 use native.Mathlib.Omega.{arith}
 use native.Mathlib.Nat.{eq-or-lt-of-le, mul-le-mul}
 use borrow.Author.Tests.{eq-eqb, ne-eqb}
-use lib.Dec.{eqb}
 use lib.ListN.{length, getD, set}
+use Rattle.model.specs.Limits.{mostFlows, mostSteps, mostAmount}
 use Rattle.model.specs.Search.{first}
 use Rattle.model.specs.Net.{Net, Plan, row}
 use Rattle.model.specs.Rule.{flowSum, missedIn}
-use Rattle.model.proofs.Sums.{sum-bound, sum-cong}
+use Rattle.model.proofs.Sums.{sum-cong}
 use Rattle.model.proofs.Searches.{only-true, only-false, none-first, first-at}
 use Rattle.lists.specs.Lists.{at, flowAt, tunnelAt, networkOf, GoodNetwork}
 use Rattle.forms.specs.Sums.{Gathered}
@@ -26,7 +26,7 @@ use Rattle.checker.specs.Inner.{FirstMissed}
 -- where a tunnel's flow is named
 pub record Named (l : List ℕ) (i t : ℕ) : Type 0 where
   pub named : i < length l
-  pub small : getD l i 0 < 32
+  pub small : getD l i 0 < mostFlows
   pub flow : getD l i 0 ≡ networkOf l .flow t
 
 pub named-at : (l : List ℕ) → GoodNetwork l → (i t : ℕ) → i ≡ tunnelAt l t → t < at l 5 → Named l i t
@@ -39,19 +39,16 @@ module _ (l : List ℕ) (i t : ℕ) (d : Named l i t) (x : ℕ → ℕ) (s : Lis
   pub sums-more : Gathered (networkOf l) x (t + 1) (set s (getD l i 0) (getD s (getD l i 0) 0 + x t))
   sums-more =
       subst (λ (f : ℕ). Gathered (networkOf l) x (t + 1) (set s f (getD s f 0 + x t))) (sym (d .flow))
-      (gathered-more (networkOf l) x t s (subst (λ (f : ℕ). f < 32) (d .flow) (d .small)) g)
-
-  pub sums-fit : t < 96 → ((k : ℕ) → k < t + 1 → x k ≤ 500000000) → getD s (getD l i 0) 0 + x t < 2 ^ 64
-  sums-fit h b = omega (arith, g .sums (getD l i 0) (d .small), sum-bound t (λ k. eqb (networkOf l .flow k) (getD l i 0)) x 500000000 (λ k j. b k (omega arith)), b t (omega arith))
+      (gathered-more (networkOf l) x t s (subst (λ (f : ℕ). f < mostFlows) (d .flow) (d .small)) g)
 
 -- ---- the first flow that is missed
 
-pub rate-at : (l : List ℕ) → GoodNetwork l → (i f parts : ℕ) → i ≡ flowAt l f + 1 → f < at l 4 → parts ≤ 50
-    → (i < length l) × (parts * getD l i 0 ≤ 500000000) × (getD l i 0 ≡ networkOf l .rate f)
+pub rate-at : (l : List ℕ) → GoodNetwork l → (i f parts : ℕ) → i ≡ flowAt l f + 1 → f < at l 4 → parts ≤ mostSteps
+    → (i < length l) × (parts * getD l i 0 ≤ mostAmount * mostSteps) × (getD l i 0 ≡ networkOf l .rate f)
 unfolding networkOf
 rate-at l g i f parts e h hp =
     let v : getD l i 0 ≡ at l (flowAt l f + 1) = ap (λ (k : ℕ). getD l k 0) e in
-    let q : parts * at l (flowAt l f + 1) ≤ 50 * 10000000 = mul-le-mul hp (g .rate f h) in
+    let q : parts * at l (flowAt l f + 1) ≤ mostSteps * mostAmount = mul-le-mul hp (g .rate f h) in
     (omega (arith, g .size), omega (arith, ap (λ (k : ℕ). parts * k) v), v)
 
 pub met-more : (N : Net) (parts : ℕ) (sums : List ℕ) (n : ℕ) → ((f : ℕ) → f < n → getD sums f 0 ≡ parts * N .rate f)
@@ -62,7 +59,7 @@ met-more N parts sums n h e f k =
     (λ (q : f < n). h f q)
     (eq-or-lt-of-le {n = f} {m = n} (omega arith))
 
-module _ (N : Net) (P : Plan) (a : ℕ) (xs sums : List ℕ) (hx : Holds xs (N .tunnels) (row N P a)) (g : Gathered N (λ t. getD xs t 0) (N .tunnels) sums) (hf : N .flows ≤ 32) where
+module _ (N : Net) (P : Plan) (a : ℕ) (xs sums : List ℕ) (hx : Holds xs (N .tunnels) (row N P a)) (g : Gathered N (λ t. getD xs t 0) (N .tunnels) sums) (hf : N .flows ≤ mostFlows) where
   -- what is gathered is the flow's sum in the row
   gathered-row : (f : ℕ) → f < N .flows → getD sums f 0 ≡ flowSum N (row N P a) f
   unfolding flowSum

@@ -16,18 +16,17 @@ use Rattle.lists.specs.declared.Answer.the-variants.{Done, Refused}
 use Rattle.forms.specs.Read.{judgeList}
 use Rattle.forms.specs.declared.form.Form.the-variants as forms
 
--- "10 for the marks", then "steps ascending, within a step links ascending, 7 before 8"
-abbrev pub weighSteps : List ℕ → List ℕ → ℕ → Outcome (Option Overload)
-weighSteps n p room = cond (leb (at n 5) room) (good (firstOverload (networkOf n) (planOf p))) (refused noRoom (at n 5) 0)
+-- "plan has another `tunnels` than the network | 5 | 4; 1"; "a row misses parts × rate | 6 | row; flow"
+abbrev pub judgeRows : List ℕ → List ℕ → Outcome (List ℕ)
+judgeRows n p = cond (eqb (at p 3) (at n 5)) (unless missedRow (rule.missedRow (networkOf n) (planOf p)) (good p)) (refused otherTunnels 4 1)
 
--- "plan has another `tunnels` than the network | 5 | 4; 1"
-abbrev pub weigh : List ℕ → List ℕ → ℕ → Outcome (Option Overload)
-weigh n p room =
-    cond (eqb (at p 3) (at n 5)) (unless missedRow (rule.missedRow (networkOf n) (planOf p)) (weighSteps n p room)) (refused otherTunnels 4 1)
+-- "The checker reads the whole network first, then the whole plan, then 5, 6 (lowest row, then flow)"
+abbrev pub judgePair : List ℕ → List ℕ → Outcome (List ℕ)
+judgePair network plan = andThen (judgeList forms.Network network) (λ n. andThen (judgeList forms.Plan plan) (judgeRows n))
 
--- "The checker reads the whole network first, then the whole plan, then 5, 6 (lowest row, then flow), 10 for the marks."
+-- "10 for the marks. Then it goes through steps ascending, within a step links ascending, 7 before 8"
 abbrev pub verdict : List ℕ → List ℕ → ℕ → Outcome (Option Overload)
-verdict network plan room = andThen (judgeList forms.Network network) (λ n. andThen (judgeList forms.Plan plan) (λ p. weigh n p room))
+verdict n plan room = andThen (judgePair n plan) (λ p. cond (leb (at n 5) room) (good (firstOverload (networkOf n) (planOf p))) (refused noRoom (at n 5) 0))
 
 -- ---- the answer and the marks
 

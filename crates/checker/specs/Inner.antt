@@ -6,18 +6,16 @@ use lib.ListN.{getD}
 use mathlib.Core.Bool.{Bool, cond}
 use mathlib.Core.List.{List}
 use mathlib.Core.Option.{Option, none, some}
-use Rattle.model.specs.Outcome.{Outcome, Place, andThen, number}
+use Rattle.model.specs.Outcome.{Place, number}
 use Rattle.model.specs.Net.{Net, Plan}
 use Rattle.model.specs.Scan.{Bound, Overload, cause}
 use Rattle.model.specs.Rule.{exceeds, mark}
 use Rattle.model.specs.Listed.{listed}
 use Rattle.lists.specs.Lists.{at, GoodNetwork, GoodPlan}
-use Rattle.checker.specs.Check.{weigh}
 use Rattle.checker.specs.declared.sums.Missed.{Missed}
 use Rattle.checker.specs.declared.sums.Missed.the-variants as missed
 use Rattle.checker.specs.declared.steps.Found.{Found}
 use Rattle.checker.specs.declared.steps.Found.the-variants.{Nothing, At}
-use Rattle.forms.specs.Named.{judgePlan}
 
 -- a network and a plan that are good, of the same number of tunnels
 pub record Checkable (n p : List ℕ) : Type 0 where
@@ -45,10 +43,6 @@ pub record FirstMissed (N : Net) (parts : ℕ) (sums : List ℕ) (r : ℕ) : Typ
 abbrev pub missedOf : Option Place → Missed
 missedOf none = missed.Nothing
 missedOf (some p) = missed.At (p .place) (p .second)
-
--- for a network that is judged good, and anybody's plan
-abbrev pub weighPlan : List ℕ → List ℕ → ℕ → Outcome (Option Overload)
-weighPlan n plan room = andThen (judgePlan plan) (λ p. weigh n p room)
 
 -- a byte for each of n tunnels: 1 for those with m, else 0
 abbrev pub marksOf : (ℕ → Bool) → ℕ → List ℕ

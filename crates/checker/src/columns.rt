@@ -1,10 +1,16 @@
 // Columns: one number for each tunnel, at the front of an array.
 ghost use mathlib.Core.Path.{_≡_};
 ghost use mathlib.Core.Bool.{cond};
-ghost use Prim.Native.Nat.{ℕ, _+_, _*_, _/_, _%_, _^_, _≤_, _<_, max};
-ghost use lib.Dec.{leb, eqb};
+ghost use Prim.Native.Nat.{_+_, _*_, _≤_, _<_, max};
+ghost use lib.Dec.{leb};
 ghost use lib.ListN.{length, getD};
+ghost use Rattle.model.specs.Limits.{mostLinks, mostTunnels, mostSteps, mostAmount};
+ghost use Rattle.model.specs.Sets.{inSet};
 ghost use Rattle.checker.specs.Columns.{Column, Holds, Small, linkSum};
+use lists::Network;
+
+// The most tunnels, for which every column has room.
+pub(crate) const TUNNELS: usize = Network::TUNNELS as usize;
 
 fn larger(x: u64, y: u64) -> u64
     ensures { λ r. ⌜ r ≡ max x y ⌝ }
@@ -21,8 +27,8 @@ fn protected(class: u64, x: u64) -> u64
 
 // An amount, where its tunnel crosses link l.
 fn on_link(via: u64, l: u64, x: u64) -> u64
-    requires { ⌜ l < 64 ⌝ }
-    ensures { λ r. ⌜ r ≡ cond (eqb (via / 2 ^ l % 2) 1) x 0 ⌝ }
+    requires { ⌜ l < mostLinks ⌝ }
+    ensures { λ r. ⌜ r ≡ cond (inSet via l) x 0 ⌝ }
 {
     if (via >> l) & 1 == 1 { x } else { 0 }
 }
@@ -74,8 +80,8 @@ pub(crate) fn shielded(a: &[u64], classes: &[u64], n: usize, out: &mut [u64])
 
 // What the tunnels that cross link l add up to.
 pub(crate) fn load(vias: &[u64], amounts: &[u64], n: usize, l: u64) -> u64
-    requires { ⌜ (n ≤ 96) × (n ≤ length (now vias)) × (n ≤ length (now amounts)) × (l < 64) × Small (now amounts) n ⌝ }
-    ensures { λ r. ⌜ (r ≡ linkSum (now (vias .entry)) (now (amounts .entry)) n l) × (r ≤ 48000000000) ⌝ }
+    requires { ⌜ (n ≤ mostTunnels) × (n ≤ length (now vias)) × (n ≤ length (now amounts)) × (l < mostLinks) × Small (now amounts) n ⌝ }
+    ensures { λ r. ⌜ (r ≡ linkSum (now (vias .entry)) (now (amounts .entry)) n l) × (r ≤ mostTunnels * (mostAmount * mostSteps)) ⌝ }
 {
     let mut sum: u64 = 0;
     let mut t = 0;

@@ -1,7 +1,8 @@
-// The check of a plan: its rows, then every step on every link.
+// The check of a plan: the lists and the rows, then every step on every link.
 pub mod check;
 mod columns;
-mod marks;
+pub mod marks;
+pub mod pair;
 mod rows;
-mod steps;
+pub mod steps;
 mod sums;

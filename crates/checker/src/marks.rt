@@ -2,17 +2,20 @@
 ghost use mathlib.Core.Path.{_≡_};
 ghost use mathlib.Core.Bool.{_&&_, cond, false};
 ghost use mathlib.Core.List.{_++_};
-ghost use Prim.Native.Nat.{_/_, _%_, _^_, _≤_, _<_};
-ghost use lib.Dec.{eqb, ltb};
+ghost use Prim.Native.Nat.{_≤_, _<_};
+ghost use lib.Dec.{ltb};
 ghost use lib.ListN.{length, getD, drop};
+ghost use Rattle.model.specs.Limits.{mostLinks};
+ghost use Rattle.model.specs.Sets.{inSet};
 ghost use Rattle.lists.specs.Lists.{at, networkOf, planOf};
 ghost use Rattle.checker.specs.Inner.{Checkable, marksOf, marksAt};
+use crate::columns::TUNNELS;
 use crate::rows;
 
-// Whether a tunnel crosses link l and its amount rises.
+// A tunnel's mark: 1 if it crosses link l and its amount rises.
 fn rises(via: u64, l: u64, earlier: u64, later: u64) -> u8
-    requires { ⌜ l < 64 ⌝ }
-    ensures { λ r. ⌜ r ≡ cond (eqb (via / 2 ^ l % 2) 1 && ltb earlier later) 1 0 ⌝ }
+    requires { ⌜ l < mostLinks ⌝ }
+    ensures { λ r. ⌜ r ≡ cond (inSet via l && ltb earlier later) 1 0 ⌝ }
 {
     if (via >> l) & 1 == 1 {
         if earlier < later {
@@ -23,9 +26,10 @@ fn rises(via: u64, l: u64, earlier: u64, later: u64) -> u8
     0
 }
 
-fn put(vias: &[u64], earlier: &[u64], later: &[u64], n: usize, l: u64, marks: &mut [u8])
-    requires { ⌜ (n ≤ length (now vias)) × (n ≤ length (now earlier)) × (n ≤ length (now later)) × (n ≤ length (now marks)) × (l < 64) ⌝ }
-    ensures { λ _. ⌜ now (marks .exit) ≡ marksOf (λ t. eqb (getD (now (vias .entry)) t 0 / 2 ^ l % 2) 1 && ltb (getD (now (earlier .entry)) t 0) (getD (now (later .entry)) t 0)) n ++ drop n (now (marks .entry)) ⌝ }
+// Marks the tunnels that cross link l and rise from one row to the other.
+fn mark_rising(vias: &[u64], earlier: &[u64], later: &[u64], n: usize, l: u64, marks: &mut [u8])
+    requires { ⌜ (n ≤ length (now vias)) × (n ≤ length (now earlier)) × (n ≤ length (now later)) × (n ≤ length (now marks)) × (l < mostLinks) ⌝ }
+    ensures { λ _. ⌜ now (marks .exit) ≡ marksOf (λ t. inSet (getD (now (vias .entry)) t 0) l && ltb (getD (now (earlier .entry)) t 0) (getD (now (later .entry)) t 0)) n ++ drop n (now (marks .entry)) ⌝ }
 {
     let mut t = 0;
     while t < n {
@@ -35,21 +39,22 @@ fn put(vias: &[u64], earlier: &[u64], later: &[u64], n: usize, l: u64, marks: &m
 }
 
 // Marks the tunnels that cross link l and rise in the step from row i.
-pub(crate) fn mark(network: &[u64], plan: &[u64], i: usize, l: usize, marks: &mut [u8])
+pub fn mark(network: &[u64], plan: &[u64], i: usize, l: usize, marks: &mut [u8])
     requires { ⌜ Checkable (now network) (now plan) × (i < at (now plan) 2) × (l < at (now network) 3) × (at (now network) 5 ≤ length (now marks)) ⌝ }
     ensures { λ _. ⌜ now (marks .exit) ≡ marksAt (networkOf (now (network .entry))) (planOf (now (plan .entry))) i l (at (now (network .entry)) 5) ++ drop (at (now (network .entry)) 5) (now (marks .entry)) ⌝ }
 {
     let n = network[5] as usize;
-    let mut vias = [0u64; 96];
-    let mut earlier = [0u64; 96];
-    let mut later = [0u64; 96];
+    let mut vias = [0u64; TUNNELS];
+    let mut earlier = [0u64; TUNNELS];
+    let mut later = [0u64; TUNNELS];
     rows::line(network, 1, &mut vias);
     rows::row(network, plan, i, &mut earlier);
     rows::row(network, plan, i + 1, &mut later);
-    put(&vias, &earlier, &later, n, l as u64, marks);
+    mark_rising(&vias, &earlier, &later, n, l as u64, marks);
 }
 
-pub(crate) fn clear(n: usize, marks: &mut [u8])
+// Clears the marks of n tunnels.
+pub fn clear(n: usize, marks: &mut [u8])
     requires { ⌜ n ≤ length (now marks) ⌝ }
     ensures { λ _. ⌜ now (marks .exit) ≡ marksOf (λ t. false) n ++ drop n (now (marks .entry)) ⌝ }
 {

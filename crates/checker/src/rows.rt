@@ -1,17 +1,19 @@
 // The columns of a network and of the rows of a plan.
-ghost use Prim.Native.Nat.{_+_, _*_, _≤_, _<_};
+ghost use Prim.Native.Nat.{_+_, _≤_, _<_};
 ghost use lib.ListN.{length};
+ghost use Rattle.model.specs.Limits.{mostTunnels};
 ghost use Rattle.model.specs.Net;
 ghost use Rattle.lists.specs.Lists.{at, tunnelAt, networkOf, planOf, GoodNetwork};
 ghost use Rattle.checker.specs.Columns.{Holds, classOf, counted};
 ghost use Rattle.checker.specs.Inner.{Checkable};
 ghost use Rattle.model.specs.Scan.{Bound};
 use crate::columns;
+use crate::columns::TUNNELS;
 use lists::Network;
 
 // Line j of each tunnel's four.
 pub(crate) fn line(network: &[u64], j: usize, out: &mut [u64])
-    requires { ⌜ GoodNetwork (now network) × (j ≤ 3) × (96 ≤ length (now out)) ⌝ }
+    requires { ⌜ GoodNetwork (now network) × (j ≤ 3) × (mostTunnels ≤ length (now out)) ⌝ }
     ensures { λ _. ⌜ Holds (now (out .exit)) (at (now (network .entry)) 5) (λ t. at (now (network .entry)) (tunnelAt (now (network .entry)) t + j)) ⌝ }
 {
     let sizes = Network::of(network);
@@ -22,7 +24,7 @@ pub(crate) fn line(network: &[u64], j: usize, out: &mut [u64])
 
 // Row a of the plan: the first and the last are the network's, in parts.
 pub(crate) fn row(network: &[u64], plan: &[u64], a: usize, out: &mut [u64])
-    requires { ⌜ Checkable (now network) (now plan) × (a ≤ at (now plan) 2) × (96 ≤ length (now out)) ⌝ }
+    requires { ⌜ Checkable (now network) (now plan) × (a ≤ at (now plan) 2) × (mostTunnels ≤ length (now out)) ⌝ }
     ensures { λ _. ⌜ Holds (now (out .exit)) (at (now (network .entry)) 5) (Net.row (networkOf (now (network .entry))) (planOf (now (plan .entry))) a) ⌝ }
 {
     let sizes = Network::of(network);
@@ -44,7 +46,7 @@ pub(crate) fn row(network: &[u64], plan: &[u64], a: usize, out: &mut [u64])
 
 // The class of each tunnel's flow.
 pub(crate) fn classes(network: &[u64], out: &mut [u64])
-    requires { ⌜ GoodNetwork (now network) × (96 ≤ length (now out)) ⌝ }
+    requires { ⌜ GoodNetwork (now network) × (mostTunnels ≤ length (now out)) ⌝ }
     ensures { λ _. ⌜ Holds (now (out .exit)) (at (now (network .entry)) 5) (classOf (networkOf (now (network .entry)))) ⌝ }
 {
     let sizes = Network::of(network);
@@ -70,15 +72,15 @@ pub(crate) fn step(
     all: &mut [u64],
     protected: &mut [u64],
 )
-    requires { ⌜ Checkable (now network) (now plan) × (i < at (now plan) 2) × (96 ≤ length (now classes)) × (96 ≤ length (now all)) × (96 ≤ length (now protected)) ⌝ }
+    requires { ⌜ Checkable (now network) (now plan) × (i < at (now plan) 2) × (mostTunnels ≤ length (now classes)) × (mostTunnels ≤ length (now all)) × (mostTunnels ≤ length (now protected)) ⌝ }
     requires { ⌜ Holds (now classes) (at (now network) 5) (classOf (networkOf (now network))) ⌝ }
     ensures { λ _. ⌜ Holds (now (all .exit)) (at (now (network .entry)) 5) (counted (networkOf (now (network .entry))) (planOf (now (plan .entry))) i Bound.total) ⌝ }
     ensures { λ _. ⌜ Holds (now (protected .exit)) (at (now (network .entry)) 5) (counted (networkOf (now (network .entry))) (planOf (now (plan .entry))) i Bound.protected) ⌝ }
 {
     let sizes = Network::of(network);
     let n = sizes.tunnels;
-    let mut earlier = [0u64; 96];
-    let mut later = [0u64; 96];
+    let mut earlier = [0u64; TUNNELS];
+    let mut later = [0u64; TUNNELS];
     row(network, plan, i, &mut earlier);
     row(network, plan, i + 1, &mut later);
     columns::worst(&earlier, &later, n, all);

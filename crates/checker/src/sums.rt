@@ -1,14 +1,18 @@
 // The sums of a plan's rows: whether each flow's amounts add up to parts × rate.
 ghost use mathlib.Core.Path.{_≡_};
-ghost use Prim.Native.Nat.{_+_, _*_, _≤_, _<_};
+ghost use Prim.Native.Nat.{_≤_};
 ghost use lib.ListN.{length, getD, replicate};
+ghost use Rattle.model.specs.Limits.{mostFlows, mostTunnels, mostSteps};
 ghost use Rattle.model.specs.Rule.{missedRow};
 ghost use Rattle.forms.specs.Sums.{Gathered};
 ghost use Rattle.lists.specs.Lists.{at, networkOf, planOf, GoodNetwork};
 ghost use Rattle.checker.specs.Columns.{Small};
 ghost use Rattle.checker.specs.Inner.{Checkable, FirstMissed, missedOf};
+use crate::columns::TUNNELS;
 use crate::rows;
 use lists::Network;
+
+const FLOWS: usize = Network::FLOWS as usize;
 
 // The first row that does not add up, and its first flow that does not.
 pub(crate) enum Missed {
@@ -18,7 +22,7 @@ pub(crate) enum Missed {
 
 // The sum of each flow's amounts in a row, in one pass over the tunnels.
 fn row_sums(network: &[u64], row: &[u64], sums: &mut [u64])
-    requires { ⌜ GoodNetwork (now network) × (96 ≤ length (now row)) × Small (now row) (at (now network) 5) × (now sums ≡ replicate 32 0) ⌝ }
+    requires { ⌜ GoodNetwork (now network) × (mostTunnels ≤ length (now row)) × Small (now row) (at (now network) 5) × (now sums ≡ replicate mostFlows 0) ⌝ }
     ensures { λ _. ⌜ Gathered (networkOf (now (network .entry))) (λ t. getD (now (row .entry)) t 0) (at (now (network .entry)) 5) (now (sums .exit)) ⌝ }
 {
     let sizes = Network::of(network);
@@ -35,7 +39,7 @@ fn row_sums(network: &[u64], row: &[u64], sums: &mut [u64])
 
 // The first flow whose sum is not parts × rate; past the last flow, where there is none.
 fn missed_flow(network: &[u64], parts: u64, sums: &[u64]) -> usize
-    requires { ⌜ GoodNetwork (now network) × (parts ≤ 50) × (length (now sums) ≡ 32) ⌝ }
+    requires { ⌜ GoodNetwork (now network) × (parts ≤ mostSteps) × (length (now sums) ≡ mostFlows) ⌝ }
     ensures { λ r. ⌜ FirstMissed (networkOf (now (network .entry))) parts (now (sums .entry)) r ⌝ }
 {
     let sizes = Network::of(network);
@@ -52,6 +56,7 @@ fn missed_flow(network: &[u64], parts: u64, sums: &[u64]) -> usize
     f
 }
 
+// The lowest row that misses parts × rate, and the lowest flow that misses it there.
 pub(crate) fn missed_row(network: &[u64], plan: &[u64]) -> Missed
     requires { ⌜ Checkable (now network) (now plan) ⌝ }
     ensures { λ r. ⌜ r ≡ missedOf (missedRow (networkOf (now (network .entry))) (planOf (now (plan .entry)))) ⌝ }
@@ -59,11 +64,11 @@ pub(crate) fn missed_row(network: &[u64], plan: &[u64]) -> Missed
     let flows = network[4] as usize;
     let parts = plan[1];
     let steps = plan[2] as usize;
-    let mut row = [0u64; 96];
+    let mut row = [0u64; TUNNELS];
     let mut a = 0;
     while a <= steps {
         rows::row(network, plan, a, &mut row);
-        let mut sums = [0u64; 32];
+        let mut sums = [0u64; FLOWS];
         row_sums(network, &row, &mut sums);
         let f = missed_flow(network, parts, &sums);
         if f < flows {

@@ -2,14 +2,15 @@
 use mathlib.Core.Path.{_≡_, refl, sym, ap}
 use mathlib.Core.List.{List}
 use mathlib.Core.Option.{Option, none, some}
-use Prim.Native.Nat.{ℕ, zero, suc, _+_, _^_, _≤_, _<_}
+use Prim.Native.Nat.{ℕ, zero, suc, _+_, _*_, _^_, _≤_, _<_}
 use native.Mathlib.Decide.{ℕ-discrete}
+use native.Mathlib.Nat.{mul-le-mul-right}
 use native.Mathlib.Omega.{arith}
 use lib.Dec.{eqb}
 use lib.ListN.{length, getD, set, replicate, length-set}
 use lib.Seq.{getD-set-same, getD-set-other}
 use borrow.Author.Tests.{eq-eqb, ne-eqb}
-use Rattle.model.specs.Limits.{mostFlows, mostTunnels, mostAmount}
+use Rattle.model.specs.Limits.{mostFlows, mostTunnels}
 use Rattle.model.specs.Sum.{sumOver}
 use Rattle.model.specs.Search.{onlyIf, orElse, first}
 use Rattle.model.specs.Net.{Net}
@@ -51,11 +52,12 @@ module _ (N : Net) (x : ℕ → ℕ) where
       go f k (no e) =
           rw (getD-set-other s (N .flow n) f (getD s (N .flow n) 0 + x n) 0 (λ q. e (sym q)), sum-skip n (λ t. eqb (N .flow t) f) x (ne-eqb (N .flow n) f e)) (g .sums f k)
 
-  -- no sum comes near the largest number
-  pub gathered-fits : (n : ℕ) (s : List ℕ) (f : ℕ) → Gathered N x n s → f < mostFlows → n < mostTunnels → ((t : ℕ) → t < n + 1 → x t ≤ mostAmount)
-      → getD s f 0 + x n < 2 ^ 64
-  gathered-fits n s f g h k b =
-      omega (arith, g .sums f h, sum-bound n (λ t. eqb (N .flow t) f) x mostAmount (λ t j. b t (omega arith)), b n (omega arith))
+  -- a sum fits where the largest amount does, once for every tunnel
+  pub gathered-fits : (most n : ℕ) (s : List ℕ) (f : ℕ) → mostTunnels * most < 2 ^ 64 → Gathered N x n s → f < mostFlows → n < mostTunnels
+      → ((t : ℕ) → t < n + 1 → x t ≤ most) → getD s f 0 + x n < 2 ^ 64
+  gathered-fits most n s f room g h k b =
+      let up : n + 1 ≤ mostTunnels = omega arith in
+      omega (arith, room, g .sums f h, sum-bound n (λ t. eqb (N .flow t) f) x most (λ t j. b t (omega arith)), b n (omega arith), mul-le-mul-right most up)
 
   pub gathered-all : (s : List ℕ) (f : ℕ) → Gathered N x (N .tunnels) s → f < mostFlows → getD s f 0 ≡ flowSum N x f
   unfolding flowSum

@@ -8,7 +8,7 @@ use mathlib.Core.Option.{Option, none, some}
 use native.Mathlib.Omega.{arith}
 use lib.Dec.{eqb, leb}
 use Rattle.model.specs.Outcome.{Outcome, good, refused, andThen, Cause, number, unless, Place}
-use Rattle.model.specs.Scan.{Bound, Overload, cause}
+use Rattle.model.specs.Scan.{Bound, cause}
 use Rattle.model.specs.Rule as rule
 use Rattle.lists.specs.Lists.{at, networkOf, planOf}
 use Rattle.forms.specs.Form.{fieldOf, admitsOf, secondOf}
@@ -18,7 +18,7 @@ use Rattle.forms.specs.declared.form.Form.the-variants.{Network, Plan}
 use Rattle.forms.specs.declared.form.Range.{Range}
 use Rattle.forms.specs.declared.form.Field.{Field}
 use Rattle.forms.specs.declared.form.Field.the-variants.{Line, End}
-use Rattle.checker.specs.Check as check
+use Rattle.checker.specs.Check.{judgeRows, judgePair, verdict}
 use Rattle.forms.specs.Named.{judgeNetwork, judgePlan}
 
 -- an outcome that is no refusal by 7 or 8
@@ -52,31 +52,32 @@ walk-all form n done (x ∷ xs) =
     (inl (omega arith))
     (λ k r. cond-all (admitsOf r x) (walk itself form (n + 1) (done ++ (x ∷ [])) xs) (refused Cause.outOfRange n (secondOf form)) (walk-all form (n + 1) (done ++ (x ∷ [])) xs) (inl (omega arith)))
 
-missed-all : (l : List ℕ) (q : Option Place) → NotOver (unless Cause.missedRate q (good l))
-missed-all l none = tt
-missed-all l (some q) = inl (omega arith)
+missed-all : (c : Cause) (l : List ℕ) (q : Option Place) → (number c < 7) ⊎ (8 < number c) → NotOver (unless c q (good l))
+missed-all c l none h = tt
+missed-all c l (some q) h = h
 
 judged-network : (l : List ℕ) → NotOver (judgeNetwork l)
 unfolding judgeNumbers addUp
-judged-network l = then-all (judgeNumbers Network l) (addUp Network) (walk-all Network 1 [] l) (λ g. missed-all g (rule.missedRate (networkOf g)))
+judged-network l = then-all (judgeNumbers Network l) (addUp Network) (walk-all Network 1 [] l) (λ g. missed-all Cause.missedRate g (rule.missedRate (networkOf g)) (inl (omega arith)))
 
 judged-plan : (l : List ℕ) → NotOver (judgePlan l)
 unfolding judgeNumbers addUp
 judged-plan l = then-all (judgeNumbers Plan l) (addUp Plan) (walk-all Plan 1 [] l) (λ g. tt)
 
-rows-all : (q : Option Place) (o : Outcome (Option Overload)) → NotOver o → NotOver (unless Cause.missedRow q o)
-rows-all none o h = h
-rows-all (some q) o h = inl (omega arith)
-
-weighed : (n p : List ℕ) (room : ℕ) → NotOver (check.weigh n p room)
-weighed n p room =
-    cond-all (eqb (at p 3) (at n 5)) (unless Cause.missedRow (rule.missedRow (networkOf n) (planOf p)) (check.weighSteps n p room)) (refused Cause.otherTunnels 4 1)
-    (rows-all (rule.missedRow (networkOf n) (planOf p)) (check.weighSteps n p room) (cond-all (leb (at n 5) room) (good (rule.firstOverload (networkOf n) (planOf p))) (refused Cause.noRoom (at n 5) 0) tt (inr (omega arith))))
+rows-all : (n p : List ℕ) → NotOver (judgeRows n p)
+rows-all n p =
+    cond-all (eqb (at p 3) (at n 5)) (unless Cause.missedRow (rule.missedRow (networkOf n) (planOf p)) (good p)) (refused Cause.otherTunnels 4 1)
+    (missed-all Cause.missedRow p (rule.missedRow (networkOf n) (planOf p)) (inl (omega arith)))
     (inl (omega arith))
 
-pub verdict-all : (n p : List ℕ) (room : ℕ) → NotOver (check.verdict n p room)
+pair-all : (n p : List ℕ) → NotOver (judgePair n p)
+pair-all n p =
+    then-all (judgeNetwork n) (λ m. andThen (judgePlan p) (judgeRows m)) (judged-network n) (λ m. then-all (judgePlan p) (judgeRows m) (judged-plan p) (rows-all m))
+
+pub verdict-all : (n p : List ℕ) (room : ℕ) → NotOver (verdict n p room)
 verdict-all n p room =
-    then-all (judgeNetwork n) (λ m. andThen (judgePlan p) (λ q. check.weigh m q room)) (judged-network n) (λ m. then-all (judgePlan p) (λ q. check.weigh m q room) (judged-plan p) (λ q. weighed m q room))
+    then-all (judgePair n p) (λ q. cond (leb (at n 5) room) (good (rule.firstOverload (networkOf n) (planOf q))) (refused Cause.noRoom (at n 5) 0)) (pair-all n p) (λ q.
+    cond-all (leb (at n 5) room) (good (rule.firstOverload (networkOf n) (planOf q))) (refused Cause.noRoom (at n 5) 0) tt (inr (omega arith)))
 
 -- so a refusal by 7 or 8 is an overload
 pub over-number : (b : Bound) (k : ℕ) → k ≡ number (cause b) → (k < 7) ⊎ (8 < k) → ⊥

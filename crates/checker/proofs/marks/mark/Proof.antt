@@ -29,17 +29,17 @@ slice-aggregate-row-2 c = search needs
 row-requires-2 : tie.Need-row-requires-2
 row-requires-2 c κs = search needs
 
-slice-aggregate-put : tie.Need-slice-aggregate-put
-slice-aggregate-put c = search needs
+slice-aggregate-mark-rising : tie.Need-slice-aggregate-mark-rising
+slice-aggregate-mark-rising c = search needs
 
-slice-aggregate-put-2 : tie.Need-slice-aggregate-put-2
-slice-aggregate-put-2 c = search needs
+slice-aggregate-mark-rising-2 : tie.Need-slice-aggregate-mark-rising-2
+slice-aggregate-mark-rising-2 c = search needs
 
-slice-aggregate-put-3 : tie.Need-slice-aggregate-put-3
-slice-aggregate-put-3 c = search needs
+slice-aggregate-mark-rising-3 : tie.Need-slice-aggregate-mark-rising-3
+slice-aggregate-mark-rising-3 c = search needs
 
-put-requires : tie.Need-put-requires
-put-requires c κs = search needs
+mark-rising-requires : tie.Need-mark-rising-requires
+mark-rising-requires c κs = search needs
 
 same-length : tie.Need-same-length
 same-length c = search needs
@@ -51,7 +51,7 @@ returns c =
     let r2 = p .before .before .before .before .before .before in
     let r1 = r2 .before .before .before in
     let l = r1 .before .before .before in
-    marks-step _ _ _ _ _ _ _ _ _ _ (l .line .ensures) (r1 .row .ensures) (r2 .row2 .ensures) (p .put .ensures)
+    marks-step _ _ _ _ _ _ _ _ _ _ (l .line .ensures) (r1 .row .ensures) (r2 .row2 .ensures) (p .mark-rising .ensures)
 
 pub mark-spec : {M : Type 1} → statement M
 mark-spec =
@@ -65,9 +65,9 @@ mark-spec =
     add-row
     slice-aggregate-row-2
     row-requires-2
-    slice-aggregate-put
-    slice-aggregate-put-2
-    slice-aggregate-put-3
-    put-requires
+    slice-aggregate-mark-rising
+    slice-aggregate-mark-rising-2
+    slice-aggregate-mark-rising-3
+    mark-rising-requires
     same-length
     returns)

@@ -3,6 +3,7 @@ use Prim.Native.Nat.{_<_, _≤_, _-_, _*_}
 use native.Mathlib.Omega.{arith}
 use native.Mathlib.Nat.{mul-le-mul}
 use borrow.Author.Needs.{needs}
+use Rattle.model.specs.Limits.{mostSteps, mostTunnels}
 use Rattle.lists.specs.Lists.{at}
 use Rattle.checker.proofs.Good.{network-column, network-holds, old-fits, new-fits, old-row, new-row, plan-column, plan-holds}
 use Rattle.checker.proofs.rows.row.Statement.{statement}
@@ -14,11 +15,11 @@ inner c =
     let d = c .before .before .before .before .before .before .before .before .before in
     (omega (arith, c .before .if1 .left), omega (arith, c .if2 .left, d .pre .1))
 
-row-start : (c : tie.Else2) → let d = c .before .before .before .before .before .before .before .before .before in (d .args .a - 1) * c .before .before .before .before .before .of .result .tunnels ≤ 50 * 96
+row-start : (c : tie.Else2) → let d = c .before .before .before .before .before .before .before .before .before in (d .args .a - 1) * c .before .before .before .before .before .of .result .tunnels ≤ mostSteps * mostTunnels
 row-start c =
     let d = c .before .before .before .before .before .before .before .before .before in
     let of = c .before .before .before .before .before .of .ensures in
-    mul-le-mul {n₁ = d .args .a - 1} {m₁ = c .before .before .before .before .before .of .result .tunnels} {n₂ = 50} {m₂ = 96} (omega (arith, inner c, d .pre .0 .plan .steps)) (omega (arith, of, d .pre .0 .network .tunnels))
+    mul-le-mul {n₁ = d .args .a - 1} {m₁ = c .before .before .before .before .before .of .result .tunnels} {n₂ = mostSteps} {m₂ = mostTunnels} (omega (arith, inner c, d .pre .0 .plan .steps)) (omega (arith, of, d .pre .0 .network .tunnels))
 
 of-requires : tie.Need-of-requires
 of-requires c κs = search needs

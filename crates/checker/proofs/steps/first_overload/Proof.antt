@@ -8,6 +8,7 @@ use lib.ListN.{length}
 use Rattle.checker.specs.declared.steps.Found.the-variants.{At, Nothing}
 use Rattle.checker.specs.Inner.{overBy, foundOf}
 use Rattle.checker.proofs.Overloads.{overIn, load-sum, over-none, over-some, counted-small}
+use Rattle.model.specs.Limits.{mostTunnels}
 use Rattle.model.specs.Search.{first}
 use Rattle.model.specs.Net.{Net, Plan}
 use Rattle.model.specs.Scan.{Bound, testLink}
@@ -27,7 +28,7 @@ abbrev μ-loop : tie.MeasureT-loop
 
 abbrev Inv-steps : tie.InvT-steps
 Inv-steps network plan links parts steps vias classes all₀ protected₀ found₀ i₀ all protected found i =
-    (i ≤ steps) × (found ≡ Nothing) × (length all ≡ 96) × (length protected ≡ 96) × (first i (testStep links (worstOver (networkOf network) (planOf plan))) ≡ none)
+    (i ≤ steps) × (found ≡ Nothing) × (length all ≡ mostTunnels) × (length protected ≡ mostTunnels) × (first i (testStep links (worstOver (networkOf network) (planOf plan))) ≡ none)
 
 abbrev μ-steps : tie.MeasureT-steps
 μ-steps network plan links parts steps vias classes all₀ protected₀ found₀ i₀ all protected found i = steps - i

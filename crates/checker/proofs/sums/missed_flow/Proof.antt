@@ -4,6 +4,7 @@ use mathlib.Core.Path.{_≡_, sym, ap, _∙_}
 use native.Mathlib.Omega.{arith}
 use borrow.Author.Needs.{needs}
 use lib.ListN.{length, getD}
+use Rattle.model.specs.Limits.{mostSteps, mostAmount}
 use Rattle.lists.specs.Lists.{at, flowAt, networkOf}
 use Rattle.checker.proofs.Totals.{rate-at, met-more}
 use Rattle.checker.proofs.sums.missed_flow.Statement.{statement}
@@ -17,7 +18,7 @@ abbrev μ-loop : tie.MeasureT-loop
 
 -- what is read in a turn
 here : (c : tie.In-loop Inv-loop μ-loop) → let d = c .before .before .before .before .before .before in let l = d .args .network .now in let i = c .before .loop .at in
-    (i < length l) × (d .args .parts * getD l i 0 ≤ 500000000) × (getD l i 0 ≡ networkOf l .rate (c .before .loop .f))
+    (i < length l) × (d .args .parts * getD l i 0 ≤ mostAmount * mostSteps) × (getD l i 0 ≡ networkOf l .rate (c .before .loop .f))
 here c =
     let d = c .before .before .before .before .before .before in
     rate-at _ (d .pre .0) _ _ _ (c .before .loop .inv .1) (omega (arith, c .loop-test .taken, c .before .before .before .of .ensures)) (d .pre .1)

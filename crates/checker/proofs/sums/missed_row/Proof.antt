@@ -5,6 +5,7 @@ use mathlib.Core.Option.{none, some}
 use native.Mathlib.Omega.{arith}
 use borrow.Author.Needs.{needs}
 use lib.ListN.{length}
+use Rattle.model.specs.Limits.{mostTunnels}
 use Rattle.model.specs.Search.{first}
 use Rattle.model.specs.Net.{Net, Plan}
 use Rattle.model.specs.Rule.{missedIn, missedRow}
@@ -18,7 +19,7 @@ use Rattle.checker.proofs.sums.missed_row.Tie as tie
 
 abbrev Inv-loop : tie.InvT-loop
 Inv-loop network plan flows parts steps row₀ a₀ row a =
-    (a ≤ steps + 1) × (length row ≡ 96) × (first a (λ b. first flows (missedIn (networkOf network) (planOf plan) b)) ≡ none)
+    (a ≤ steps + 1) × (length row ≡ mostTunnels) × (first a (λ b. first flows (missedIn (networkOf network) (planOf plan) b)) ≡ none)
 
 abbrev μ-loop : tie.MeasureT-loop
 μ-loop network plan flows parts steps row₀ a₀ row a = steps + 1 - a

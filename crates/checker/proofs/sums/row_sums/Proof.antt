@@ -1,13 +1,14 @@
 -- `checker::sums::row_sums` meets its contract.
-use Prim.Native.Nat.{_≤_, _-_}
+use Prim.Native.Nat.{_≤_, _-_, _*_}
 use mathlib.Core.Path.{_≡_, _∙_}
 use native.Mathlib.Omega.{arith}
 use borrow.Author.Needs.{needs}
 use lib.ListN.{getD}
-use Rattle.checker.proofs.Totals.{gathered-at, Named, named-at, sums-more, sums-fit}
+use Rattle.model.specs.Limits.{mostSteps, mostAmount}
+use Rattle.checker.proofs.Totals.{gathered-at, Named, named-at, sums-more}
 use Rattle.lists.specs.Lists.{tunnelAt, networkOf}
 use Rattle.forms.specs.Sums.{Gathered}
-use Rattle.forms.proofs.Gathering.{gathered-none}
+use Rattle.forms.proofs.Gathering.{gathered-none, gathered-fits}
 use Rattle.checker.proofs.sums.row_sums.Statement.{statement}
 use Rattle.checker.proofs.sums.row_sums.Tie as tie
 
@@ -54,7 +55,7 @@ add-sums : tie.Need-add-sums Inv-loop μ-loop
 add-sums c =
     let k = c .before .before .before in
     let d = k .before .before .before .before .before .before .before in
-    record { fits = sums-fit _ _ _ (here k) _ _ (k .before .loop .inv .2) (omega (arith, k .loop-test .taken, k .before .before .before .of .ensures, d .pre .0 .tunnels)) (λ t h. d .pre .2 .each t (omega (arith, k .loop-test .taken, k .before .before .before .of .ensures))) }
+    record { fits = gathered-fits _ _ (mostAmount * mostSteps) _ _ _ (omega arith) (k .before .loop .inv .2) (here k .small) (omega (arith, k .loop-test .taken, k .before .before .before .of .ensures, d .pre .0 .tunnels)) (λ t h. d .pre .2 .each t (omega (arith, k .loop-test .taken, k .before .before .before .of .ensures))) }
 
 slice-write-sums : tie.Need-slice-write-sums Inv-loop μ-loop
 slice-write-sums c = let h = here (c .before .before .before) in let g = c .before .before .before .before .loop .inv .2 .size in search needs

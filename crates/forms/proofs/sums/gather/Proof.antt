@@ -4,7 +4,7 @@ use mathlib.Core.Path.{_≡_, sym, ap, _∙_}
 use mathlib.Core.List.{List}
 use native.Mathlib.Nat.{lt-of-lt-of-le}
 use lib.ListN.{length, getD, set}
-use Rattle.model.specs.Limits.{mostFlows}
+use Rattle.model.specs.Limits.{mostFlows, mostAmount}
 use Rattle.model.specs.Net.{Net}
 use Rattle.lists.specs.Lists.{at, networkSizes, networkOf, tunnelAt}
 use Rattle.lists.specs.Good.{NetworkRanges}
@@ -68,11 +68,11 @@ module _ (c : tie.After-tunnel-at Inv-loop μ-loop) where
 
   old-fits : getD (c .before .before .before .loop .old) (N .flow t) 0 + N .old t < 2 ^ 64
   unfolding networkOf
-  old-fits = gathered-fits N (N .old) t _ _ (c .before .before .before .loop .inv .olds) flow-low (omega (arith, place .there, ranges .sized .counts)) (λ u k. ranges .old u (omega (arith, place .there)))
+  old-fits = gathered-fits N (N .old) mostAmount t _ _ (omega arith) (c .before .before .before .loop .inv .olds) flow-low (omega (arith, place .there, ranges .sized .counts)) (λ u k. ranges .old u (omega (arith, place .there)))
 
   new-fits : getD (c .before .before .before .loop .new) (N .flow t) 0 + N .new t < 2 ^ 64
   unfolding networkOf
-  new-fits = gathered-fits N (N .new) t _ _ (c .before .before .before .loop .inv .news) flow-low (omega (arith, place .there, ranges .sized .counts)) (λ u k. ranges .new u (omega (arith, place .there)))
+  new-fits = gathered-fits N (N .new) mostAmount t _ _ (omega arith) (c .before .before .before .loop .inv .news) flow-low (omega (arith, place .there, ranges .sized .counts)) (λ u k. ranges .new u (omega (arith, place .there)))
 
 of-requires : tie.Need-of-requires Inv-loop μ-loop
 of-requires c κs = head-in _ (c .before .before .before .pre .0 .sized .size)
