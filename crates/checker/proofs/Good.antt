@@ -8,7 +8,8 @@ use native.Mathlib.Nat.{le-trans, mul-le-mul, mul-le-mul-right}
 use lib.ListN.{length, getD}
 use Rattle.model.specs.Limits.{mostFlows, mostTunnels, mostSteps, mostAmount, mostShare}
 use Rattle.model.specs.Net.{row}
-use Rattle.lists.specs.Lists.{at, tunnelAt, networkOf, planOf, GoodNetwork}
+use Rattle.lists.specs.Lists.{at, tunnelAt, networkOf, planOf}
+use Rattle.lists.specs.Good.{GoodNetwork}
 use Rattle.model.proofs.Rows.{row-first, row-last, row-between, row-cases}
 use Rattle.forms.specs.Form.{mostNumbers}
 use Rattle.checker.specs.Columns.{Column, Holds, Small, classOf}

@@ -11,7 +11,8 @@ use lib.ListN.{length}
 use Rattle.model.specs.Outcome.{Outcome, good, Cause, unless, Place, andThen}
 use Rattle.model.specs.Rule.{missedRow}
 use Rattle.model.proofs.Outcomes.{good-refused, then-good, cond-good, good-same}
-use Rattle.lists.specs.Lists.{at, networkOf, planOf, GoodNetwork, GoodPlan}
+use Rattle.lists.specs.Lists.{at, networkOf, planOf}
+use Rattle.lists.specs.Good.{GoodNetwork, GoodPlan}
 use Rattle.lists.specs.Answers.{done}
 use Rattle.lists.specs.declared.Answer.{Answer}
 use Rattle.lists.specs.declared.Answer.the-variants.{Done, Refused}

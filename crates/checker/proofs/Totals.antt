@@ -15,7 +15,8 @@ use Rattle.model.specs.Net.{Net, Plan, row}
 use Rattle.model.specs.Rule.{flowSum, missedIn}
 use Rattle.model.proofs.Sums.{sum-cong}
 use Rattle.model.proofs.Searches.{only-true, only-false, none-first, first-at}
-use Rattle.lists.specs.Lists.{at, flowAt, tunnelAt, networkOf, GoodNetwork}
+use Rattle.lists.specs.Lists.{at, flowAt, tunnelAt, networkOf}
+use Rattle.lists.specs.Good.{GoodNetwork}
 use Rattle.forms.specs.Sums.{Gathered}
 use Rattle.forms.proofs.Gathering.{gathered-more}
 use Rattle.checker.specs.Columns.{Holds}

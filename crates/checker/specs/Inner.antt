@@ -11,7 +11,8 @@ use Rattle.model.specs.Net.{Net, Plan}
 use Rattle.model.specs.Scan.{Bound, Overload, cause}
 use Rattle.model.specs.Rule.{exceeds, mark}
 use Rattle.model.specs.Listed.{listed}
-use Rattle.lists.specs.Lists.{at, GoodNetwork, GoodPlan}
+use Rattle.lists.specs.Lists.{at}
+use Rattle.lists.specs.Good.{GoodNetwork, GoodPlan}
 use Rattle.checker.specs.declared.sums.Missed.{Missed}
 use Rattle.checker.specs.declared.sums.Missed.the-variants as missed
 use Rattle.checker.specs.declared.steps.Found.{Found}

@@ -1,7 +1,7 @@
 // A network and a plan, judged together.
 ghost use mathlib.Core.Path.{_≡_};
 ghost use Rattle.lists.specs.Answers.{done};
-ghost use Rattle.lists.specs.Lists.{GoodNetwork, GoodPlan};
+ghost use Rattle.lists.specs.Good.{GoodNetwork, GoodPlan};
 ghost use Rattle.checker.specs.Check.{judgeRows, judgePair};
 use crate::sums;
 use crate::sums::Missed;

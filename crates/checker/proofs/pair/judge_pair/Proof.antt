@@ -3,7 +3,7 @@ use mathlib.Core.Path.{_≡_, sym, ap, _∙_}
 use borrow.Author.Needs.{needs}
 use Rattle.model.specs.Outcome.{good}
 use Rattle.lists.specs.Answers.{done}
-use Rattle.lists.specs.Lists.{GoodNetwork, GoodPlan}
+use Rattle.lists.specs.Good.{GoodNetwork, GoodPlan}
 use Rattle.forms.specs.Named.{judgeNetwork, judgePlan}
 use Rattle.checker.proofs.Pairs.{network-judged, plan-judged, network-refused, plan-refused, pair-rows}
 use Rattle.checker.proofs.pair.judge_pair.Statement.{statement}
