@@ -14,7 +14,7 @@ use Rattle.model.specs.Net.{Net, Plan}
 use Rattle.model.specs.Scan.{Overload, cause}
 use Rattle.model.specs.Rule.{stepCount, firstOverload, mark}
 use Rattle.model.proofs.Choices.{marked-overloads}
-use Rattle.lists.specs.Lists.{at, networkOf, planOf}
+use Rattle.lists.specs.Lists.{networkOf, planOf}
 use Rattle.lists.specs.Answers.{done}
 use Rattle.lists.specs.declared.Answer.{Answer}
 use Rattle.lists.specs.declared.Answer.the-variants.{Done, Refused}
@@ -53,19 +53,19 @@ unfolding stepCount
 found-in N P m i l d = let s = marked-overloads N P (d .overload) (d .found) in (omega (arith, s .0, d .from), omega (arith, s .1, d .link))
 
 pub found-gives : (n p : List ℕ) (m i l : ℕ) (marks ys : List ℕ) → Named (firstOverload (networkOf n) (planOf p)) m i l
-    → ys ≡ marksAt (networkOf n) (planOf p) i l (at n 5) ++ drop (at n 5) marks
+    → ys ≡ marksAt (networkOf n) (planOf p) i l (networkOf n .tunnels) ++ drop (networkOf n .tunnels) marks
     → Gives n p (good (firstOverload (networkOf n) (planOf p))) marks (Refused m (i + 1) l) ys
 unfolding mark
 found-gives n p m i l marks ys d e =
     gives-eq n p _ (good (some (d .overload))) marks _ ys (ap good (sym (d .found))) (
       rw (d .number, d .from, d .link, add-one) refl,
-      e ∙ ap₂ (λ (a k : ℕ). marksAt (networkOf n) (planOf p) a k (at n 5) ++ drop (at n 5) marks) (d .from) (d .link),
+      e ∙ ap₂ (λ (a k : ℕ). marksAt (networkOf n) (planOf p) a k (networkOf n .tunnels) ++ drop (networkOf n .tunnels) marks) (d .from) (d .link),
     )
 
 -- ---- each function's returns
 
-pub none-gives : (n p marks ys : List ℕ) → firstOverload (networkOf n) (planOf p) ≡ none → ys ≡ marksOf (λ t. false) (at n 5) ++ drop (at n 5) marks
-    → Gives n p (good (firstOverload (networkOf n) (planOf p))) marks (Done (at n 5)) ys
+pub none-gives : (n p marks ys : List ℕ) → firstOverload (networkOf n) (planOf p) ≡ none → ys ≡ marksOf (λ t. false) (networkOf n .tunnels) ++ drop (networkOf n .tunnels) marks
+    → Gives n p (good (firstOverload (networkOf n) (planOf p))) marks (Done (networkOf n .tunnels)) ys
 none-gives n p marks ys e h = gives-eq n p _ (good none) marks _ ys (ap good (sym e)) (refl, h)
 
 passed-on : (n p : List ℕ) (o : Outcome (List ℕ)) (next : List ℕ → Outcome (Option Overload)) (marks : List ℕ) (a : Answer) → a ≡ done o → NotDone a
@@ -78,9 +78,9 @@ module _ (n p marks : List ℕ) where
   pub refused-gives : (a : Answer) → a ≡ done (judgePair n p) → NotDone a → Gives n p (verdict n p (length marks)) marks a marks
   refused-gives a e t = passed-on n p (judgePair n p) _ marks a e t
 
-  pub short-gives : judgePair n p ≡ good p → length marks < at n 5 → Gives n p (verdict n p (length marks)) marks (Refused 10 (at n 5) 0) marks
-  short-gives e h = gives-eq n p (verdict n p (length marks)) (refused noRoom (at n 5) 0) marks _ marks (simp (e, lt-leb (at n 5) (length marks) h)) (refl, refl)
+  pub short-gives : judgePair n p ≡ good p → length marks < networkOf n .tunnels → Gives n p (verdict n p (length marks)) marks (Refused 10 (networkOf n .tunnels) 0) marks
+  short-gives e h = gives-eq n p (verdict n p (length marks)) (refused noRoom (networkOf n .tunnels) 0) marks _ marks (simp (e, lt-leb (networkOf n .tunnels) (length marks) h)) (refl, refl)
 
-  pub steps-give : (r : Answer) (m : List ℕ) → judgePair n p ≡ good p → at n 5 ≤ length marks → Gives n p (good (firstOverload (networkOf n) (planOf p))) marks r m
+  pub steps-give : (r : Answer) (m : List ℕ) → judgePair n p ≡ good p → networkOf n .tunnels ≤ length marks → Gives n p (good (firstOverload (networkOf n) (planOf p))) marks r m
       → Gives n p (verdict n p (length marks)) marks r m
-  steps-give r m e h g = gives-eq n p (verdict n p (length marks)) (good (firstOverload (networkOf n) (planOf p))) marks r m (simp (e, le-leb (at n 5) (length marks) h)) g
+  steps-give r m e h g = gives-eq n p (verdict n p (length marks)) (good (firstOverload (networkOf n) (planOf p))) marks r m (simp (e, le-leb (networkOf n .tunnels) (length marks) h)) g

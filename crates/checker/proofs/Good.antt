@@ -1,133 +1,82 @@
--- The columns of a good network and of a good plan.
-use Prim.Native.Nat.{ℕ, _+_, _-_, _*_, _^_, _≤_, _<_}
-use mathlib.Core.Path.{_≡_, sym, ap, ap₂, _∙_, subst}
+-- What a good network and a good plan say of their columns.
+use Prim.Native.Nat.{ℕ, _+_, _*_, _^_, _≤_, _<_}
+use mathlib.Core.Path.{_≡_, sym, _∙_}
 use mathlib.Core.Logic.{⊎-elim}
 use mathlib.Core.List.{List}
 use native.Mathlib.Omega.{arith}
-use native.Mathlib.Nat.{le-trans, mul-le-mul, mul-le-mul-right}
+use native.Mathlib.Nat.{le-trans, mul-le-mul}
 use lib.ListN.{length, getD}
-use Rattle.model.specs.Limits.{mostFlows, mostTunnels, mostSteps, mostAmount, mostShare}
+use Rattle.model.specs.Limits.{mostSteps, mostAmount, mostShare}
 use Rattle.model.specs.Net.{row}
-use Rattle.lists.specs.Lists.{at, tunnelAt, networkOf, planOf}
-use Rattle.lists.specs.Good.{GoodNetwork}
 use Rattle.model.proofs.Rows.{row-first, row-last, row-between, row-cases}
-use Rattle.forms.specs.Form.{mostNumbers}
-use Rattle.checker.specs.Columns.{Column, Holds, Small, classOf}
+use Rattle.lists.specs.Lists.{networkSizes, tunnelAt, networkOf, planSizes, rowAt, planOf}
+use Rattle.lists.specs.Good.{GoodNetwork}
+use Rattle.lists.proofs.Positions.{row-in}
+use Rattle.checker.specs.Columns.{Line, lineOf, Holds, Small}
 use Rattle.checker.specs.Inner.{Checkable}
 
--- the place of line j of tunnel t, from where the tunnels begin
-place : (l : List ℕ) (start j t : ℕ) → start ≡ 6 + at l 3 + 2 * at l 4 + j → start + 4 * t ≡ tunnelAt l t + j
-place l start j t e = omega (arith, e)
+-- the links of each tunnel are a line of the network
+pub via-line : (l : List ℕ) → ((i : ℕ) → getD l i 0 < 2 ^ 64) → Line l 1 1
+via-line l b = record { number = omega arith; fits = λ t h. omega (arith, b (tunnelAt (networkSizes l) t + 1)) }
 
-module _ (l : List ℕ) (g : GoodNetwork l) (start j factor n : ℕ) (e : start ≡ 6 + at l 3 + 2 * at l 4 + j) (en : n ≡ at l 5) where
-  -- line j of each tunnel is a column
-  pub network-column : (room : ℕ) → j ≤ 3 → mostTunnels ≤ room → ((t : ℕ) → t < at l 5 → factor * at l (tunnelAt l t + j) < 2 ^ 64) → Column l start 4 factor n room
-  network-column room hj hr b = record {
-    room = omega (arith, g .tunnels);
-    stride = omega arith;
-    short = omega (arith, g .size, g .links, g .flows, g .tunnels);
-    inside = λ t h. omega (arith, e, g .size);
-    fits = λ t h. subst (λ (i : ℕ). factor * getD l i 0 < 2 ^ 64) (sym (place l start j t e)) (b t (omega (arith, en)));
-  }
+pub via-holds : (l xs : List ℕ) (n : ℕ) → Holds xs n (lineOf l 1 1) → Holds xs n (networkOf l .via)
+unfolding networkOf
+via-holds l xs n h = record { each = λ t ht. h .each t ht ∙ omega arith }
 
-  pub network-holds : (xs : List ℕ) (f : ℕ → ℕ) → ((t : ℕ) → factor * at l (tunnelAt l t + j) ≡ f t)
-      → Holds xs n (λ t. factor * getD l (start + 4 * t) 0) → Holds xs (at l 5) f
-  network-holds xs f ef h = record {
-    each = λ t ht. h .each t (omega (arith, en)) ∙ ap (λ (i : ℕ). factor * getD l i 0) (place l start j t e) ∙ ef t;
-  }
+in-parts : (parts m : ℕ) → parts ≤ mostSteps → m ≤ mostAmount → parts * m ≤ mostAmount * mostSteps
+in-parts parts m h k = let q : parts * m ≤ mostSteps * mostAmount = mul-le-mul h k in omega arith
 
 module _ (l p : List ℕ) (k : Checkable l p) where
-  amount-fits : (m : ℕ) → m ≤ mostAmount → at p 1 * m < 2 ^ 64
-  amount-fits m h = let q : at p 1 * m ≤ mostSteps * mostAmount = mul-le-mul (k .plan .parts .1) h in omega (arith, q)
+  amount-fits : (m : ℕ) → m ≤ mostAmount → planSizes p .parts * m < 2 ^ 64
+  amount-fits m h = omega (arith, in-parts _ m (k .plan .parts .1) h)
 
-  pub old-fits : (t : ℕ) → t < at l 5 → at p 1 * at l (tunnelAt l t + 2) < 2 ^ 64
-  old-fits t h = amount-fits _ (k .network .old t h)
+  -- the first row and the last are lines of the network, in parts
+  pub old-line : Line l 2 (planSizes p .parts)
+  old-line = record { number = omega arith; fits = λ t h. amount-fits _ (k .network .ranges .old t h) }
 
-  pub new-fits : (t : ℕ) → t < at l 5 → at p 1 * at l (tunnelAt l t + 3) < 2 ^ 64
-  new-fits t h = amount-fits _ (k .network .new t h)
+  pub new-line : Line l 3 (planSizes p .parts)
+  new-line = record { number = omega arith; fits = λ t h. amount-fits _ (k .network .ranges .new t h) }
 
-  module _ (a : ℕ) where
-    pub old-row : a ≡ 0 → (t : ℕ) → at p 1 * at l (tunnelAt l t + 2) ≡ row (networkOf l) (planOf p) a t
+  module _ (a : ℕ) (xs : List ℕ) where
+    pub old-row : a ≡ 0 → Holds xs (networkSizes l .tunnels) (lineOf l 2 (planSizes p .parts)) → Holds xs (networkSizes l .tunnels) (row (networkOf l) (planOf p) a)
     unfolding networkOf planOf
-    old-row e t = sym (row-first (networkOf l) (planOf p) a t e)
+    old-row e h = record { each = λ t ht. h .each t ht ∙ sym (row-first (networkOf l) (planOf p) a t e) }
 
-    pub new-row : a ≡ at p 2 → 0 < a → (t : ℕ) → at p 1 * at l (tunnelAt l t + 3) ≡ row (networkOf l) (planOf p) a t
+    pub new-row : a ≡ planSizes p .steps → 0 < a
+        → Holds xs (networkSizes l .tunnels) (lineOf l 3 (planSizes p .parts)) → Holds xs (networkSizes l .tunnels) (row (networkOf l) (planOf p) a)
     unfolding networkOf planOf
-    new-row e h t = sym (row-last (networkOf l) (planOf p) a t e h)
+    new-row e z h = record { each = λ t ht. h .each t ht ∙ sym (row-last (networkOf l) (planOf p) a t e z) }
 
-    -- where row a of the list begins, and where it ends
-    pub row-ends : 0 < a → a < at p 2 → (n : ℕ) → n ≡ at l 5 → 4 + (a - 1) * n + n ≤ length p
-    row-ends h m n en =
-        let up : (a - 1) + 1 ≤ at p 2 - 1 = omega arith in
-        omega (arith, mul-le-mul-right n up, k .plan .size, ap (λ (i : ℕ). (at p 2 - 1) * i) (en ∙ sym (k .tunnels)))
-
-    pub plan-column : 0 < a → a < at p 2 → (n room : ℕ) → n ≡ at l 5 → mostTunnels ≤ room → ((i : ℕ) → getD p i 0 < 2 ^ 64) → Column p (4 + (a - 1) * n) 1 1 n room
-    plan-column h m n room en hr b = record {
-      room = omega (arith, k .network .tunnels);
-      stride = omega arith;
-      short = short-plan;
-      inside = λ t ht. omega (arith, row-ends h m n en);
-      fits = λ t ht. omega (arith, b (4 + (a - 1) * n + 1 * t));
-    }
-      where
-        short-plan : length p ≤ mostNumbers
-        short-plan =
-            let s : at p 2 - 1 ≤ mostSteps - 1 = omega (arith, k .plan .steps) in
-            omega (arith, k .plan .size, mul-le-mul s (k .plan .tunnels))
-
-    pub plan-holds : 0 < a → a < at p 2 → (n : ℕ) → n ≡ at l 5 → (xs : List ℕ)
-        → Holds xs n (λ t. 1 * getD p (4 + (a - 1) * n + 1 * t) 0) → Holds xs (at l 5) (row (networkOf l) (planOf p) a)
+    pub listed-row : 0 < a → a < planSizes p .steps
+        → Holds xs (planSizes p .tunnels) (planOf p .at a) → Holds xs (networkSizes l .tunnels) (row (networkOf l) (planOf p) a)
     unfolding planOf
-    plan-holds h m n en xs f = record {
-      each = λ t ht.
-          let i : 4 + (a - 1) * n + 1 * t ≡ 4 + (a - 1) * at p 3 + t = omega (arith, ap (λ (i : ℕ). (a - 1) * i) (en ∙ sym (k .tunnels))) in
-          f .each t (omega (arith, en)) ∙ omega arith ∙ ap (λ (i : ℕ). getD p i 0) i ∙ sym (row-between (networkOf l) (planOf p) a t h m);
-    }
+    listed-row z m h = record { each = λ t ht. h .each t (omega (arith, k .tunnels)) ∙ sym (row-between (networkOf l) (planOf p) a t z m) }
 
--- where a tunnel's flow is named, and where that flow's class stands
-pub record Class (l : List ℕ) (at first t : ℕ) : Type 0 where
-  pub named : at < length l
-  pub flow : getD l at 0 ≤ mostFlows
-  pub held : first + 2 * getD l at 0 < length l
-  pub class : getD l (first + 2 * getD l at 0) 0 ≡ classOf (networkOf l) t
+  -- no amount is over the largest, in as many parts as there can be
+  pub row-small : (a t : ℕ) → a ≤ planSizes p .steps → t < networkSizes l .tunnels → row (networkOf l) (planOf p) a t ≤ mostAmount * mostSteps
+  unfolding networkOf planOf
+  row-small a t h ht =
+      row-cases (networkOf l) (planOf p) a t h
+      (λ e. rw (row-first (networkOf l) (planOf p) a t e) (in-parts _ _ (k .plan .parts .1) (k .network .ranges .old t ht)))
+      (λ e z. rw (row-last (networkOf l) (planOf p) a t e z) (in-parts _ _ (k .plan .parts .1) (k .network .ranges .new t ht)))
+      (λ z m.
+      let i : rowAt (planSizes p) 1 ≤ rowAt (planSizes p) a + t = omega arith in
+      let j : rowAt (planSizes p) a + t < length p = omega (arith, row-in p (k .plan) a z m, k .tunnels) in
+      rw (row-between (networkOf l) (planOf p) a t z m) (le-trans (k .plan .amounts _ i j) (omega (arith, k .plan .parts))))
 
-pub class-at : (l : List ℕ) → GoodNetwork l → (i first t : ℕ) → i ≡ tunnelAt l t → first ≡ 6 + at l 3 → t < at l 5 → Class l i first t
-unfolding networkOf
-class-at l g i first t e f h =
-    let v : getD l i 0 ≡ at l (tunnelAt l t) = ap (λ (k : ℕ). getD l k 0) e in
-    record {
-      named = omega (arith, g .size);
-      flow = omega (arith, g .flow t h, g .flows);
-      held = omega (arith, g .flow t h, g .size);
-      class = ap₂ (λ (a b : ℕ). getD l (a + 2 * b) 0) f v;
-    }
-
--- no amount is over the largest, in as many parts as there can be
-pub row-small : (l p : List ℕ) → Checkable l p → (a t : ℕ) → a ≤ at p 2 → t < at l 5 → row (networkOf l) (planOf p) a t ≤ mostAmount * mostSteps
-unfolding networkOf planOf
-row-small l p k a t h ht =
-    row-cases (networkOf l) (planOf p) a t h
-    (λ e. rw (row-first (networkOf l) (planOf p) a t e) (in-parts _ _ (k .plan .parts .1) (k .network .old t ht)))
-    (λ e z. rw (row-last (networkOf l) (planOf p) a t e z) (in-parts _ _ (k .plan .parts .1) (k .network .new t ht)))
-    (λ z m.
-    let i : 4 ≤ 4 + (a - 1) * at p 3 + t = omega arith in
-    let j : 4 + (a - 1) * at p 3 + t < length p = omega (arith, row-ends l p k a z m (at p 3) (k .tunnels), k .tunnels) in
-    rw (row-between (networkOf l) (planOf p) a t z m) (le-trans (k .plan .amounts _ i j) (omega (arith, k .plan .parts))))
-  where
-    in-parts : (a b : ℕ) → a ≤ mostSteps → b ≤ mostAmount → a * b ≤ mostAmount * mostSteps
-    in-parts a b h k = let q : a * b ≤ mostSteps * mostAmount = mul-le-mul h k in omega arith
+  pub row-column-small : (a : ℕ) (xs : List ℕ) → a ≤ planSizes p .steps → Holds xs (networkSizes l .tunnels) (row (networkOf l) (planOf p) a) → Small xs (networkSizes l .tunnels)
+  row-column-small a xs h hx = record { each = λ t ht. rw (hx .each t ht) (row-small a t h ht) }
 
 -- what a link has room for, in parts, and with the overrun, fits
-pub room-small : (l : List ℕ) → GoodNetwork l → (k parts : ℕ) → k < at l 3 → parts ≤ mostSteps → parts * at l (6 + k) ≤ mostAmount * mostSteps
-room-small l g k parts h hp = let q : parts * at l (6 + k) ≤ mostSteps * mostAmount = mul-le-mul hp (g .cap k h) in omega arith
+module _ (l : List ℕ) (g : GoodNetwork l) where
+  pub overrun-small : networkOf l .overrun ≤ mostShare
+  unfolding networkOf
+  overrun-small = ⊎-elim (λ e. omega (arith, e)) (λ h. h .1) (g .ranges .overrun)
 
-pub overrun-small : (l : List ℕ) → GoodNetwork l → at l 2 ≤ mostShare
-unfolding networkOf
-overrun-small l g = ⊎-elim (λ e. omega (arith, e)) (λ h. h .1) (g .valid .overrun)
+  module _ (k parts cap : ℕ) (h : k < networkSizes l .links) (e : cap ≡ networkOf l .cap k) (hp : parts ≤ mostSteps) where
+    pub room-small : parts * cap ≤ mostAmount * mostSteps
+    unfolding networkOf
+    room-small = in-parts parts cap hp (omega (arith, e, g .ranges .cap k h))
 
-pub most-small : (l : List ℕ) → GoodNetwork l → (k parts : ℕ) → k < at l 3 → parts ≤ mostSteps → (1000 + at l 2) * (parts * at l (6 + k)) ≤ (1000 + mostShare) * (mostAmount * mostSteps)
-most-small l g k parts h hp =
-    let o : 1000 + at l 2 ≤ 1000 + mostShare = omega (arith, overrun-small l g) in mul-le-mul o (room-small l g k parts h hp)
-
-pub row-column-small : (l p : List ℕ) → Checkable l p → (a : ℕ) (xs : List ℕ) → a ≤ at p 2 → Holds xs (at l 5) (row (networkOf l) (planOf p) a) → Small xs (at l 5)
-row-column-small l p k a xs h hx = record { each = λ t ht. rw (hx .each t ht) (row-small l p k a t h ht) }
+    pub most-small : (1000 + networkOf l .overrun) * (parts * cap) ≤ (1000 + mostShare) * (mostAmount * mostSteps)
+    most-small = let o : 1000 + networkOf l .overrun ≤ 1000 + mostShare = omega (arith, overrun-small) in mul-le-mul o room-small

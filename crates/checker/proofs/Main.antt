@@ -11,24 +11,25 @@ use Rattle.model.specs.Scan.{Overload}
 use Rattle.model.specs.Rule.{firstOverload}
 use Rattle.model.proofs.Outcomes.{then-good, cond-good, good-same}
 use Rattle.model.proofs.Choices.{none-kept, kept-none, safe, marked-overloads, found}
-use Rattle.lists.specs.Lists.{at, networkOf, planOf}
+use Rattle.lists.specs.Lists.{networkOf, planSizes, planOf}
 use Rattle.checker.specs.Check.{judgePair, verdict}
 use Rattle.checker.specs.Claim.{Reaches, Checker}
 use Rattle.checker.proofs.Pairs.{pair-good}
 
 -- what a verdict on the steps tells
 reached : (n p : List ℕ) (room : ℕ) (x : Option Overload) → verdict n p room ≡ good x → Reaches n p room × (firstOverload (networkOf n) (planOf p) ≡ x)
+unfolding networkOf
 reached n p room x e =
-    let a = then-good (judgePair n p) (λ q. cond (leb (at n 5) room) (good (firstOverload (networkOf n) (planOf q))) (refused noRoom (at n 5) 0)) x e in
+    let a = then-good (judgePair n p) (λ q. cond (leb (networkOf n .tunnels) room) (good (firstOverload (networkOf n) (planOf q))) (refused noRoom (networkOf n .tunnels) 0)) x e in
     let j = pair-good n p (a .0) (a .1) in
-    let f = cond-good (leb (at n 5) room) (good (firstOverload (networkOf n) (planOf (a .0)))) _ (at n 5) 0 x (a .2) in (
-      record { network = j .network; plan = j .plan; tunnels = j .checkable .tunnels; rows = j .rows; room = leb-true (at n 5) room (f .0) },
+    let f = cond-good (leb (networkOf n .tunnels) room) (good (firstOverload (networkOf n) (planOf (a .0)))) _ (networkOf n .tunnels) 0 x (a .2) in (
+      record { network = j .network; plan = j .plan; tunnels = j .checkable .tunnels; rows = j .rows; room = leb-true (networkOf n .tunnels) room (f .0) },
       ap (λ (q : List ℕ). firstOverload (networkOf n) (planOf q)) (sym (j .same)) ∙ good-same _ _ (f .1),
     )
 
 -- and what reaches the steps gets their verdict
 weighed : (n p : List ℕ) (room : ℕ) → Reaches n p room → verdict n p room ≡ good (firstOverload (networkOf n) (planOf p))
-weighed n p room r = simp (r .network, r .plan, eq-eqb (at p 3) (at n 5) (r .tunnels), r .rows, le-leb (at n 5) room (r .room))
+weighed n p room r = simp (r .network, r .plan, eq-eqb (planSizes p .tunnels) (networkOf n .tunnels) (r .tunnels), r .rows, le-leb (networkOf n .tunnels) room (r .room))
 
 pub checker : Checker
 checker = record {

@@ -15,7 +15,7 @@ use Rattle.model.specs.Search.{onlyIf, orElse}
 use Rattle.model.specs.Net.{Net, Plan, row}
 use Rattle.model.specs.Scan.{Bound, Overload, test, testLink}
 use Rattle.model.specs.Rule.{crosses, onLink, counts, load, exceeds, worst, worstOver}
-use Rattle.lists.specs.Lists.{at, networkOf, planOf}
+use Rattle.lists.specs.Lists.{networkSizes, networkOf, planSizes, planOf}
 use Rattle.checker.specs.Columns.{Holds, Small, linkSum, counted}
 use Rattle.checker.specs.Inner.{Checkable, overNumber, overBy, foundOf}
 use Rattle.checker.specs.declared.steps.Found.the-variants.{At}
@@ -86,8 +86,8 @@ module _ (N : Net) (parts l p a : ℕ) where
   over-0 r s e f h k = simp (le-ltb (parts * N .cap l) p (rw (← e) h), le-ltb ((1000 + N .overrun) * (parts * N .cap l)) (1000 * a) (rw (← f) k))
 
 -- the amounts of a step are small
-pub counted-small : (l p : List ℕ) → Checkable l p → (i : ℕ) (b : Bound) (xs : List ℕ) → i < at p 2
-    → Holds xs (at l 5) (counted (networkOf l) (planOf p) i b) → Small xs (at l 5)
+pub counted-small : (l p : List ℕ) → Checkable l p → (i : ℕ) (b : Bound) (xs : List ℕ) → i < planSizes p .steps
+    → Holds xs (networkSizes l .tunnels) (counted (networkOf l) (planOf p) i b) → Small xs (networkSizes l .tunnels)
 unfolding counted
 counted-small l p k i b xs h hx = record {
   each = λ t ht. rw (hx .each t ht) (small-if (counts (networkOf l) b t) _ (max-le (row-small l p k i t (omega arith) ht) (row-small l p k (suc i) t h ht)));

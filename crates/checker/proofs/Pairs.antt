@@ -11,7 +11,7 @@ use lib.ListN.{length}
 use Rattle.model.specs.Outcome.{Outcome, good, Cause, unless, Place, andThen}
 use Rattle.model.specs.Rule.{missedRow}
 use Rattle.model.proofs.Outcomes.{good-refused, then-good, cond-good, good-same}
-use Rattle.lists.specs.Lists.{at, networkOf, planOf}
+use Rattle.lists.specs.Lists.{networkOf, planSizes, planOf}
 use Rattle.lists.specs.Good.{GoodNetwork, GoodPlan}
 use Rattle.lists.specs.Answers.{done}
 use Rattle.lists.specs.declared.Answer.{Answer}
@@ -46,19 +46,20 @@ missed-good none p q e = (refl, sym (good-same p q e))
 missed-good (some w) p q e = absurd (good-refused q _ _ _ e)
 
 pub pair-good : (n p q : List ℕ) → judgePair n p ≡ good q → Judged n p q
+unfolding networkOf
 pair-good n p q e =
     let a = then-good (judgeNetwork n) (λ m. andThen (judgePlan p) (judgeRows m)) q e in
     let b = then-good (judgePlan p) (judgeRows (a .0)) q (a .2) in
     let gn = good-network n (a .0) (a .1) in
     let gp = good-plan p (b .0) (b .1) in
     let w : judgeRows n p ≡ good q = ap₂ judgeRows (sym (gn .0)) (sym (gp .0)) ∙ b .2 in
-    let c = cond-good (eqb (at p 3) (at n 5)) (unless Cause.missedRow (missedRow (networkOf n) (planOf p)) (good p)) _ 4 1 q w in
+    let c = cond-good (eqb (planSizes p .tunnels) (networkOf n .tunnels)) (unless Cause.missedRow (missedRow (networkOf n) (planOf p)) (good p)) _ 4 1 q w in
     let d = missed-good (missedRow (networkOf n) (planOf p)) p q (c .1) in
     record {
       same = d .1;
       network = a .1 ∙ ap good (gn .0);
       plan = b .1 ∙ ap good (gp .0);
-      checkable = record { network = gn .1; plan = gp .1; tunnels = eqb-true (at p 3) (at n 5) (c .0) };
+      checkable = record { network = gn .1; plan = gp .1; tunnels = eqb-true (planSizes p .tunnels) (networkOf n .tunnels) (c .0) };
       rows = d .0;
     }
 
@@ -68,20 +69,20 @@ pair-judged n p k a e f = let j = done-good (judgePair n p) k (sym e ∙ f) in l
 -- ---- the rows, as the code finds them
 
 module _ (n p : List ℕ) where
-  pub other-tunnels : at p 3 ≢ at n 5 → Refused 5 4 1 ≡ done (judgeRows n p)
-  other-tunnels h = simp (ne-eqb (at p 3) (at n 5) h)
+  pub other-tunnels : planSizes p .tunnels ≢ networkOf n .tunnels → Refused 5 4 1 ≡ done (judgeRows n p)
+  other-tunnels h = simp (ne-eqb (planSizes p .tunnels) (networkOf n .tunnels) h)
 
-  rows-of : (o : Option Place) → at p 3 ≡ at n 5 → missedRow (networkOf n) (planOf p) ≡ o → judgeRows n p ≡ unless Cause.missedRow o (good p)
-  rows-of o h e = simp (eq-eqb (at p 3) (at n 5) h, e)
+  rows-of : (o : Option Place) → planSizes p .tunnels ≡ networkOf n .tunnels → missedRow (networkOf n) (planOf p) ≡ o → judgeRows n p ≡ unless Cause.missedRow o (good p)
+  rows-of o h e = simp (eq-eqb (planSizes p .tunnels) (networkOf n .tunnels) h, e)
 
-  pub rows-met : at p 3 ≡ at n 5 → missed.Nothing ≡ missedOf (missedRow (networkOf n) (planOf p)) → Done (length p) ≡ done (judgeRows n p)
+  pub rows-met : planSizes p .tunnels ≡ networkOf n .tunnels → missed.Nothing ≡ missedOf (missedRow (networkOf n) (planOf p)) → Done (length p) ≡ done (judgeRows n p)
   rows-met h e = go _ refl e
     where
       go : (o : Option Place) → missedRow (networkOf n) (planOf p) ≡ o → missed.Nothing ≡ missedOf o → Done (length p) ≡ done (judgeRows n p)
       go none m e = sym (ap done (rows-of none h m))
       go (some q) m e = let z : _≡_ {A = ℕ} 0 1 = cc in absurd (omega arith)
 
-  pub row-missed : (a f : ℕ) → at p 3 ≡ at n 5 → missed.At a f ≡ missedOf (missedRow (networkOf n) (planOf p)) → Refused 6 a f ≡ done (judgeRows n p)
+  pub row-missed : (a f : ℕ) → planSizes p .tunnels ≡ networkOf n .tunnels → missed.At a f ≡ missedOf (missedRow (networkOf n) (planOf p)) → Refused 6 a f ≡ done (judgeRows n p)
   row-missed a f h e = go _ refl e
     where
       go : (o : Option Place) → missedRow (networkOf n) (planOf p) ≡ o → missed.At a f ≡ missedOf o → Refused 6 a f ≡ done (judgeRows n p)

@@ -8,7 +8,7 @@ use mathlib.Core.Option.{none, some}
 use Rattle.model.specs.Outcome.{good}
 use Rattle.model.specs.Scan.{Bound, Overload}
 use Rattle.model.specs.Rule.{Choice, overloads, worstOver, stepCount, missedRow, marked}
-use Rattle.lists.specs.Lists.{at, networkOf, planOf}
+use Rattle.lists.specs.Lists.{networkOf, planSizes, planOf}
 use Rattle.checker.specs.Check.{verdict}
 use Rattle.forms.specs.Named.{judgeNetwork, judgePlan}
 
@@ -16,9 +16,9 @@ use Rattle.forms.specs.Named.{judgeNetwork, judgePlan}
 pub record Reaches (n p : List ℕ) (lent : ℕ) : Type 0 where
   pub network : judgeNetwork n ≡ good n
   pub plan : judgePlan p ≡ good p
-  pub tunnels : at p 3 ≡ at n 5
+  pub tunnels : planSizes p .tunnels ≡ networkOf n .tunnels
   pub rows : missedRow (networkOf n) (planOf p) ≡ none
-  pub room : at n 5 ≤ lent
+  pub room : networkOf n .tunnels ≤ lent
 
 -- "every step meets the worst-load rule on every link"
 abbrev pub MeetsRule : List ℕ → List ℕ → Type 0

@@ -2,7 +2,7 @@
 use Prim.Native.Nat.{ℕ, suc, _+_, _*_, _^_, _≤_, _<_, max}
 use mathlib.Core.Path.{_≡_}
 use mathlib.Core.List.{List}
-use lib.ListN.{length, getD}
+use lib.ListN.{getD}
 use mathlib.Core.Bool.{cond}
 use Rattle.model.specs.Limits.{mostSteps, mostAmount}
 use Rattle.model.specs.Sets.{inSet}
@@ -10,7 +10,7 @@ use Rattle.model.specs.Sum.{sumOver}
 use Rattle.model.specs.Net.{Net, Plan, row}
 use Rattle.model.specs.Scan.{Bound}
 use Rattle.model.specs.Rule.{counts}
-use Rattle.forms.specs.Form.{mostNumbers}
+use Rattle.lists.specs.Lists.{at, networkSizes, tunnelAt}
 
 pub record Holds (xs : List ℕ) (n : ℕ) (f : ℕ → ℕ) : Type 0 where
   pub each : (t : ℕ) → t < n → getD xs t 0 ≡ f t
@@ -23,13 +23,14 @@ pub record Small (xs : List ℕ) (n : ℕ) : Type 0 where
 unfoldable pub linkSum : List ℕ → List ℕ → ℕ → ℕ → ℕ
 linkSum vias amounts n l = sumOver n (λ t. inSet (getD vias t 0) l) (λ t. getD amounts t 0)
 
--- every stride-th number from start on, n of them, is there, and factor times it fits; there is room for n
-pub record Column (src : List ℕ) (start step factor n most : ℕ) : Type 0 where
-  pub room : n ≤ most
-  pub stride : step ≤ 4
-  pub short : length src ≤ mostNumbers
-  pub inside : (t : ℕ) → t < n → start + step * t < length src
-  pub fits : (t : ℕ) → t < n → factor * getD src (start + step * t) 0 < 2 ^ 64
+-- factor times number j of each tunnel's four
+abbrev pub lineOf : List ℕ → ℕ → ℕ → ℕ → ℕ
+lineOf l j factor t = factor * at l (tunnelAt (networkSizes l) t + j)
+
+-- and there is such a number, and the product fits
+pub record Line (l : List ℕ) (j factor : ℕ) : Type 0 where
+  pub number : j ≤ 3
+  pub fits : (t : ℕ) → t < networkSizes l .tunnels → lineOf l j factor t < 2 ^ 64
 
 -- the class of a tunnel's flow
 abbrev pub classOf : Net → ℕ → ℕ

@@ -11,7 +11,7 @@ use Rattle.model.specs.Net.{Net, Plan}
 use Rattle.model.specs.Scan.{Bound, Overload, cause}
 use Rattle.model.specs.Rule.{exceeds, mark}
 use Rattle.model.specs.Listed.{listed}
-use Rattle.lists.specs.Lists.{at}
+use Rattle.lists.specs.Lists.{networkSizes, planSizes}
 use Rattle.lists.specs.Good.{GoodNetwork, GoodPlan}
 use Rattle.checker.specs.declared.sums.Missed.{Missed}
 use Rattle.checker.specs.declared.sums.Missed.the-variants as missed
@@ -22,7 +22,7 @@ use Rattle.checker.specs.declared.steps.Found.the-variants.{Nothing, At}
 pub record Checkable (n p : List ℕ) : Type 0 where
   pub network : GoodNetwork n
   pub plan : GoodPlan p
-  pub tunnels : at p 3 ≡ at n 5
+  pub tunnels : planSizes p .tunnels ≡ networkSizes n .tunnels
 
 -- the refusal that two loads of a link meet, 7 before 8, or 0
 abbrev pub overNumber : Bool → Bool → ℕ

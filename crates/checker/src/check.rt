@@ -4,7 +4,7 @@ ghost use Prim.Native.Nat.{_≤_};
 ghost use lib.ListN.{length};
 ghost use Rattle.model.specs.Outcome.{Outcome};
 ghost use Rattle.model.specs.Rule.{firstOverload};
-ghost use Rattle.lists.specs.Lists.{at, networkOf, planOf};
+ghost use Rattle.lists.specs.Lists.{networkSizes, networkOf, planOf};
 ghost use Rattle.checker.specs.Check.{verdict, checked, marksAfter};
 ghost use Rattle.checker.specs.Inner.{Checkable};
 use crate::marks;
@@ -12,16 +12,17 @@ use crate::pair;
 use crate::steps;
 use crate::steps::Found;
 use lists::Answer;
+use lists::Network;
 
 // The steps, and the marks that go with what is found.
 fn check_steps(network: &[u64], plan: &[u64], marks: &mut [u8]) -> Answer
-    requires { ⌜ Checkable (now network) (now plan) × (at (now network) 5 ≤ length (now marks)) ⌝ }
+    requires { ⌜ Checkable (now network) (now plan) × (networkSizes (now network) .tunnels ≤ length (now marks)) ⌝ }
     ensures { λ r. ⌜ r ≡ checked (now (network .entry)) (Outcome.good (firstOverload (networkOf (now (network .entry))) (planOf (now (plan .entry))))) ⌝ }
     ensures { λ _. ⌜ now (marks .exit) ≡ marksAfter (now (network .entry)) (now (plan .entry)) (Outcome.good (firstOverload (networkOf (now (network .entry))) (planOf (now (plan .entry))))) (now (marks .entry)) ⌝ }
 {
     let found = steps::first_overload(network, plan);
     let Found::At(number, i, l) = found else {
-        let n = network[5] as usize;
+        let n = Network::of(network).tunnels;
         marks::clear(n, marks);
         return Answer::Done(n);
     };
@@ -43,7 +44,7 @@ pub fn check_plan(network: &[u64], plan: &[u64], marks: &mut [u8]) -> Answer
     let Answer::Done(_) = judged else {
         return judged;
     };
-    let n = network[5] as usize;
+    let n = Network::of(network).tunnels;
     if marks.len() < n {
         return Answer::Refused {
             number: 10,

@@ -1,12 +1,12 @@
 // Columns: one number for each tunnel, at the front of an array.
 ghost use mathlib.Core.Path.{_≡_};
 ghost use mathlib.Core.Bool.{cond};
-ghost use Prim.Native.Nat.{_+_, _*_, _≤_, _<_, max};
+ghost use Prim.Native.Nat.{_*_, _≤_, _<_, max};
 ghost use lib.Dec.{leb};
 ghost use lib.ListN.{length, getD};
 ghost use Rattle.model.specs.Limits.{mostLinks, mostTunnels, mostSteps, mostAmount};
 ghost use Rattle.model.specs.Sets.{inSet};
-ghost use Rattle.checker.specs.Columns.{Column, Holds, Small, linkSum};
+ghost use Rattle.checker.specs.Columns.{Holds, Small, linkSum};
 use lists::Network;
 
 // The most tunnels, for which every column has room.
@@ -31,27 +31,6 @@ fn on_link(via: u64, l: u64, x: u64) -> u64
     ensures { λ r. ⌜ r ≡ cond (inSet via l) x 0 ⌝ }
 {
     if (via >> l) & 1 == 1 { x } else { 0 }
-}
-
-// Every stride-th number from start on, factor times.
-pub(crate) fn column(
-    src: &[u64],
-    start: usize,
-    stride: usize,
-    factor: u64,
-    n: usize,
-    out: &mut [u64],
-)
-    requires { ⌜ Column (now src) start stride factor n (length (now out)) ⌝ }
-    ensures { λ _. ⌜ Holds (now (out .exit)) n (λ t. factor * getD (now (src .entry)) (start + stride * t) 0) ⌝ }
-{
-    let mut at = start;
-    let mut t = 0;
-    while t < n {
-        out[t] = factor * src[at];
-        at += stride;
-        t += 1;
-    }
 }
 
 // The worst amounts: the larger of two rows.

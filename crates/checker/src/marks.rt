@@ -7,10 +7,11 @@ ghost use lib.Dec.{ltb};
 ghost use lib.ListN.{length, getD, drop};
 ghost use Rattle.model.specs.Limits.{mostLinks};
 ghost use Rattle.model.specs.Sets.{inSet};
-ghost use Rattle.lists.specs.Lists.{at, networkOf, planOf};
+ghost use Rattle.lists.specs.Lists.{networkSizes, networkOf, planSizes, planOf};
 ghost use Rattle.checker.specs.Inner.{Checkable, marksOf, marksAt};
 use crate::columns::TUNNELS;
 use crate::rows;
+use lists::Network;
 
 // A tunnel's mark: 1 if it crosses link l and its amount rises.
 fn rises(via: u64, l: u64, earlier: u64, later: u64) -> u8
@@ -40,14 +41,14 @@ fn mark_rising(vias: &[u64], earlier: &[u64], later: &[u64], n: usize, l: u64, m
 
 // Marks the tunnels that cross link l and rise in the step from row i.
 pub fn mark(network: &[u64], plan: &[u64], i: usize, l: usize, marks: &mut [u8])
-    requires { ⌜ Checkable (now network) (now plan) × (i < at (now plan) 2) × (l < at (now network) 3) × (at (now network) 5 ≤ length (now marks)) ⌝ }
-    ensures { λ _. ⌜ now (marks .exit) ≡ marksAt (networkOf (now (network .entry))) (planOf (now (plan .entry))) i l (at (now (network .entry)) 5) ++ drop (at (now (network .entry)) 5) (now (marks .entry)) ⌝ }
+    requires { ⌜ Checkable (now network) (now plan) × (i < planSizes (now plan) .steps) × (l < networkSizes (now network) .links) × (networkSizes (now network) .tunnels ≤ length (now marks)) ⌝ }
+    ensures { λ _. ⌜ now (marks .exit) ≡ marksAt (networkOf (now (network .entry))) (planOf (now (plan .entry))) i l (networkSizes (now (network .entry)) .tunnels) ++ drop (networkSizes (now (network .entry)) .tunnels) (now (marks .entry)) ⌝ }
 {
-    let n = network[5] as usize;
+    let n = Network::of(network).tunnels;
     let mut vias = [0u64; TUNNELS];
     let mut earlier = [0u64; TUNNELS];
     let mut later = [0u64; TUNNELS];
-    rows::line(network, 1, &mut vias);
+    rows::vias(network, &mut vias);
     rows::row(network, plan, i, &mut earlier);
     rows::row(network, plan, i + 1, &mut later);
     mark_rising(&vias, &earlier, &later, n, l as u64, marks);

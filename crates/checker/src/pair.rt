@@ -7,13 +7,16 @@ use crate::sums;
 use crate::sums::Missed;
 use forms::judge;
 use lists::Answer;
+use lists::Network;
+use lists::PlanSizes;
 
 // The tunnels of a plan, then its rows, for lists that are judged good each.
 fn judge_rows(network: &[u64], plan: &[u64]) -> Answer
     requires { ⌜ GoodNetwork (now network) × GoodPlan (now plan) ⌝ }
     ensures { λ r. ⌜ r ≡ done (judgeRows (now (network .entry)) (now (plan .entry))) ⌝ }
 {
-    if plan[3] != network[5] {
+    let tunnels = Network::of(network).tunnels;
+    if PlanSizes::of(plan).tunnels != tunnels {
         return Answer::Refused {
             number: 5,
             place: 4,

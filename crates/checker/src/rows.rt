@@ -1,65 +1,80 @@
 // The columns of a network and of the rows of a plan.
-ghost use Prim.Native.Nat.{_+_, _≤_, _<_};
+ghost use Prim.Native.Nat.{_≤_, _<_};
 ghost use lib.ListN.{length};
 ghost use Rattle.model.specs.Limits.{mostTunnels};
 ghost use Rattle.model.specs.Net;
-ghost use Rattle.lists.specs.Lists.{at, tunnelAt, networkOf, planOf};
-ghost use Rattle.lists.specs.Good.{GoodNetwork};
-ghost use Rattle.checker.specs.Columns.{Holds, classOf, counted};
-ghost use Rattle.checker.specs.Inner.{Checkable};
 ghost use Rattle.model.specs.Scan.{Bound};
+ghost use Rattle.lists.specs.Lists.{networkSizes, networkOf, planSizes, planOf};
+ghost use Rattle.lists.specs.Good.{GoodNetwork, GoodPlan};
+ghost use Rattle.checker.specs.Columns.{Line, Holds, lineOf, classOf, counted};
+ghost use Rattle.checker.specs.Inner.{Checkable};
 use crate::columns;
 use crate::columns::TUNNELS;
 use lists::Network;
+use lists::PlanSizes;
 
-// Line j of each tunnel's four.
-pub(crate) fn line(network: &[u64], j: usize, out: &mut [u64])
-    requires { ⌜ GoodNetwork (now network) × (j ≤ 3) × (mostTunnels ≤ length (now out)) ⌝ }
-    ensures { λ _. ⌜ Holds (now (out .exit)) (at (now (network .entry)) 5) (λ t. at (now (network .entry)) (tunnelAt (now (network .entry)) t + j)) ⌝ }
+// Line j of each tunnel's four, factor times.
+fn line(network: &[u64], j: usize, factor: u64, out: &mut [u64])
+    requires { ⌜ GoodNetwork (now network) × Line (now network) j factor × (mostTunnels ≤ length (now out)) ⌝ }
+    ensures { λ _. ⌜ Holds (now (out .exit)) (networkSizes (now (network .entry)) .tunnels) (lineOf (now (network .entry)) j factor) ⌝ }
 {
     let sizes = Network::of(network);
-    let n = sizes.tunnels;
-    let start = sizes.tunnels_at() + j;
-    columns::column(network, start, 4, 1, n, out);
+    let mut t = 0;
+    while t < sizes.tunnels {
+        out[t] = factor * network[sizes.tunnel_at(t) + j];
+        t += 1;
+    }
+}
+
+// The links of each tunnel.
+pub(crate) fn vias(network: &[u64], out: &mut [u64])
+    requires { ⌜ GoodNetwork (now network) × (mostTunnels ≤ length (now out)) ⌝ }
+    ensures { λ _. ⌜ Holds (now (out .exit)) (networkSizes (now (network .entry)) .tunnels) (networkOf (now (network .entry)) .via) ⌝ }
+{
+    line(network, 1, 1, out);
+}
+
+// Row a of a plan, which is neither the first nor the last.
+fn listed_row(plan: &[u64], a: usize, out: &mut [u64])
+    requires { ⌜ GoodPlan (now plan) × (1 ≤ a) × (a < planSizes (now plan) .steps) × (mostTunnels ≤ length (now out)) ⌝ }
+    ensures { λ _. ⌜ Holds (now (out .exit)) (planSizes (now (plan .entry)) .tunnels) (planOf (now (plan .entry)) .at a) ⌝ }
+{
+    let sizes = PlanSizes::of(plan);
+    let start = sizes.row_at(a);
+    let mut t = 0;
+    while t < sizes.tunnels {
+        out[t] = plan[start + t];
+        t += 1;
+    }
 }
 
 // Row a of the plan: the first and the last are the network's, in parts.
 pub(crate) fn row(network: &[u64], plan: &[u64], a: usize, out: &mut [u64])
-    requires { ⌜ Checkable (now network) (now plan) × (a ≤ at (now plan) 2) × (mostTunnels ≤ length (now out)) ⌝ }
-    ensures { λ _. ⌜ Holds (now (out .exit)) (at (now (network .entry)) 5) (Net.row (networkOf (now (network .entry))) (planOf (now (plan .entry))) a) ⌝ }
+    requires { ⌜ Checkable (now network) (now plan) × (a ≤ planSizes (now plan) .steps) × (mostTunnels ≤ length (now out)) ⌝ }
+    ensures { λ _. ⌜ Holds (now (out .exit)) (networkSizes (now (network .entry)) .tunnels) (Net.row (networkOf (now (network .entry))) (planOf (now (plan .entry))) a) ⌝ }
 {
-    let sizes = Network::of(network);
-    let n = sizes.tunnels;
-    let base = sizes.tunnels_at();
-    let parts = plan[1];
-    let steps = plan[2] as usize;
+    let sizes = PlanSizes::of(plan);
     if a == 0 {
-        columns::column(network, base + 2, 4, parts, n, out);
+        line(network, 2, sizes.parts, out);
         return;
     }
-    if a == steps {
-        columns::column(network, base + 3, 4, parts, n, out);
+    if a == sizes.steps {
+        line(network, 3, sizes.parts, out);
         return;
     }
-    let start = 4 + (a - 1) * n;
-    columns::column(plan, start, 1, 1, n, out);
+    listed_row(plan, a, out);
 }
 
 // The class of each tunnel's flow.
 pub(crate) fn classes(network: &[u64], out: &mut [u64])
     requires { ⌜ GoodNetwork (now network) × (mostTunnels ≤ length (now out)) ⌝ }
-    ensures { λ _. ⌜ Holds (now (out .exit)) (at (now (network .entry)) 5) (classOf (networkOf (now (network .entry)))) ⌝ }
+    ensures { λ _. ⌜ Holds (now (out .exit)) (networkSizes (now (network .entry)) .tunnels) (classOf (networkOf (now (network .entry)))) ⌝ }
 {
     let sizes = Network::of(network);
-    let n = sizes.tunnels;
-    let first = sizes.flows_at();
-    let mut at = sizes.tunnels_at();
     let mut t = 0;
-    while t < n {
-        let flow = network[at] as usize;
-        let line = first + 2 * flow;
-        out[t] = network[line];
-        at += 4;
+    while t < sizes.tunnels {
+        let flow = network[sizes.tunnel_at(t)] as usize;
+        out[t] = network[sizes.flow_at(flow)];
         t += 1;
     }
 }
@@ -73,13 +88,12 @@ pub(crate) fn step(
     all: &mut [u64],
     protected: &mut [u64],
 )
-    requires { ⌜ Checkable (now network) (now plan) × (i < at (now plan) 2) × (mostTunnels ≤ length (now classes)) × (mostTunnels ≤ length (now all)) × (mostTunnels ≤ length (now protected)) ⌝ }
-    requires { ⌜ Holds (now classes) (at (now network) 5) (classOf (networkOf (now network))) ⌝ }
-    ensures { λ _. ⌜ Holds (now (all .exit)) (at (now (network .entry)) 5) (counted (networkOf (now (network .entry))) (planOf (now (plan .entry))) i Bound.total) ⌝ }
-    ensures { λ _. ⌜ Holds (now (protected .exit)) (at (now (network .entry)) 5) (counted (networkOf (now (network .entry))) (planOf (now (plan .entry))) i Bound.protected) ⌝ }
+    requires { ⌜ Checkable (now network) (now plan) × (i < planSizes (now plan) .steps) × (mostTunnels ≤ length (now classes)) × (mostTunnels ≤ length (now all)) × (mostTunnels ≤ length (now protected)) ⌝ }
+    requires { ⌜ Holds (now classes) (networkSizes (now network) .tunnels) (classOf (networkOf (now network))) ⌝ }
+    ensures { λ _. ⌜ Holds (now (all .exit)) (networkSizes (now (network .entry)) .tunnels) (counted (networkOf (now (network .entry))) (planOf (now (plan .entry))) i Bound.total) ⌝ }
+    ensures { λ _. ⌜ Holds (now (protected .exit)) (networkSizes (now (network .entry)) .tunnels) (counted (networkOf (now (network .entry))) (planOf (now (plan .entry))) i Bound.protected) ⌝ }
 {
-    let sizes = Network::of(network);
-    let n = sizes.tunnels;
+    let n = Network::of(network).tunnels;
     let mut earlier = [0u64; TUNNELS];
     let mut later = [0u64; TUNNELS];
     row(network, plan, i, &mut earlier);

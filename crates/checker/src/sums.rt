@@ -5,13 +5,14 @@ ghost use lib.ListN.{length, getD, replicate};
 ghost use Rattle.model.specs.Limits.{mostFlows, mostTunnels, mostSteps};
 ghost use Rattle.model.specs.Rule.{missedRow};
 ghost use Rattle.forms.specs.Sums.{Gathered};
-ghost use Rattle.lists.specs.Lists.{at, networkOf, planOf};
+ghost use Rattle.lists.specs.Lists.{networkSizes, networkOf, planOf};
 ghost use Rattle.lists.specs.Good.{GoodNetwork};
 ghost use Rattle.checker.specs.Columns.{Small};
 ghost use Rattle.checker.specs.Inner.{Checkable, FirstMissed, missedOf};
 use crate::columns::TUNNELS;
 use crate::rows;
 use lists::Network;
+use lists::PlanSizes;
 
 const FLOWS: usize = Network::FLOWS as usize;
 
@@ -23,17 +24,14 @@ pub(crate) enum Missed {
 
 // The sum of each flow's amounts in a row, in one pass over the tunnels.
 fn row_sums(network: &[u64], row: &[u64], sums: &mut [u64])
-    requires { ⌜ GoodNetwork (now network) × (mostTunnels ≤ length (now row)) × Small (now row) (at (now network) 5) × (now sums ≡ replicate mostFlows 0) ⌝ }
-    ensures { λ _. ⌜ Gathered (networkOf (now (network .entry))) (λ t. getD (now (row .entry)) t 0) (at (now (network .entry)) 5) (now (sums .exit)) ⌝ }
+    requires { ⌜ GoodNetwork (now network) × (mostTunnels ≤ length (now row)) × Small (now row) (networkSizes (now network) .tunnels) × (now sums ≡ replicate mostFlows 0) ⌝ }
+    ensures { λ _. ⌜ Gathered (networkOf (now (network .entry))) (λ t. getD (now (row .entry)) t 0) (networkSizes (now (network .entry)) .tunnels) (now (sums .exit)) ⌝ }
 {
     let sizes = Network::of(network);
-    let n = sizes.tunnels;
-    let mut at = sizes.tunnels_at();
     let mut t = 0;
-    while t < n {
-        let flow = network[at] as usize;
+    while t < sizes.tunnels {
+        let flow = network[sizes.tunnel_at(t)] as usize;
         sums[flow] += row[t];
-        at += 4;
         t += 1;
     }
 }
@@ -44,14 +42,11 @@ fn missed_flow(network: &[u64], parts: u64, sums: &[u64]) -> usize
     ensures { λ r. ⌜ FirstMissed (networkOf (now (network .entry))) parts (now (sums .entry)) r ⌝ }
 {
     let sizes = Network::of(network);
-    let n = sizes.flows;
-    let mut at = sizes.flows_at() + 1;
     let mut f = 0;
-    while f < n {
-        if sums[f] != parts * network[at] {
+    while f < sizes.flows {
+        if sums[f] != parts * network[sizes.flow_at(f) + 1] {
             return f;
         }
-        at += 2;
         f += 1;
     }
     f
@@ -62,9 +57,10 @@ pub(crate) fn missed_row(network: &[u64], plan: &[u64]) -> Missed
     requires { ⌜ Checkable (now network) (now plan) ⌝ }
     ensures { λ r. ⌜ r ≡ missedOf (missedRow (networkOf (now (network .entry))) (planOf (now (plan .entry)))) ⌝ }
 {
-    let flows = network[4] as usize;
-    let parts = plan[1];
-    let steps = plan[2] as usize;
+    let flows = Network::of(network).flows;
+    let sizes = PlanSizes::of(plan);
+    let parts = sizes.parts;
+    let steps = sizes.steps;
     let mut row = [0u64; TUNNELS];
     let mut a = 0;
     while a <= steps {

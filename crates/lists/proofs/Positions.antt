@@ -1,13 +1,15 @@
--- Laws of the positions of a network's numbers.
+-- Laws of the positions of a network's numbers, and of a plan's.
 use Prim.Native.Nat.{ℕ, _+_, _*_, _-_, _/_, _%_, _≤_, _<_}
 use mathlib.Core.Path.{_≡_, refl, ap, subst, subst⁻¹, _∙_}
 use mathlib.Core.List.{List}
 use native.Mathlib.Decide.{decLt}
+use native.Mathlib.Nat.{mul-le-mul, mul-le-mul-right}
 use native.Mathlib.Omega.{arith}
 use lib.ListN.{length}
+use Rattle.model.specs.Limits.{mostSteps}
 use Rattle.lists.specs.declared.Network.{Network}
-use Rattle.lists.specs.Lists.{networkSizes, linkAt, flowAt, tunnelAt, networkSize, mostNetwork, mostNumbers}
-use Rattle.lists.specs.Good.{Limited, Sized}
+use Rattle.lists.specs.Lists.{networkSizes, linkAt, flowAt, tunnelAt, networkSize, planSizes, rowAt, mostNetwork, mostPlan, mostNumbers}
+use Rattle.lists.specs.Good.{Limited, Sized, GoodPlan}
 
 -- ---- the links' numbers follow the head, the flows' those, and the tunnels' those
 
@@ -138,3 +140,16 @@ module _ (l : List ℕ) (s : Sized l) (n : Network) (same : n ≡ networkSizes l
 
   pub limited : Limited n
   limited = subst⁻¹ Limited same (s .counts)
+
+-- ---- each row of a plan lies in its list, and no plan's list is longer than the longest
+
+module _ (l : List ℕ) (g : GoodPlan l) where
+  pub row-in : (a : ℕ) → 1 ≤ a → a < planSizes l .steps → rowAt (planSizes l) a + planSizes l .tunnels ≤ length l
+  row-in a h k =
+      let up : (a - 1) + 1 ≤ planSizes l .steps - 1 = omega arith in
+      omega (arith, mul-le-mul-right (planSizes l .tunnels) up, g .size)
+
+  pub short-plan : length l ≤ mostPlan
+  short-plan =
+      let s : planSizes l .steps - 1 ≤ mostSteps - 1 = omega (arith, g .steps) in
+      omega (arith, g .size, mul-le-mul s (g .tunnels))

@@ -1,11 +1,23 @@
 -- `checker::check::check_steps` meets its contract.
-use mathlib.Core.Path.{sym, _∙_}
+use mathlib.Core.Path.{_≡_, sym, ap, _∙_}
+use Rattle.model.specs.Rule.{firstOverload}
+use Rattle.lists.specs.Lists.{networkOf, planOf}
+use Rattle.lists.specs.declared.Network as counts
+use Rattle.lists.proofs.Positions.{head-in}
+use Rattle.checker.proofs.Checking.{Named, none-gives, found-none, found-some, found-in, found-gives}
 use native.Mathlib.Omega.{arith}
 use borrow.Author.Needs.{needs}
-use Rattle.lists.specs.Lists.{networkOf, planOf}
-use Rattle.checker.proofs.Checking.{none-gives, found-none, found-some, found-in, found-gives}
 use Rattle.checker.proofs.check.check_steps.Statement.{statement}
 use Rattle.checker.proofs.check.check_steps.Tie as tie
+
+-- the network's own tunnels
+tunnels : (c : tie.After-of) → c .of .result .tunnels ≡ networkOf (c .before .before .before .before .before .before .before .args .network .now) .tunnels
+unfolding networkOf
+tunnels c = ap (λ (n : counts.Network). n .tunnels) (c .of .ensures)
+
+-- what is found
+named : (c : tie.After-found) → let a = c .before .before .before .before .before .before .args in Named (firstOverload (networkOf (a .network .now)) (planOf (a .plan .now))) (c .found .given .0 .0) (c .found .given .0 .1 .0) (c .found .given .0 .1 .1 .0)
+named c = found-some _ _ _ _ (sym (c .found .given .1) ∙ c .before .before .first-overload .ensures)
 
 first-overload-requires : tie.Need-first-overload-requires
 first-overload-requires c κs = search needs
@@ -16,44 +28,37 @@ enum-known-found c = search needs
 enum-told : tie.Need-enum-told
 enum-told c = search needs
 
-shared-slice-read-n : tie.Need-shared-slice-read-n
-shared-slice-read-n c = search needs
+of-requires : tie.Need-of-requires
+of-requires c κs = head-in _ (c .before .before .before .before .before .before .pre .0 .network .ranges .sized .size)
 
 clear-requires : tie.Need-clear-requires
-clear-requires c κs = search needs
+unfolding networkOf
+clear-requires c κs = omega (arith, tunnels (c .before), c .before .before .before .before .before .before .before .before .pre .1)
 
 same-length : tie.Need-same-length
 same-length c = search needs
 
 returns : tie.Need-returns
-returns c =
-    let t = c .before .before .before .before .before in
-    none-gives _ _ _ _ (found-none _ (sym (t .enum-told .given .1) ∙ t .before .before .first-overload .ensures)) (c .before .before .clear .ensures)
+returns c = let n = tunnels (c .before .before .before .before) in
+    rw n (none-gives _ _ _ _ (found-none _ (sym (c .before .before .before .before .before .enum-told .given .1) ∙ c .before .before .before .before .before .before .before .first-overload .ensures)) (rw n at (c .before .before .clear .ensures)))
 
 mark-requires : tie.Need-mark-requires
 unfolding networkOf planOf
 mark-requires c κs =
-    let f = c .before .before in
-    let o = f .before .before in
-    let d = o .before .before .before .before in
-    let s = found-in (networkOf (d .args .network .now)) (planOf (d .args .plan .now)) _ _ _ (found-some _ _ _ _ (sym (f .found .given .1) ∙ o .first-overload .ensures)) in
-    (d .pre .0, s .0, s .1, d .pre .1)
+    let s = found-in (networkOf (c .before .before .before .before .before .before .before .before .args .network .now)) (planOf (c .before .before .before .before .before .before .before .before .args .plan .now)) _ _ _ (named (c .before .before)) in
+    (c .before .before .before .before .before .before .before .before .pre .0, s .0, s .1, c .before .before .before .before .before .before .before .before .pre .1)
 
 add-step : tie.Need-add-step
 unfolding networkOf planOf
 add-step c =
-    let f = c .before .before .before .before .before in
-    let o = f .before .before in
-    let d = o .before .before .before .before in
-    omega (arith, d .pre .0 .plan .steps, found-in (networkOf (d .args .network .now)) (planOf (d .args .plan .now)) _ _ _ (found-some _ _ _ _ (sym (f .found .given .1) ∙ o .first-overload .ensures)) .0)
+    record { fits = omega (arith, c .before .before .before .before .before .before .before .before .before .before .before .pre .0 .plan .steps, found-in (networkOf (c .before .before .before .before .before .before .before .before .before .before .before .args .network .now)) (planOf (c .before .before .before .before .before .before .before .before .before .before .before .args .plan .now)) _ _ _ (named (c .before .before .before .before .before)) .0) }
 
 same-length-2 : tie.Need-same-length-2
 same-length-2 c = search needs
 
 returns-2 : tie.Need-returns-2
-returns-2 c =
-    let f = c .before .before .before .before .before in
-    found-gives _ _ _ _ _ _ _ (found-some _ _ _ _ (sym (f .found .given .1) ∙ f .before .before .first-overload .ensures)) (c .before .before .mark .ensures)
+unfolding networkOf
+returns-2 c = found-gives _ _ _ _ _ _ _ (named (c .before .before .before .before .before)) (c .before .before .mark .ensures)
 
 pub check-steps-spec : {M : Type 1} → statement M
 check-steps-spec =
@@ -62,7 +67,7 @@ check-steps-spec =
     first-overload-requires
     enum-known-found
     enum-told
-    shared-slice-read-n
+    of-requires
     clear-requires
     same-length
     returns

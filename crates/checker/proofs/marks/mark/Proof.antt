@@ -1,18 +1,26 @@
 -- `checker::marks::mark` meets its contract.
-use borrow.Author.Needs.{needs}
-use Rattle.lists.specs.Lists.{networkOf}
+use mathlib.Core.Path.{_≡_, ap}
+use Rattle.lists.specs.Lists.{networkSizes}
+use Rattle.lists.specs.declared.Network as counts
+use Rattle.lists.proofs.Positions.{head-in}
 use Rattle.checker.proofs.Marking.{marks-step}
+use native.Mathlib.Omega.{arith}
+use borrow.Author.Needs.{needs}
 use Rattle.checker.proofs.marks.mark.Statement.{statement}
 use Rattle.checker.proofs.marks.mark.Tie as tie
 
-shared-slice-read-n : tie.Need-shared-slice-read-n
-shared-slice-read-n c = search needs
+-- the network's own tunnels
+tunnels : (c : tie.After-of) → c .of .result .tunnels ≡ networkSizes (c .before .before .before .before .args .network .now) .tunnels
+tunnels c = ap (λ (n : counts.Network). n .tunnels) (c .of .ensures)
 
-slice-aggregate-line : tie.Need-slice-aggregate-line
-slice-aggregate-line c = search needs
+of-requires : tie.Need-of-requires
+of-requires c κs = head-in _ (c .before .before .before .pre .0 .network .ranges .sized .size)
 
-line-requires : tie.Need-line-requires
-line-requires c κs = search needs
+slice-aggregate-vias : tie.Need-slice-aggregate-vias
+slice-aggregate-vias c = search needs
+
+vias-requires : tie.Need-vias-requires
+vias-requires c κs = search needs
 
 slice-aggregate-row : tie.Need-slice-aggregate-row
 slice-aggregate-row c = search needs
@@ -39,27 +47,24 @@ slice-aggregate-mark-rising-3 : tie.Need-slice-aggregate-mark-rising-3
 slice-aggregate-mark-rising-3 c = search needs
 
 mark-rising-requires : tie.Need-mark-rising-requires
-mark-rising-requires c κs = search needs
+mark-rising-requires c κs = let d = c .before .before .before .before .before .before .before .before .before .before .before .before .before .before .before .before .before .pre in
+    let n = tunnels (c .before .before .before .before .before .before .before .before .before .before .before .before .before) in
+    let m = d .0 .network .ranges .sized .counts in
+    (omega (arith, n, m, c .before .before .before .before .before .before .before .before .before .before .before .vias2 .kept), omega (arith, n, m, c .before .before .before .before .before .before .before .before .row .kept), omega (arith, n, m, c .before .before .before .before .before .row2 .kept), omega (arith, n, d .3), omega (arith, m, d .2))
 
 same-length : tie.Need-same-length
 same-length c = search needs
 
 returns : tie.Need-returns
-unfolding networkOf
-returns c =
-    let p = c .before .before in
-    let r2 = p .before .before .before .before .before .before in
-    let r1 = r2 .before .before .before in
-    let l = r1 .before .before .before in
-    marks-step _ _ _ _ _ _ _ _ _ _ (l .line .ensures) (r1 .row .ensures) (r2 .row2 .ensures) (p .mark-rising .ensures)
+returns c = marks-step _ _ _ _ _ _ _ _ _ _ (c .before .before .before .before .before .before .before .before .before .before .before .before .before .before .vias2 .ensures) (c .before .before .before .before .before .before .before .before .before .before .before .row .ensures) (c .before .before .before .before .before .before .before .before .row2 .ensures) (rw (tunnels (c .before .before .before .before .before .before .before .before .before .before .before .before .before .before .before .before)) at (c .before .before .mark-rising .ensures))
 
 pub mark-spec : {M : Type 1} → statement M
 mark-spec =
     tie.close
     (tie.spec
-    shared-slice-read-n
-    slice-aggregate-line
-    line-requires
+    of-requires
+    slice-aggregate-vias
+    vias-requires
     slice-aggregate-row
     row-requires
     add-row

@@ -1,127 +1,70 @@
 -- `checker::rows::row` meets its contract.
-use Prim.Native.Nat.{_<_, _≤_, _-_, _*_}
+use Prim.Native.Nat.{_<_}
+use mathlib.Core.Path.{_≡_, ap, _∙_}
+use Rattle.lists.specs.Lists.{planSizes}
+use Rattle.lists.specs.declared.PlanSizes as counts
+use Rattle.checker.proofs.Good.{old-line, new-line, old-row, new-row, listed-row}
 use native.Mathlib.Omega.{arith}
-use native.Mathlib.Nat.{mul-le-mul}
 use borrow.Author.Needs.{needs}
-use Rattle.model.specs.Limits.{mostSteps, mostTunnels}
-use Rattle.lists.specs.Lists.{at}
-use Rattle.checker.proofs.Good.{network-column, network-holds, old-fits, new-fits, old-row, new-row, plan-column, plan-holds}
 use Rattle.checker.proofs.rows.row.Statement.{statement}
 use Rattle.checker.proofs.rows.row.Tie as tie
 
--- a row between the first and the last
-inner : (c : tie.Else2) → let d = c .before .before .before .before .before .before .before .before .before in (0 < d .args .a) × (d .args .a < at (d .args .plan .now) 2)
-inner c =
-    let d = c .before .before .before .before .before .before .before .before .before in
-    (omega (arith, c .before .if1 .left), omega (arith, c .if2 .left, d .pre .1))
+-- the plan's own parts and steps
+module _ (c : tie.After-of) where
+  abbrev begin : tie.Start
+  begin = c .before .before .before .before
 
-row-start : (c : tie.Else2) → let d = c .before .before .before .before .before .before .before .before .before in (d .args .a - 1) * c .before .before .before .before .before .of .result .tunnels ≤ mostSteps * mostTunnels
-row-start c =
-    let d = c .before .before .before .before .before .before .before .before .before in
-    let of = c .before .before .before .before .before .of .ensures in
-    mul-le-mul {n₁ = d .args .a - 1} {m₁ = c .before .before .before .before .before .of .result .tunnels} {n₂ = mostSteps} {m₂ = mostTunnels} (omega (arith, inner c, d .pre .0 .plan .steps)) (omega (arith, of, d .pre .0 .network .tunnels))
+  parts : c .of .result .parts ≡ planSizes (begin .args .plan .now) .parts
+  parts = ap (λ (n : counts.PlanSizes). n .parts) (c .of .ensures)
+
+  steps : c .of .result .steps ≡ planSizes (begin .args .plan .now) .steps
+  steps = ap (λ (n : counts.PlanSizes). n .steps) (c .of .ensures)
+
+-- a row between the first and the last
+inner : (c : tie.Else2) → (0 < c .before .before .before .before .before .before .before .args .a) × (c .before .before .before .before .before .before .before .args .a < planSizes (c .before .before .before .before .before .before .before .args .plan .now) .steps)
+inner c = (omega (arith, c .before .before .if1 .left), omega (arith, c .if2 .left, steps (c .before .before .before), c .before .before .before .before .before .before .before .pre .1))
 
 of-requires : tie.Need-of-requires
 of-requires c κs = search needs
 
-tunnels-at-requires : tie.Need-tunnels-at-requires
-tunnels-at-requires c κs = search needs
-
-shared-slice-read-parts : tie.Need-shared-slice-read-parts
-shared-slice-read-parts c = search needs
-
-shared-slice-read-steps : tie.Need-shared-slice-read-steps
-shared-slice-read-steps c = search needs
-
-add-column : tie.Need-add-column
-add-column c = search needs
-
-column-requires : tie.Need-column-requires
-column-requires c κs =
-    let t = c .before .before .before .before in
-    let d = t .before .before .before .before .before in
-    let of = t .before .of .ensures in
-    network-column _ (d .pre .0 .network) _ 2 _ _ (omega (arith, t .tunnels-at .ensures, of)) (of .2) _ (omega arith) (d .pre .2) (old-fits _ _ (d .pre .0))
+line-requires : tie.Need-line-requires
+line-requires c κs = let k = c .before .before .before .before .before .before .pre in (k .0 .network, rw (parts (c .before .before)) (old-line _ _ (k .0)), k .2)
 
 same-length : tie.Need-same-length
 same-length c = search needs
 
 returns : tie.Need-returns
-returns c =
-    let t = c .before .before .before .before .before .before .before in
-    let d = t .before .before .before .before .before in
-    let of = t .before .of .ensures in
-    network-holds _ (d .pre .0 .network) _ 2 _ _ (omega (arith, t .tunnels-at .ensures, of)) (of .2) _ _
-    (old-row _ _ (d .pre .0) _ (c .before .before .before .before .if1 .taken)) (c .before .before .column .ensures)
+returns c = let o = c .before .before .before .before .before in old-row _ _ (c .before .before .before .before .before .before .before .before .before .pre .0) _ _ (c .before .before .before .before .if1 .taken) (rw (parts o) at (c .before .before .line .ensures))
 
-add-column-2 : tie.Need-add-column-2
-add-column-2 c = search needs
-
-column-requires-2 : tie.Need-column-requires-2
-column-requires-2 c κs =
-    let t = c .before .before .before .before .before in
-    let d = t .before .before .before .before .before in
-    let of = t .before .of .ensures in
-    network-column _ (d .pre .0 .network) _ 3 _ _ (omega (arith, t .tunnels-at .ensures, of)) (of .2) _ (omega arith) (d .pre .2) (new-fits _ _ (d .pre .0))
+line-requires-2 : tie.Need-line-requires-2
+line-requires-2 c κs = let k = c .before .before .before .before .before .before .before .before .pre in (k .0 .network, rw (parts (c .before .before .before .before)) (new-line _ _ (k .0)), k .2)
 
 same-length-2 : tie.Need-same-length-2
 same-length-2 c = search needs
 
 returns-2 : tie.Need-returns-2
-returns-2 c =
-    let e = c .before .before .before .before .before in
-    let t = e .before .before .before in
-    let d = t .before .before .before .before .before in
-    let of = t .before .of .ensures in
-    let pos : 0 < d .args .a = omega (arith, e .if1 .left) in
-    network-holds _ (d .pre .0 .network) _ 3 _ _ (omega (arith, t .tunnels-at .ensures, of)) (of .2) _ _
-    (new-row _ _ (d .pre .0) _ (c .before .before .before .before .if2 .taken) pos) (c .before .before .column2 .ensures)
+returns-2 c = let o = c .before .before .before .before .before .before .before in new-row _ _ (c .before .before .before .before .before .before .before .before .before .before .before .pre .0) _ _ (c .before .before .before .before .if2 .taken ∙ steps o) (omega (arith, c .before .before .before .before .before .before .if1 .left)) (rw (parts o) at (c .before .before .line2 .ensures))
 
-sub-start : tie.Need-sub-start
-sub-start c = search needs
-
-mul-start : tie.Need-mul-start
-mul-start c = let b = row-start c in omega (arith, b)
-
-add-start : tie.Need-add-start
-add-start c = let b = row-start c in omega (arith, b)
-
-column-requires-3 : tie.Need-column-requires-3
-column-requires-3 c κs =
-    let i = inner (c .before) in
-    let t = c .before .before .before .before .before in
-    let d = t .before .before .before .before .before in
-    plan-column _ _ (d .pre .0) _ (i .0) (i .1) _ _ (t .before .of .ensures .2) (d .pre .2) (λ k. omega (arith, t .before .before .before .shared-slice-known2 .given k))
+listed-row-requires : tie.Need-listed-row-requires
+listed-row-requires c κs = let i = inner (c .before) in (c .before .before .before .before .before .before .before .before .pre .0 .plan, i .0, i .1, c .before .before .before .before .before .before .before .before .pre .2)
 
 same-length-3 : tie.Need-same-length-3
 same-length-3 c = search needs
 
 returns-3 : tie.Need-returns-3
-returns-3 c =
-    let i = inner (c .before .before .before .before) in
-    let t = c .before .before .before .before .before .before .before .before in
-    let d = t .before .before .before .before .before in
-    plan-holds _ _ (d .pre .0) _ (i .0) (i .1) _ (t .before .of .ensures .2) _ (c .before .before .column3 .ensures)
+returns-3 c = let i = inner (c .before .before .before .before) in listed-row _ _ (c .before .before .before .before .before .before .before .before .before .before .before .pre .0) _ _ (i .0) (i .1) (c .before .before .listed-row .ensures)
 
 pub row-spec : {M : Type 1} → statement M
 row-spec =
     tie.close
     (tie.spec
     of-requires
-    tunnels-at-requires
-    shared-slice-read-parts
-    shared-slice-read-steps
-    add-column
-    column-requires
+    line-requires
     same-length
     returns
-    add-column-2
-    column-requires-2
+    line-requires-2
     same-length-2
     returns-2
-    sub-start
-    mul-start
-    add-start
-    column-requires-3
+    listed-row-requires
     same-length-3
     returns-3)

@@ -1,55 +1,93 @@
 -- `checker::steps::over` meets its contract.
-use native.Mathlib.Omega.{arith}
-use borrow.Author.Needs.{needs}
-use Rattle.lists.specs.Lists.{at, networkOf}
+use Prim.Native.Nat.{ℕ, _<_}
+use mathlib.Core.Path.{_≡_, ap}
+use mathlib.Core.List.{List}
+use lib.ListN.{getD}
+use Rattle.model.specs.Net.{Net}
 use Rattle.checker.specs.Columns.{linkSum}
+use Rattle.lists.specs.Lists.{at, networkSizes, networkOf}
+use Rattle.lists.specs.declared.Network as counts
+use Rattle.lists.proofs.Positions.{LinkPlace, link-place, limited, head-in, head-size}
 use Rattle.checker.proofs.Good.{room-small, overrun-small, most-small}
 use Rattle.checker.proofs.Overloads.{over-7, over-8, over-0}
+use native.Mathlib.Omega.{arith}
+use borrow.Author.Needs.{needs}
 use Rattle.checker.proofs.steps.over.Statement.{statement}
 use Rattle.checker.proofs.steps.over.Tie as tie
 
-shared-slice-read-n : tie.Need-shared-slice-read-n
-shared-slice-read-n c = search needs
+-- the network's own sizes
+module _ (c : tie.After-of) where
+  abbrev begin : tie.Start
+  begin = c .before .before .before .before .before
+
+  abbrev list : List ℕ
+  list = begin .args .network .now
+
+  abbrev N : Net
+  N = networkOf list
+
+  tunnels : c .of .result .tunnels ≡ networkSizes list .tunnels
+  tunnels = ap (λ (n : counts.Network). n .tunnels) (c .of .ensures)
+
+  link-low : begin .args .l < c .of .result .links
+  link-low = omega (arith, begin .pre .0 .1, ap (λ (n : counts.Network). n .links) (c .of .ensures))
+
+-- the link's place and what it has room for
+module _ (c : tie.After-link-at) where
+  abbrev sizes : tie.After-of
+  sizes = c .before .before
+
+  place : LinkPlace (list sizes) (begin sizes .args .l) (c .link-at .result)
+  place = link-place _ (begin sizes .pre .0 .0 .ranges .sized) _ (sizes .of .ensures) _ _ (link-low sizes) (c .link-at .ensures)
+
+  cap-at : getD (list sizes) (c .link-at .result) 0 ≡ N sizes .cap (begin sizes .args .l)
+  unfolding networkOf
+  cap-at = ap (at (list sizes)) (place .here)
+
+of-requires : tie.Need-of-requires
+of-requires c κs = head-in _ (c .before .before .before .before .pre .0 .0 .ranges .sized .size)
 
 shared-slice-read-overrun : tie.Need-shared-slice-read-overrun
-shared-slice-read-overrun c = search needs
+shared-slice-read-overrun c = omega (arith, head-in _ (c .before .before .before .before .before .before .pre .0 .0 .ranges .sized .size), head-size (networkSizes (c .before .before .before .before .before .before .args .network .now)))
 
-add-room : tie.Need-add-room
-add-room c = search needs
+link-at-requires : tie.Need-link-at-requires
+link-at-requires c κs = (limited _ (c .before .before .before .before .before .before .pre .0 .0 .ranges .sized) _ (c .before .of .ensures), omega (arith, link-low (c .before)))
 
 mul-room : tie.Need-mul-room
-mul-room c = search needs
+mul-room c = record { fits = omega (arith, place c .few) }
 
 shared-slice-read-room : tie.Need-shared-slice-read-room
-shared-slice-read-room c = search needs
+shared-slice-read-room c = omega (arith, place (c .before) .within)
 
 mul-room-2 : tie.Need-mul-room-2
-mul-room-2 c =
-    let d = c .before .before .before .before .before .before .before in
-    omega (arith, room-small (d .args .network .now) (d .pre .0 .0) (d .args .l) (d .args .parts) (d .pre .0 .1) (d .pre .0 .2))
+mul-room-2 c = let p = c .before in record { fits = omega (arith, room-small _ (c .before .before .before .before .before .before .before .before .pre .0 .0) _ (c .before .before .before .before .before .before .before .before .args .parts) _ (place p .there) (cap-at p) (c .before .before .before .before .before .before .before .before .pre .0 .2)) }
 
 load-requires : tie.Need-load-requires
-load-requires c κs = search needs
+load-requires c κs = let d = c .before .before .before .before .before .before .before .before .pre in
+    let n = tunnels (c .before .before .before) in
+    let m = d .0 .0 .ranges .sized .counts in
+    (omega (arith, n, m), omega (arith, n, m, d .0 .3), omega (arith, n, m, d .0 .5), omega (arith, m, d .0 .1), rw n (d .1 .1))
 
 returns : tie.Need-returns
 unfolding networkOf
 returns c =
-    let d = c .before .before .before .before .before .before .before .before .before in
-    let n = d .args .network .now in
-    over-7 (networkOf n) _ (d .args .l) _ (linkSum (d .args .vias .now) (d .args .all .now) (at n 5) (d .args .l)) _ (c .before .load .ensures .0) (c .if1 .taken)
+    let s = c .before .before .before .before .before in
+    let p = c .before .before .before in
+    over-7 (N s) _ (c .before .before .before .before .before .before .before .before .before .before .args .l) _ (linkSum (c .before .before .before .before .before .before .before .before .before .before .args .vias .now) (c .before .before .before .before .before .before .before .before .before .before .args .all .now) (networkSizes (list s) .tunnels) (c .before .before .before .before .before .before .before .before .before .before .args .l)) _ (rw (tunnels s) at (c .before .load .ensures .0)) (rw (cap-at p) at (c .if1 .taken))
 
 add-if2 : tie.Need-add-if2
-add-if2 c =
-    let d = c .before .before .before .before .before .before .before .before .before in
-    omega (arith, overrun-small (d .args .network .now) (d .pre .0 .0))
+unfolding networkOf
+add-if2 c = record { fits = omega (arith, overrun-small _ (c .before .before .before .before .before .before .before .before .before .before .pre .0 .0)) }
 
 mul-if2 : tie.Need-mul-if2
-mul-if2 c =
-    let d = c .before .before .before .before .before .before .before .before .before in
-    omega (arith, most-small (d .args .network .now) (d .pre .0 .0) (d .args .l) (d .args .parts) (d .pre .0 .1) (d .pre .0 .2))
+unfolding networkOf
+mul-if2 c = let p = c .before .before .before in record { fits = omega (arith, most-small _ (c .before .before .before .before .before .before .before .before .before .before .pre .0 .0) _ (c .before .before .before .before .before .before .before .before .before .before .args .parts) _ (place p .there) (cap-at p) (c .before .before .before .before .before .before .before .before .before .before .pre .0 .2)) }
 
 load-requires-2 : tie.Need-load-requires-2
-load-requires-2 c κs = search needs
+load-requires-2 c κs = let d = c .before .before .before .before .before .before .before .before .before .before .pre in
+    let n = tunnels (c .before .before .before .before .before) in
+    let m = d .0 .0 .ranges .sized .counts in
+    (omega (arith, n, m), omega (arith, n, m, d .0 .3), omega (arith, n, m, d .0 .4), omega (arith, m, d .0 .1), rw n (d .1 .0))
 
 mul-if2-2 : tie.Need-mul-if2-2
 mul-if2-2 c = search needs
@@ -57,22 +95,24 @@ mul-if2-2 c = search needs
 returns-2 : tie.Need-returns-2
 unfolding networkOf
 returns-2 c =
-    let d = c .before .before .before .before .before .before .before .before .before .before .before in
-    over-8 (networkOf (d .args .network .now)) _ (d .args .l) _ _ _ _ (c .before .before .before .load .ensures .0) (c .before .load2 .ensures .0) (c .before .before .if1 .left) (c .if2 .taken)
+    let s = c .before .before .before .before .before .before .before in
+    let p = c .before .before .before .before .before in
+    over-8 (N s) _ (c .before .before .before .before .before .before .before .before .before .before .before .before .args .l) _ _ _ _ (rw (tunnels s) at (c .before .before .before .load .ensures .0)) (rw (tunnels s) at (c .before .load2 .ensures .0)) (rw (cap-at p) at (c .before .before .if1 .left)) (rw (cap-at p) at (c .if2 .taken))
 
 returns-3 : tie.Need-returns-3
 unfolding networkOf
 returns-3 c =
-    let d = c .before .before .before .before .before .before .before .before .before .before .before in
-    over-0 (networkOf (d .args .network .now)) _ (d .args .l) _ _ _ _ (c .before .before .before .load .ensures .0) (c .before .load2 .ensures .0) (c .before .before .if1 .left) (c .if2 .left)
+    let s = c .before .before .before .before .before .before .before in
+    let p = c .before .before .before .before .before in
+    over-0 (N s) _ (c .before .before .before .before .before .before .before .before .before .before .before .before .args .l) _ _ _ _ (rw (tunnels s) at (c .before .before .before .load .ensures .0)) (rw (tunnels s) at (c .before .load2 .ensures .0)) (rw (cap-at p) at (c .before .before .if1 .left)) (rw (cap-at p) at (c .if2 .left))
 
 pub over-spec : {M : Type 1} → statement M
 over-spec =
     tie.close
     (tie.spec
-    shared-slice-read-n
+    of-requires
     shared-slice-read-overrun
-    add-room
+    link-at-requires
     mul-room
     shared-slice-read-room
     mul-room-2

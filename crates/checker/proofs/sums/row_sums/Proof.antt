@@ -1,67 +1,96 @@
 -- `checker::sums::row_sums` meets its contract.
-use Prim.Native.Nat.{_≤_, _-_, _*_}
-use mathlib.Core.Path.{_≡_, _∙_}
+use Prim.Native.Nat.{ℕ, _≤_, _<_, _-_, _+_, _*_, _^_}
+use mathlib.Core.Path.{_≡_, ap, _∙_, sym}
+use mathlib.Core.List.{List}
+use native.Mathlib.Nat.{lt-of-lt-of-le}
+use lib.ListN.{length, getD}
+use Rattle.model.specs.Limits.{mostFlows, mostTunnels, mostSteps, mostAmount}
+use Rattle.model.specs.Net.{Net}
+use Rattle.lists.specs.Lists.{at, networkSizes, networkOf}
+use Rattle.lists.specs.declared.Network as counts
+use Rattle.lists.proofs.Positions.{TunnelPlace, tunnel-place, limited, head-in}
+use Rattle.forms.specs.Sums.{Gathered}
+use Rattle.forms.proofs.Gathering.{gathered-none, gathered-more, gathered-fits}
+use Rattle.checker.proofs.Totals.{gathered-at}
 use native.Mathlib.Omega.{arith}
 use borrow.Author.Needs.{needs}
-use lib.ListN.{getD}
-use Rattle.model.specs.Limits.{mostSteps, mostAmount}
-use Rattle.checker.proofs.Totals.{gathered-at, Named, named-at, sums-more}
-use Rattle.lists.specs.Lists.{tunnelAt, networkOf}
-use Rattle.forms.specs.Sums.{Gathered}
-use Rattle.forms.proofs.Gathering.{gathered-none, gathered-fits}
 use Rattle.checker.proofs.sums.row_sums.Statement.{statement}
 use Rattle.checker.proofs.sums.row_sums.Tie as tie
 
 abbrev Inv-loop : tie.InvT-loop
-Inv-loop network row sums₀ n at₀ t₀ sums at t = (t ≤ n) × (at ≡ tunnelAt network t) × Gathered (networkOf network) (λ k. getD row k 0) t sums
+Inv-loop network row sums₀ sizes t₀ sums t = record { low : t ≤ sizes .tunnels; gathered : Gathered (networkOf network) (λ k. getD row k 0) t sums }
 
 abbrev μ-loop : tie.MeasureT-loop
-μ-loop network row sums₀ n at₀ t₀ sums at t = n - t
+μ-loop network row sums₀ sizes t₀ sums t = sizes .tunnels - t
 
--- what is read in a turn
-here : (c : tie.In-loop Inv-loop μ-loop) → let d = c .before .before .before .before .before .before .before in Named (d .args .network .now) (c .before .loop .at) (c .before .loop .t)
-here c =
-    let d = c .before .before .before .before .before .before .before in
-    named-at _ (d .pre .0) _ _ (c .before .loop .inv .1) (omega (arith, c .loop-test .taken, c .before .before .before .of .ensures))
+-- in a turn: the tunnel's place
+module _ (c : tie.After-tunnel-at Inv-loop μ-loop) where
+  abbrev begin : tie.Start Inv-loop μ-loop
+  begin = c .before .before .before .before .before .before .before .before
+
+  abbrev list : List ℕ
+  list = begin .args .network .now
+
+  abbrev t : ℕ
+  t = c .before .before .before .loop .t
+
+  place : TunnelPlace list t (c .tunnel-at .result)
+  place = tunnel-place list (begin .pre .0 .ranges .sized) _ (c .before .before .before .before .of .ensures) t _ (c .before .if1 .taken) (c .tunnel-at .ensures)
+
+  abbrev N : Net
+  N = networkOf list
+
+  flow-at : getD list (c .tunnel-at .result) 0 ≡ N .flow t
+  unfolding networkOf
+  flow-at = ap (at list) (place .here)
+
+  flow-low : N .flow t < mostFlows
+  unfolding networkOf
+  flow-low = lt-of-lt-of-le (begin .pre .0 .ranges .flow t (place .there)) (begin .pre .0 .ranges .sized .counts .flows)
+
+  flow-room : getD list (c .tunnel-at .result) 0 < length (c .before .before .before .loop .sums)
+  flow-room = rw (flow-at, c .before .before .before .loop .inv .gathered .size) flow-low
+
+  low : t < mostTunnels
+  low = omega (arith, place .there, begin .pre .0 .ranges .sized .counts)
+
+  sum-fits : getD (c .before .before .before .loop .sums) (N .flow t) 0 + getD (begin .args .row .now) t 0 < 2 ^ 64
+  sum-fits =
+      gathered-fits N (λ k. getD (begin .args .row .now) k 0) (mostAmount * mostSteps) t _ _ (omega arith) (c .before .before .before .loop .inv .gathered) flow-low low
+      (λ u h. begin .pre .2 .each u (omega (arith, place .there)))
 
 of-requires : tie.Need-of-requires Inv-loop μ-loop
-of-requires c κs = search needs
-
-tunnels-at-requires : tie.Need-tunnels-at-requires Inv-loop μ-loop
-tunnels-at-requires c κs = search needs
+of-requires c κs = head-in _ (c .before .before .before .pre .0 .ranges .sized .size)
 
 loop-holds : tie.Need-loop-holds Inv-loop μ-loop
-loop-holds c = (omega arith, omega (arith, c .tunnels-at .ensures, c .before .of .ensures), gathered-none _ _ _ (c .before .before .before .before .before .pre .3))
+loop-holds c = record { low = omega arith; gathered = gathered-none _ _ _ (c .before .before .before .before .pre .3) }
+
+tunnel-at-requires : tie.Need-tunnel-at-requires Inv-loop μ-loop
+tunnel-at-requires c κs = (limited _ (c .before .before .before .before .before .before .before .pre .0 .ranges .sized) _ (c .before .before .before .of .ensures), omega (arith, c .if1 .taken))
 
 mul-flow : tie.Need-mul-flow Inv-loop μ-loop
-mul-flow c = let h = here c in omega (arith, h)
+mul-flow c = record { fits = omega (arith, place c .few) }
 
 shared-slice-read-flow : tie.Need-shared-slice-read-flow Inv-loop μ-loop
-shared-slice-read-flow c = let h = here (c .before) in search needs
+shared-slice-read-flow c = omega (arith, place (c .before) .within)
 
 mul-sums : tie.Need-mul-sums Inv-loop μ-loop
-mul-sums c = search needs
+mul-sums c = record { fits = omega (arith, low (c .before)) }
 
 shared-slice-read-sums : tie.Need-shared-slice-read-sums Inv-loop μ-loop
-shared-slice-read-sums c = search needs
+shared-slice-read-sums c = omega (arith, low (c .before .before), c .before .before .before .before .before .before .before .before .before .before .pre .1)
 
 mul-sums-2 : tie.Need-mul-sums-2 Inv-loop μ-loop
-mul-sums-2 c = let h = here (c .before .before) in omega (arith, h)
+mul-sums-2 c = let p = c .before .before in record { fits = omega (arith, flow-at p, flow-low p) }
 
 slice-read-sums : tie.Need-slice-read-sums Inv-loop μ-loop
-slice-read-sums c = let h = here (c .before .before .before) in let g = c .before .before .before .before .loop .inv .2 .size in search needs
+slice-read-sums c = flow-room (c .before .before .before)
 
 add-sums : tie.Need-add-sums Inv-loop μ-loop
-add-sums c =
-    let k = c .before .before .before in
-    let d = k .before .before .before .before .before .before .before in
-    record { fits = gathered-fits _ _ (mostAmount * mostSteps) _ _ _ (omega arith) (k .before .loop .inv .2) (here k .small) (omega (arith, k .loop-test .taken, k .before .before .before .of .ensures, d .pre .0 .tunnels)) (λ t h. d .pre .2 .each t (omega (arith, k .loop-test .taken, k .before .before .before .of .ensures))) }
+add-sums c = let p = c .before .before .before in record { fits = rw (flow-at p) (sum-fits p) }
 
 slice-write-sums : tie.Need-slice-write-sums Inv-loop μ-loop
-slice-write-sums c = let h = here (c .before .before .before) in let g = c .before .before .before .before .loop .inv .2 .size in search needs
-
-add-at : tie.Need-add-at Inv-loop μ-loop
-add-at c = search needs
+slice-write-sums c = flow-room (c .before .before .before)
 
 add-t : tie.Need-add-t Inv-loop μ-loop
 add-t c = search needs
@@ -70,18 +99,18 @@ loop-less : tie.Need-loop-less Inv-loop μ-loop
 loop-less c = search needs
 
 loop-again : tie.Need-loop-again Inv-loop μ-loop
-loop-again c =
-    let k = c .before .before .before in
-    (omega arith, omega (arith, k .before .loop .inv .1), sums-more _ _ _ (here k) _ _ (k .before .loop .inv .2))
+loop-again c = let p = c .before .before .before in
+    record {
+      low = omega (arith, c .before .before .before .before .if1 .taken);
+      gathered = rw (flow-at p) (gathered-more (N p) (λ k. getD (c .before .before .before .before .before .before .before .before .before .before .before .args .row .now) k 0) (t p) _ (flow-low p) (c .before .before .before .before .before .before .loop .inv .gathered));
+    }
 
 same-length : tie.Need-same-length Inv-loop μ-loop
-same-length c = search needs
+same-length c = c .before .before .loop .inv .gathered .size ∙ sym (ap length (c .before .before .before .before .before .before .before .pre .3))
 
 returns : tie.Need-returns Inv-loop μ-loop
-returns c =
-    let k = c .before in
-    let e : k .loop .t ≡ k .before .before .of .result .tunnels = omega arith in
-    gathered-at _ _ _ _ _ (e ∙ k .before .before .of .ensures .2) (k .loop .inv .2)
+returns c = let e : c .before .before .loop .t ≡ networkSizes (c .before .before .before .before .before .before .before .args .network .now) .tunnels = omega (arith, c .before .before .loop .inv .low, ap (λ (n : counts.Network). n .tunnels) (c .before .before .before .of .ensures)) in
+    gathered-at _ _ _ _ _ e (c .before .before .loop .inv .gathered)
 
 pub row-sums-spec : {M : Type 1} → statement M
 row-sums-spec =
@@ -90,8 +119,8 @@ row-sums-spec =
     Inv-loop
     μ-loop
     of-requires
-    tunnels-at-requires
     loop-holds
+    tunnel-at-requires
     mul-flow
     shared-slice-read-flow
     mul-sums
@@ -100,7 +129,6 @@ row-sums-spec =
     slice-read-sums
     add-sums
     slice-write-sums
-    add-at
     add-t
     loop-less
     loop-again
