@@ -59,10 +59,10 @@ loop-holds : tie.Need-loop-holds Inv-loop μ-loop
 loop-holds c = record { low = omega arith; size = refl; held = holds-none _ _ }
 
 add-out : tie.Need-add-out Inv-loop μ-loop
-add-out c = record { fits = omega (arith, few (c)) }
+add-out c = record { fits = omega (arith, few c) }
 
 mul-out : tie.Need-mul-out Inv-loop μ-loop
-mul-out c = record { fits = omega (arith, few (c)) }
+mul-out c = record { fits = omega (arith, few c) }
 
 shared-slice-read-out : tie.Need-shared-slice-read-out Inv-loop μ-loop
 shared-slice-read-out c = within (c .before)

@@ -1,13 +1,15 @@
 -- `checker::steps::over` meets its contract.
-use Prim.Native.Nat.{ℕ, _<_}
+use Prim.Native.Nat.{ℕ, _≤_, _<_}
 use mathlib.Core.Path.{_≡_, ap}
 use mathlib.Core.List.{List}
 use lib.ListN.{getD}
+use Rattle.model.specs.Limits.{mostLinks, mostTunnels}
 use Rattle.model.specs.Net.{Net}
-use Rattle.checker.specs.Columns.{linkSum}
+use Rattle.checker.specs.Columns.{Small, linkSum}
 use Rattle.lists.specs.Lists.{at, networkSizes, networkOf}
 use Rattle.lists.specs.declared.Network as counts
 use Rattle.lists.proofs.Positions.{LinkPlace, link-place, limited, head-in, head-size}
+use Rattle.checker.proofs.Laws.{small-at}
 use Rattle.checker.proofs.Good.{room-small, overrun-small, most-small}
 use Rattle.checker.proofs.Overloads.{over-7, over-8, over-0}
 use native.Mathlib.Omega.{arith}
@@ -31,6 +33,13 @@ module _ (c : tie.After-of) where
 
   link-low : begin .args .l < c .of .result .links
   link-low = omega (arith, begin .pre .0 .1, ap (λ (n : counts.Network). n .links) (c .of .ensures))
+
+  -- the loads can be added up
+  loads : (c .of .result .tunnels ≤ mostTunnels) × (begin .args .l < mostLinks) × Small (begin .args .protected .now) (c .of .result .tunnels) × Small (begin .args .all .now) (c .of .result .tunnels)
+  loads =
+      let m = begin .pre .0 .0 .ranges .sized .counts in
+      let n : c .of .result .tunnels ≤ networkSizes list .tunnels = omega (arith, tunnels) in
+      (omega (arith, n, m), omega (arith, begin .pre .0 .1, m), small-at _ _ _ (begin .pre .1 .1) n, small-at _ _ _ (begin .pre .1 .0) n)
 
 -- the link's place and what it has room for
 module _ (c : tie.After-link-at) where
@@ -63,10 +72,7 @@ mul-room-2 : tie.Need-mul-room-2
 mul-room-2 c = let p = c .before in record { fits = omega (arith, room-small _ (c .before .before .before .before .before .before .before .before .pre .0 .0) _ (c .before .before .before .before .before .before .before .before .args .parts) _ (place p .there) (cap-at p) (c .before .before .before .before .before .before .before .before .pre .0 .2)) }
 
 load-requires : tie.Need-load-requires
-load-requires c κs = let d = c .before .before .before .before .before .before .before .before .pre in
-    let n = tunnels (c .before .before .before) in
-    let m = d .0 .0 .ranges .sized .counts in
-    (omega (arith, n, m), omega (arith, n, m, d .0 .3), omega (arith, n, m, d .0 .5), omega (arith, m, d .0 .1), rw n (d .1 .1))
+load-requires c κs = let s = loads (c .before .before .before) in search needs
 
 returns : tie.Need-returns
 unfolding networkOf
@@ -84,10 +90,7 @@ unfolding networkOf
 mul-if2 c = let p = c .before .before .before in record { fits = omega (arith, most-small _ (c .before .before .before .before .before .before .before .before .before .before .pre .0 .0) _ (c .before .before .before .before .before .before .before .before .before .before .args .parts) _ (place p .there) (cap-at p) (c .before .before .before .before .before .before .before .before .before .before .pre .0 .2)) }
 
 load-requires-2 : tie.Need-load-requires-2
-load-requires-2 c κs = let d = c .before .before .before .before .before .before .before .before .before .before .pre in
-    let n = tunnels (c .before .before .before .before .before) in
-    let m = d .0 .0 .ranges .sized .counts in
-    (omega (arith, n, m), omega (arith, n, m, d .0 .3), omega (arith, n, m, d .0 .4), omega (arith, m, d .0 .1), rw n (d .1 .0))
+load-requires-2 c κs = let s = loads (c .before .before .before .before .before) in search needs
 
 mul-if2-2 : tie.Need-mul-if2-2
 mul-if2-2 c = search needs

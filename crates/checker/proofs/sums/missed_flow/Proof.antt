@@ -57,7 +57,7 @@ loop-holds : tie.Need-loop-holds Inv-loop μ-loop
 loop-holds c = record { low = omega arith; met = λ k h. absurd (omega arith) }
 
 mul-if2 : tie.Need-mul-if2 Inv-loop μ-loop
-mul-if2 c = record { fits = omega (arith, low (c)) }
+mul-if2 c = record { fits = omega (arith, low c) }
 
 shared-slice-read-if2 : tie.Need-shared-slice-read-if2 Inv-loop μ-loop
 shared-slice-read-if2 c = omega (arith, low (c .before), c .before .before .before .before .before .before .before .pre .2)
