@@ -1,20 +1,20 @@
 -- The arrays of the programs have room for every network and every plan, and what stands in them after an operation is what it gave.
-use Prim.Native.Nat.{ℕ, _+_, _-_, _*_, _≤_}
+use Prim.Native.Nat.{ℕ, _+_, _≤_}
 use mathlib.Core.Path.{_≡_, refl, sym, ap, _∙_}
 use mathlib.Core.List.{List, _++_}
 use mathlib.Core.Logic.{_⊎_, ⊎-elim}
 use native.Mathlib.Omega.{arith}
-use native.Mathlib.Nat.{mul-le-mul}
 use lib.ListN.{length, take, drop, length-append}
 use lib.Seq.{take-append-seam}
 use denote.Enum.Declared.{tagOf}
 use Rattle.model.specs.Outcome.{Outcome, good, refused, andThen}
-use Rattle.lists.specs.Lists.{at}
+use Rattle.lists.specs.Lists.{mostNetwork, mostPlan}
 use Rattle.lists.specs.Answers.{withRoom, done, plan, lent}
 use Rattle.lists.specs.declared.Answer.{Answer}
 use Rattle.lists.specs.declared.Answer.the-variants.{Done, Plan}
 use Rattle.lists.proofs.Answer.{the-type}
 use Rattle.forms.specs.declared.form.Form.the-variants as form
+use Rattle.lists.proofs.Positions.{short, short-plan}
 use Rattle.lists.proofs.Rooms.{good-room}
 use Rattle.forms.proofs.Answers.{done-good}
 use Rattle.forms.proofs.Good.{good-network, good-plan}
@@ -29,23 +29,17 @@ fits : (room : ℕ) (o : Outcome (List ℕ)) → ((l : List ℕ) → o ≡ good 
 fits room (good l) h = good-room room l (h l refl)
 fits room (refused c place second) h = refl
 
-plan-length : (l : List ℕ) → judgePlan l ≡ good l → length l ≤ 4708
-plan-length l e =
-    let g = good-plan l l e .1 in
-    let s : at l 2 - 1 ≤ 49 = omega (arith, g .steps .1) in
-    let q : (at l 2 - 1) * at l 3 ≤ 49 * 96 = mul-le-mul s (g .tunnels) in
-    omega (arith, g .size, q)
+plan-length : (l : List ℕ) → judgePlan l ≡ good l → length l ≤ mostPlan
+plan-length l e = short-plan l (good-plan l l e .1)
 
-pub network-fits : (room : ℕ) (text : List ℕ) → 518 ≤ room → withRoom room (readNetwork text) ≡ readNetwork text
-network-fits room text h = fits room (readNetwork text) (λ l e.
-    let g = good-network l l (read-good form.Network text l e) .1 in
-    omega (arith, g .size, g .links .1, g .flows, g .tunnels))
+pub network-fits : (text : List ℕ) → withRoom mostNetwork (readNetwork text) ≡ readNetwork text
+network-fits text = fits mostNetwork (readNetwork text) (λ l e. short l (good-network l l (read-good form.Network text l e) .1 .ranges .sized))
 
-pub plan-fits : (room : ℕ) (text : List ℕ) → 4708 ≤ room → withRoom room (readPlan text) ≡ readPlan text
-plan-fits room text h = fits room (readPlan text) (λ l e. omega (arith, plan-length l (read-good form.Plan text l e)))
+pub plan-fits : (text : List ℕ) → withRoom mostPlan (readPlan text) ≡ readPlan text
+plan-fits text = fits mostPlan (readPlan text) (λ l e. plan-length l (read-good form.Plan text l e))
 
-pub planned-fits : (room : ℕ) (network : List ℕ) → 4708 ≤ room → withRoom room (planned network) ≡ planned network
-planned-fits room network h = fits room (planned network) (λ l e. omega (arith, plan-length l (safe network l e .judged)))
+pub planned-fits : (network : List ℕ) → withRoom mostPlan (planned network) ≡ planned network
+planned-fits network = fits mostPlan (planned network) (λ l e. plan-length l (safe network l e .judged))
 
 -- ---- what an answer with a length tells: what was given stands at the front
 

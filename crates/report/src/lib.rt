@@ -1,11 +1,5 @@
-// What the two programs share: the room that they keep, and how they print a refusal.
+// What the two programs share: how they print a refusal.
 use libc::STDOUT_FILENO;
-
-// No valid network has more numbers: 6, then 64 links, 32 flows of 2 and 96 tunnels of 4.
-pub const NETWORK: usize = 518;
-
-// No valid plan has more numbers: 4, then 49 rows of 96 tunnels.
-pub const PLAN: usize = 4708;
 
 // The lines of a refusal: "it prints the lines `refused=`, `place=`, `second=` instead".
 pub fn print_refusal(number: u64, place: u64, second: u64) {
