@@ -10,7 +10,7 @@ use lib.Dec.{eqb, leb}
 use Rattle.model.specs.Outcome.{Outcome, good, refused, andThen, Cause, number, unless, Place}
 use Rattle.model.specs.Scan.{Bound, cause}
 use Rattle.model.specs.Rule as rule
-use Rattle.lists.specs.Lists.{at, networkOf, planOf}
+use Rattle.lists.specs.Lists.{networkOf, planSizes, planOf}
 use Rattle.forms.specs.Form.{fieldOf, admitsOf, secondOf}
 use Rattle.forms.specs.Read.{walk, onField, onValue, itself, judgeNumbers, addUp}
 use Rattle.forms.specs.declared.form.Form.{Form}
@@ -66,7 +66,7 @@ judged-plan l = then-all (judgeNumbers Plan l) (addUp Plan) (walk-all Plan 1 [] 
 
 rows-all : (n p : List ℕ) → NotOver (judgeRows n p)
 rows-all n p =
-    cond-all (eqb (at p 3) (at n 5)) (unless Cause.missedRow (rule.missedRow (networkOf n) (planOf p)) (good p)) (refused Cause.otherTunnels 4 1)
+    cond-all (eqb (planSizes p .tunnels) (networkOf n .tunnels)) (unless Cause.missedRow (rule.missedRow (networkOf n) (planOf p)) (good p)) (refused Cause.otherTunnels 4 1)
     (missed-all Cause.missedRow p (rule.missedRow (networkOf n) (planOf p)) (inl (omega arith)))
     (inl (omega arith))
 
@@ -76,8 +76,8 @@ pair-all n p =
 
 pub verdict-all : (n p : List ℕ) (room : ℕ) → NotOver (verdict n p room)
 verdict-all n p room =
-    then-all (judgePair n p) (λ q. cond (leb (at n 5) room) (good (rule.firstOverload (networkOf n) (planOf q))) (refused Cause.noRoom (at n 5) 0)) (pair-all n p) (λ q.
-    cond-all (leb (at n 5) room) (good (rule.firstOverload (networkOf n) (planOf q))) (refused Cause.noRoom (at n 5) 0) tt (inr (omega arith)))
+    then-all (judgePair n p) (λ q. cond (leb (networkOf n .tunnels) room) (good (rule.firstOverload (networkOf n) (planOf q))) (refused Cause.noRoom (networkOf n .tunnels) 0)) (pair-all n p) (λ q.
+    cond-all (leb (networkOf n .tunnels) room) (good (rule.firstOverload (networkOf n) (planOf q))) (refused Cause.noRoom (networkOf n .tunnels) 0) tt (inr (omega arith)))
 
 -- so a refusal by 7 or 8 is an overload
 pub over-number : (b : Bound) (k : ℕ) → k ≡ number (cause b) → (k < 7) ⊎ (8 < k) → ⊥

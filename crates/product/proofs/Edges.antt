@@ -8,7 +8,7 @@ use Rattle.model.specs.Scan.{scan, testLink, test}
 use Rattle.model.specs.Rule.{crosses, onLink, counts, load, exceeds, flowSum, missedBy, missedRate, missedIn, missedRow, stepCount, worst, worstOver, firstOverload, accepted, mark}
 use Rattle.model.specs.Even.{evenRow, even, fewest, ceilDiv, stepBound}
 use Rattle.model.specs.Listed.{listed}
-use Rattle.lists.specs.Lists.{networkOf, planOf}
+use Rattle.lists.specs.Lists.{networkSizes, linkAt, flowAt, tunnelAt, networkOf, planOf}
 use Rattle.bound.specs.Bound.{boundOf}
 use Rattle.forms.specs.Form.{networkBody, fieldOf}
 use Rattle.forms.specs.Read.{walk, judgeNumbers, addUp}
@@ -16,5 +16,5 @@ use Rattle.planner.specs.Planned.{evenRows, evenList, stuck, byFewest, evenPlan
 use Rattle.product.specs.Edges.{edges, same, hold}
 
 pub edges-hold : hold edges ≡ true
-unfolding edges same hold boundOf stepBound ceilDiv planned evenPlan byFewest stuck evenList evenRows listed judgeNumbers walk fieldOf networkBody addUp networkOf planOf missedRate missedBy missedRow missedIn flowSum fewest accepted even evenRow firstOverload stepCount scan testLink test worstOver exceeds load counts worst onLink crosses mark row sumOver onlyIf isNone orElse first
+unfolding edges same hold boundOf stepBound ceilDiv planned evenPlan byFewest stuck evenList evenRows listed judgeNumbers walk fieldOf networkBody addUp networkSizes linkAt flowAt tunnelAt networkOf planOf missedRate missedBy missedRow missedIn flowSum fewest accepted even evenRow firstOverload stepCount scan testLink test worstOver exceeds load counts worst onLink crosses mark row sumOver onlyIf isNone orElse first
 edges-hold = refl

@@ -15,7 +15,7 @@ use Rattle.model.specs.Scan.{Bound, Overload, cause, step}
 use Rattle.model.specs.Rule.{onLink, load, counts, shown, overloads, exceeds, mark, marked, stepCount}
 use Rattle.model.specs.Even.{keepsScratch, stepBound}
 use Rattle.model.proofs.Sums.{sum-cong}
-use Rattle.lists.specs.Lists.{at, networkOf, planOf}
+use Rattle.lists.specs.Lists.{networkOf, planOf}
 use Rattle.lists.specs.Answers.{withRoom, plan, lent}
 use Rattle.lists.specs.declared.Answer.the-variants.{Done, Plan as Planned, Refused}
 use Rattle.forms.specs.Read.{judgeList}
@@ -90,13 +90,12 @@ shown-at : (n p marks : List ℕ) (b : Bound) (a l : ℕ) (o : Over (verdict n p
     × (overloads (networkOf n) (planOf p) (o .overload .from) (o .overload .link) (marked (networkOf n) (planOf p) (o .overload)) (o .overload .bound) ≡ true)
     → (1 ≤ a) × (a - 1 < stepCount (networkOf n) (planOf p)) × (l < networkOf n .links)
     × (overloads (networkOf n) (planOf p) (a - 1) l (byMarks n p (a - 1) (marksAfter n p (verdict n p (length marks)) marks)) b ≡ true)
-unfolding networkOf
 shown-at n p marks b a l o s =
     let w = o .overload in
     let row : a - 1 ≡ w .from = omega (arith, o .from) in
     let ms : List ℕ = marksAfter n p (verdict n p (length marks)) marks in
-    let em : ms ≡ marksOf (mark (networkOf n) (planOf p) w) (at n 5) ++ drop (at n 5) marks = ap (λ (v : Outcome (Option Overload)). marksAfter n p v marks) (o .found) in
-    let same = shows-same (networkOf n) (planOf p) w ms (λ t h. ap (λ (xs : List ℕ). eqb (getD xs t 0) 1) em ∙ mark-at (mark (networkOf n) (planOf p) w) (at n 5) t _ h) in (
+    let em : ms ≡ marksOf (mark (networkOf n) (planOf p) w) (networkOf n .tunnels) ++ drop (networkOf n .tunnels) marks = ap (λ (v : Outcome (Option Overload)). marksAfter n p v marks) (o .found) in
+    let same = shows-same (networkOf n) (planOf p) w ms (λ t h. ap (λ (xs : List ℕ). eqb (getD xs t 0) 1) em ∙ mark-at (mark (networkOf n) (planOf p) w) (networkOf n .tunnels) t _ h) in (
       omega (arith, o .from),
       omega (arith, s .0, row),
       omega (arith, s .1, o .link),
@@ -114,7 +113,7 @@ returned : (n p out : List ℕ) → planned n ≡ good p → length p ≤ length
 returned n p out e h = (simp (e, le-leb (length p) (length out) h), simp (e, le-leb (length p) (length out) h))
 
 bounded : (n : List ℕ) → Valid Form.Network n → keepsScratch (networkOf n) ≡ true
-    → (p : List ℕ) × (at p 2 ≤ stepBound (networkOf n .scratch) (networkOf n .overrun)) × ((out : List ℕ) → length p ≤ length out → Returns n p out)
+    → (p : List ℕ) × (planOf p .steps ≤ stepBound (networkOf n .scratch) (networkOf n .overrun)) × ((out : List ℕ) → length p ≤ length out → Returns n p out)
 bounded n v k = let b = planner.claim .bounded n (valid Form.Network n v) k in (b .0, b .3, λ out h. returned n (b .0) out (b .1) h)
 
 pub demand3 : Demand3
@@ -132,7 +131,7 @@ demand3 = record {
   found = λ n p marks vn vp et er hr i l hi hl c b w.
       let f = checker .found n p (length marks) (record { network = valid Form.Network n vn; plan = valid Form.Plan p vp; tunnels = et; rows = er; room = hr }) i l hi hl c b w in
       (f .0 .bound, step (f .0), f .0 .link, ap (checked n) (f .1));
-  bounded = λ n v k z. let r = bounded n v k in (r .0, subst (λ (m : ℕ). at (r .0) 2 ≤ stepBound (networkOf n .scratch) m) z (r .1), r .2);
+  bounded = λ n v k z. let r = bounded n v k in (r .0, subst (λ (m : ℕ). planOf (r .0) .steps ≤ stepBound (networkOf n .scratch) m) z (r .1), r .2);
   bounded-overrun = bounded;
 }
 

@@ -3,11 +3,11 @@ use Prim.Native.Nat.{ℕ, _≤_}
 use mathlib.Core.Path.{_≡_}
 use mathlib.Core.List.{List}
 use Rattle.model.specs.Outcome.{good}
-use Rattle.lists.specs.Lists.{at}
+use Rattle.lists.specs.Lists.{networkOf}
 use Rattle.lists.specs.declared.Answer.the-variants.{Done}
 use Rattle.planner.specs.Planned.{planned}
 use Rattle.checker.specs.Check.{verdict, checked}
 
 -- with room for the marks, which are then as many as the tunnels
 abbrev pub Accepted : Type 0
-Accepted = (n p : List ℕ) (room : ℕ) → planned n ≡ good p → at n 5 ≤ room → checked n (verdict n p room) ≡ Done (at n 5)
+Accepted = (n p : List ℕ) (room : ℕ) → planned n ≡ good p → networkOf n .tunnels ≤ room → checked n (verdict n p room) ≡ Done (networkOf n .tunnels)

@@ -11,7 +11,7 @@ use Rattle.model.specs.Outcome.{good, number}
 use Rattle.model.specs.Scan.{Bound, cause}
 use Rattle.model.specs.Rule.{Choice, overloads, missedRow, stepCount}
 use Rattle.model.specs.Even.{keepsScratch, ceilDiv, stepBound}
-use Rattle.lists.specs.Lists.{at, networkOf, planOf}
+use Rattle.lists.specs.Lists.{networkOf, planSizes, planOf}
 use Rattle.lists.specs.Answers.{withRoom, plan, lent}
 use Rattle.lists.specs.declared.Answer.the-variants.{Done, Plan, Refused}
 use Rattle.forms.specs.Read.{readText, judgeList}
@@ -51,14 +51,14 @@ pub record Demand3 : Type 0 where
       × (overloads (networkOf n) (planOf p) (a - 1) l (byMarks n p (a - 1) (marksAfter n p (verdict n p (length marks)) marks)) b ≡ true)
   -- "With valid texts or lists, equal `tunnels`, rows that add up and room for the marks, a plan that some choice overloads always meets 7 or 8
   -- from the checker."
-  pub found : (n p marks : List ℕ) → Valid forms.Network n → Valid forms.Plan p → at p 3 ≡ at n 5 → missedRow (networkOf n) (planOf p) ≡ none → at n 5 ≤ length marks
+  pub found : (n p marks : List ℕ) → Valid forms.Network n → Valid forms.Plan p → planSizes p .tunnels ≡ networkOf n .tunnels → missedRow (networkOf n) (planOf p) ≡ none → networkOf n .tunnels ≤ length marks
       → (i l : ℕ) → i < stepCount (networkOf n) (planOf p) → l < networkOf n .links
       → (c : Choice (networkOf n) (planOf p) i) (b : Bound) → overloads (networkOf n) (planOf p) i l c b ≡ true
       → (w : Bound) × (a : ℕ) × (k : ℕ) × (checked n (verdict n p (length marks)) ≡ Refused (number (cause w)) a k)
   -- "networks that keep their scratch with overrun 0: for these the planner, given the room, returns a plan, and its steps are the number on that
   -- plan's `steps` line": at most ceil(1000/scratch) - 1
   pub bounded : (n : List ℕ) → Valid forms.Network n → keepsScratch (networkOf n) ≡ true → networkOf n .overrun ≡ 0
-      → (p : List ℕ) × (at p 2 ≤ ceilDiv 1000 (networkOf n .scratch) - 1) × ((out : List ℕ) → length p ≤ length out → Returns n p out)
+      → (p : List ℕ) × (planOf p .steps ≤ ceilDiv 1000 (networkOf n .scratch) - 1) × ((out : List ℕ) → length p ≤ length out → Returns n p out)
   -- and with an overrun at most the larger of that and ceil(1000/overrun)
   pub bounded-overrun : (n : List ℕ) → Valid forms.Network n → keepsScratch (networkOf n) ≡ true
-      → (p : List ℕ) × (at p 2 ≤ stepBound (networkOf n .scratch) (networkOf n .overrun)) × ((out : List ℕ) → length p ≤ length out → Returns n p out)
+      → (p : List ℕ) × (planOf p .steps ≤ stepBound (networkOf n .scratch) (networkOf n .overrun)) × ((out : List ℕ) → length p ≤ length out → Returns n p out)

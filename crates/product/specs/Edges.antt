@@ -5,7 +5,7 @@ use mathlib.Core.List.{List, [], _∷_, _++_}
 use lib.Dec.{eqb}
 use lib.ListN.{length}
 use Rattle.model.specs.Outcome.{Outcome, good, refused, number}
-use Rattle.lists.specs.Lists.{at}
+use Rattle.lists.specs.Lists.{planOf}
 use Rattle.lists.specs.declared.Answer.{Answer}
 use Rattle.lists.specs.declared.Answer.the-variants.{Done, Plan, Refused}
 use Rattle.bound.specs.Bound.{boundOf}
@@ -30,7 +30,7 @@ abbrev steps : List ℕ → List ℕ
 steps network = by (planned network)
   where
     by : Outcome (List ℕ) → List ℕ
-    by (good p) = at p 2 ∷ []
+    by (good p) = planOf p .steps ∷ []
     by (refused c place second) = number c ∷ place ∷ second ∷ []
 
 -- the checker's answer to a plan, and the marks of so many tunnels
