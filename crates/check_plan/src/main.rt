@@ -4,11 +4,11 @@ ghost use Rattle.io.specs.Counts.{Counts};
 ghost use Rattle.check_plan.specs.Printed.{checkTexts};
 use libc::STDOUT_FILENO;
 use lists::Answer;
-use report::NETWORK;
-use report::PLAN;
+use lists::Network;
+use lists::PlanSizes;
 
 // The marks are lent since the check asks for them; only the answer is printed.
-const MARKS: usize = 96;
+const MARKS: usize = Network::TUNNELS as usize;
 
 // Fills buf from the start of a file and answers how many bytes it has. A file that cannot be opened, or cannot be read, has none.
 fn read_file(path: &[u8], buf: &mut [u8]) -> usize
@@ -27,12 +27,12 @@ fn read_file(path: &[u8], buf: &mut [u8]) -> usize
 fn check_texts(network: &[u8], plan: &[u8]) -> Answer
     ensures { λ r. ⌜ r ≡ checkTexts (now (network .entry)) (now (plan .entry)) ⌝ }
 {
-    let mut network_list = [0u64; NETWORK];
+    let mut network_list = [0u64; Network::NUMBERS];
     let network_read = product::read_network(network, &mut network_list);
     let Answer::Done(length) = network_read else {
         return network_read;
     };
-    let mut plan_list = [0u64; PLAN];
+    let mut plan_list = [0u64; PlanSizes::NUMBERS];
     let plan_read = product::read_plan(plan, &mut plan_list);
     let Answer::Done(size) = plan_read else {
         return plan_read;

@@ -6,20 +6,20 @@ ghost use Rattle.make_plan.specs.Printed.{planText};
 use libc::STDIN_FILENO;
 use libc::STDOUT_FILENO;
 use lists::Answer;
-use report::NETWORK;
-use report::PLAN;
+use lists::Network;
+use lists::PlanSizes;
 
 // Writes the plan text for a network text. `Done` carries its length; a refusal is that of the first operation that refuses.
 fn plan_text(text: &[u8], out: &mut [u8]) -> Answer
     ensures { λ r. ⌜ r ≡ done (withRoom (length (now (out .entry))) (planText (now (text .entry)))) ⌝ }
     ensures { λ _. ⌜ now (out .exit) ≡ lent (withRoom (length (now (out .entry))) (planText (now (text .entry)))) (now (out .entry)) ⌝ }
 {
-    let mut network = [0u64; NETWORK];
+    let mut network = [0u64; Network::NUMBERS];
     let read = product::read_network(text, &mut network);
     let Answer::Done(length) = read else {
         return read;
     };
-    let mut plan = [0u64; PLAN];
+    let mut plan = [0u64; PlanSizes::NUMBERS];
     let made = product::make_plan(&network[..length], &mut plan);
     let Answer::Plan(size) = made else {
         return made;

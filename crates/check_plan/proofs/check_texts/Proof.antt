@@ -9,6 +9,7 @@ use lib.Seq.{length-take-le}
 use borrow.Author.Needs.{needs}
 use Rattle.model.specs.Outcome.{Outcome, good, refused}
 use Rattle.model.specs.Limits.{mostTunnels}
+use Rattle.lists.specs.Lists.{linkAt, flowAt, tunnelAt, mostNetwork, mostPlan}
 use Rattle.lists.specs.Answers.{done}
 use Rattle.lists.specs.declared.Answer.{Answer}
 use Rattle.forms.proofs.Answers.{NotDone}
@@ -45,9 +46,10 @@ module _ (c : tie.After-network-read) where
   network = take (c .network-read .given .0 .0) (c .before .before .before .read-network .last .1 .0)
 
   network-was-read : Given (readNetwork network-text) (c .network-read .given .0 .0) (c .before .before .before .read-network .last .1 .0)
+  unfolding mostNetwork linkAt flowAt tunnelAt
   network-was-read =
       let r = c .before .before .before .read-network in
-      given-done 518 (readNetwork network-text) _ _ _ _ (network-fits 518 network-text (omega arith)) (r .ensures .0) (c .network-read .given .1) (r .ensures .1)
+      given-done mostNetwork (readNetwork network-text) _ _ _ _ (network-fits network-text) (r .ensures .0) (c .network-read .given .1) (r .ensures .1)
 
   then-plan : checkTexts network-text plan-text ≡ after-network plan-text network
   then-plan = ap (λ (o : Outcome (List ℕ)). onRead o (after-network plan-text)) (network-was-read .outcome)
@@ -63,7 +65,7 @@ module _ (c : tie.After-plan-read) where
   plan-was-read : Given (readPlan (plan-text before-plan)) (c .plan-read .given .0 .0) (c .before .before .before .read-plan .last .1 .0)
   plan-was-read =
       let r = c .before .before .before .read-plan in
-      given-done 4708 (readPlan (plan-text before-plan)) _ _ _ _ (plan-fits 4708 (plan-text before-plan) (omega arith)) (r .ensures .0) (c .plan-read .given .1) (r .ensures .1)
+      given-done mostPlan (readPlan (plan-text before-plan)) _ _ _ _ (plan-fits (plan-text before-plan)) (r .ensures .0) (c .plan-read .given .1) (r .ensures .1)
 
   then-check : checkTexts (network-text before-plan) (plan-text before-plan) ≡ after-plan (network before-plan) plan
   then-check = then-plan before-plan ∙ ap (λ (o : Outcome (List ℕ)). onRead o (after-plan (network before-plan))) (plan-was-read .outcome)
@@ -78,10 +80,11 @@ enum-known-network-read : tie.Need-enum-known-network-read
 enum-known-network-read c = search needs
 
 returns : tie.Need-returns
+unfolding mostNetwork linkAt flowAt tunnelAt
 returns c =
     let r = c .before .before in
     let a = r .before .before .before .before .args in
-    read-refused (readNetwork (a .network .now)) (after-network (a .plan .now)) _ (r .read-network .ensures .0 ∙ ap done (network-fits 518 (a .network .now) (omega arith))) (c .match .keys2)
+    read-refused (readNetwork (a .network .now)) (after-network (a .plan .now)) _ (r .read-network .ensures .0 ∙ ap done (network-fits (a .network .now))) (c .match .keys2)
 
 slice-aggregate-read-plan : tie.Need-slice-aggregate-read-plan
 slice-aggregate-read-plan c = search needs
@@ -97,7 +100,7 @@ returns-2 c =
     let r = c .before .before in
     let n = r .before .before .before in
     let p = plan-text n in
-    read-refused (readPlan p) (after-plan (network n)) _ (r .read-plan .ensures .0 ∙ ap done (plan-fits 4708 p (omega arith))) (c .match2 .keys2) ∙ sym (then-plan n)
+    read-refused (readPlan p) (after-plan (network n)) _ (r .read-plan .ensures .0 ∙ ap done (plan-fits p)) (c .match2 .keys2) ∙ sym (then-plan n)
 
 array-share-prefix-network-list : tie.Need-array-share-prefix-network-list
 array-share-prefix-network-list c = network-was-read (before-plan (c .before)) .within

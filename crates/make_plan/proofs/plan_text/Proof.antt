@@ -2,11 +2,11 @@
 use Prim.Native.Nat.{ℕ}
 use mathlib.Core.Path.{_≡_, sym, ap, _∙_}
 use mathlib.Core.List.{List}
-use native.Mathlib.Omega.{arith}
 use lib.ListN.{length, take}
 use lib.Seq.{length-take-le}
 use borrow.Author.Needs.{needs}
 use Rattle.model.specs.Outcome.{Outcome, andThen}
+use Rattle.lists.specs.Lists.{linkAt, flowAt, tunnelAt, mostNetwork, mostPlan}
 use Rattle.lists.specs.Answers.{withRoom, done, plan, lent}
 use Rattle.lists.specs.declared.Answer.{Answer}
 use Rattle.forms.proofs.Answers.{refused-then, refused-room}
@@ -26,9 +26,10 @@ module _ (c : tie.After-read) where
   network = take (c .read .given .0 .0) (c .before .before .before .read-network .last .1 .0)
 
   was-read : Given (readNetwork text) (c .read .given .0 .0) (c .before .before .before .read-network .last .1 .0)
+  unfolding mostNetwork linkAt flowAt tunnelAt
   was-read =
       let r = c .before .before .before .read-network in
-      given-done 518 (readNetwork text) _ _ _ _ (network-fits 518 text (omega arith)) (r .ensures .0) (c .read .given .1) (r .ensures .1)
+      given-done mostNetwork (readNetwork text) _ _ _ _ (network-fits text) (r .ensures .0) (c .read .given .1) (r .ensures .1)
 
   then-planned : planText text ≡ andThen (planned network) writePlan
   then-planned = ap (λ (o : Outcome (List ℕ)). andThen o (λ n. andThen (planned n) writePlan)) (was-read .outcome)
@@ -44,7 +45,7 @@ module _ (c : tie.After-made) where
   was-planned : Given (planned (network before-plan)) (c .made .given .0 .0) (c .before .before .before .make-plan .last .1 .0)
   was-planned =
       let m = c .before .before .before .make-plan in
-      given-plan 4708 (planned (network before-plan)) _ _ _ _ (planned-fits 4708 (network before-plan) (omega arith)) (m .ensures .0) (c .made .given .1) (m .ensures .1)
+      given-plan mostPlan (planned (network before-plan)) _ _ _ _ (planned-fits (network before-plan)) (m .ensures .0) (c .made .given .1) (m .ensures .1)
 
   then-written : planText (text before-plan) ≡ writePlan steps
   then-written = then-planned before-plan ∙ ap (λ (o : Outcome (List ℕ)). andThen o writePlan) (was-planned .outcome)
@@ -64,12 +65,13 @@ enum-known-read : tie.Need-enum-known-read
 enum-known-read c = search needs
 
 returns : tie.Need-returns
+unfolding mostNetwork linkAt flowAt tunnelAt
 returns c =
     let r = c .before .before in
     let a = r .before .before .before .before .args in
     let o = readNetwork (a .text .now) in
     let next : List ℕ → Outcome (List ℕ) = λ n. andThen (planned n) writePlan in
-    refused-room (andThen o next) _ (a .out .now) (refused-then o next _ (r .read-network .ensures .0 ∙ ap done (network-fits 518 (a .text .now) (omega arith))) (c .match .keys2)) (c .match .keys2)
+    refused-room (andThen o next) _ (a .out .now) (refused-then o next _ (r .read-network .ensures .0 ∙ ap done (network-fits (a .text .now))) (c .match .keys2)) (c .match .keys2)
 
 array-share-prefix-network : tie.Need-array-share-prefix-network
 array-share-prefix-network c = was-read (c .before) .within
@@ -92,7 +94,7 @@ returns-2 c =
     let r = m .before .before .before .before in
     let out = r .before .before .before .before .before .before .before .args .out .now in
     same-outcome (andThen (planned (network r)) writePlan) (planText (text r)) _ out _ (then-planned r)
-    (plan-refused (planned (network r)) writePlan _ out (m .make-plan .ensures .0 ∙ ap plan (planned-fits 4708 (network r) (omega arith))) (c .match2 .keys2))
+    (plan-refused (planned (network r)) writePlan _ out (m .make-plan .ensures .0 ∙ ap plan (planned-fits (network r))) (c .match2 .keys2))
 
 array-share-prefix-plan : tie.Need-array-share-prefix-plan
 array-share-prefix-plan c = was-planned (c .before) .within
