@@ -2,9 +2,9 @@
 use Prim.Native.Nat.{_-_, _≤_}
 use mathlib.Core.Path.{_≡_}
 use native.Mathlib.Omega.{arith}
-use Rattle.lists.specs.Lists.{at}
+use Rattle.lists.specs.Lists.{at, ruleAt, tableSizes}
 use Rattle.rules.specs.Stage as model
-use Rattle.rules.specs.Lists.{tunnelAt, rulesOf}
+use Rattle.rules.specs.Lists.{rulesOf}
 use Rattle.staging.specs.Inner.{moveOf, Reached}
 use Rattle.staging.proofs.Turns.{reached-start, ready-on, reached-on, reached-to}
 use borrow.Author.Needs.{needs}
@@ -14,7 +14,7 @@ use Rattle.staging.proofs.stages.pass.Tie as tie
 abbrev Inv-loop : tie.InvT-loop
 Inv-loop list spares p counts₀ stages₀ tunnels from₀ t₀ counts stages from t = record {
   low : t ≤ tunnels;
-  here : from ≡ tunnelAt list t;
+  here : from ≡ ruleAt (tableSizes list) t;
   reached : Reached list (moveOf (p .kind)) (model.pass (rulesOf list) (moveOf (p .kind)) (p .stage) (at stages₀) t) counts stages;
 }
 
