@@ -18,7 +18,7 @@ use Rattle.model.specs.Claim.{Valid}
 use Rattle.lists.specs.Lists.{at, networkSizes, linkAt, flowAt, tunnelAt, networkSize, networkOf, planSizes, planSize}
 use Rattle.lists.specs.Good.{NetworkRanges, GoodNetwork, GoodPlan}
 use Rattle.lists.specs.declared.Network as counts
-use Rattle.lists.proofs.Positions.{link-at, flow-at, tunnel-at, flows-follow, head-size, head-before, each-number, link-in, flow-in, tunnel-in}
+use Rattle.lists.proofs.Positions.{head-size, link-after, flow-after, tunnel-after, each-number, link-in, flow-in, tunnel-in}
 use Rattle.forms.specs.Keys.{keys, placeIn}
 use Rattle.forms.specs.Form.{line, planBody, Sound, Whole, allows, fieldOf, networkLines, flowLines, tunnelLines, planLines, networkBody}
 use Rattle.forms.specs.Read.{addUp}
@@ -100,22 +100,22 @@ module _ (l : List ℕ) (w : Whole Network l) where
       go : Dec (networkSize sizes < length l) → length l ≡ networkSize sizes
       go (yes h) =
           let e : networkBody sizes (networkSize sizes) ≡ End = body-end sizes (networkSize sizes) (omega arith) in
-          absurd (rw e at (network-body-at l (w .sound) (networkSize sizes) h (omega (arith, head-size sizes, head-before sizes, tunnel-at sizes (sizes .tunnels)))))
+          absurd (rw e at (network-body-at l (w .sound) (networkSize sizes) h (omega (arith, head-size sizes, tunnel-after sizes (sizes .tunnels)))))
       go (no h) = omega (arith, body-ends sizes (length l) (omega (arith, head-size sizes, network-long)) network-body-ends)
 
   body-line : (i : ℕ) → linkAt sizes 0 ≤ i → i < length l → T (allows (networkBody sizes i) (at l i))
   body-line i h k = network-body-at l (w .sound) i k (omega (arith, head-size sizes))
 
   cap-line : (k : ℕ) → k < sizes .links → T (allows (line "cap=" (Between 0 mostAmount)) (at l (linkAt sizes k)))
-  cap-line k h = rw (body-cap sizes k h) at (body-line (linkAt sizes k) (omega (arith, link-at sizes k)) (link-in l network-size k h))
+  cap-line k h = rw (body-cap sizes k h) at (body-line (linkAt sizes k) (link-after sizes k) (link-in l network-size k h))
 
   flow-line : (f j : ℕ) → f < sizes .flows → j < 2 → T (allows (getD flowLines j End) (at l (flowAt sizes f + j)))
   flow-line f j h k =
-      rw (body-flow sizes f j h k) at (body-line (flowAt sizes f + j) (omega (arith, flow-at sizes f, flows-follow sizes, link-at sizes (sizes .links))) (omega (arith, flow-in l network-size f h)))
+      rw (body-flow sizes f j h k) at (body-line (flowAt sizes f + j) (omega (arith, flow-after sizes f)) (omega (arith, flow-in l network-size f h)))
 
   pub tunnel-line : (t j : ℕ) → t < sizes .tunnels → j < 4 → T (allows (getD (tunnelLines sizes) j End) (at l (tunnelAt sizes t + j)))
   tunnel-line t j h k =
-      rw (body-tunnel sizes t j h k) at (body-line (tunnelAt sizes t + j) (omega (arith, tunnel-at sizes t, head-before sizes)) (omega (arith, tunnel-in l network-size t h)))
+      rw (body-tunnel sizes t j h k) at (body-line (tunnelAt sizes t + j) (omega (arith, tunnel-after sizes t)) (omega (arith, tunnel-in l network-size t h)))
 
   pub network-ranges : NetworkRanges l
   network-ranges =

@@ -13,7 +13,7 @@ use borrow.Author.Tests.{lt-ltb, le-ltb}
 use Rattle.model.specs.Limits.{mostAmount}
 use Rattle.lists.specs.Lists.{at, networkSizes, linkAt, flowAt, tunnelAt, networkSize}
 use Rattle.lists.specs.declared.Network as counts
-use Rattle.lists.proofs.Positions.{tunnel-at, head-before, head-size, each-number}
+use Rattle.lists.proofs.Positions.{tunnel-after, head-size, each-number}
 use Rattle.forms.specs.Form.{line, Sound, Whole, allows, admitsOf, fieldOf, networkLines, networkBody, flowLines, tunnelLines}
 use Rattle.forms.specs.Ranges.{Decides, LinksIn, FlowsIn, TunnelsIn, HeadIn}
 use Rattle.forms.specs.declared.form.Form.the-variants.{Network}
@@ -139,7 +139,7 @@ module _ (l : List ℕ) (r : InRange l) where
   ends : fieldOf Network l ≡ End
   unfolding fieldOf
   ends =
-      let long : length networkLines ≤ length l = omega (arith, r .size, head-size sizes, head-before sizes, tunnel-at sizes (sizes .tunnels)) in
+      let long : length networkLines ≤ length l = omega (arith, r .size, head-size sizes, tunnel-after sizes (sizes .tunnels)) in
       rw (le-ltb (length l) (length networkLines) long) (body-end sizes (length l) (omega (arith, r .size)))
 
   pub in-range-whole : Whole Network l
@@ -152,7 +152,7 @@ whole-in-range l w =
     let r = network-ranges l w in
     let n = networkSizes l in
     record {
-      head = record { each = λ i h. network-head-at l (w .sound) i (omega (arith, r .sized .size, head-size n, head-before n, tunnel-at n (n .tunnels))) h };
+      head = record { each = λ i h. network-head-at l (w .sound) i (omega (arith, r .sized .size, head-size n, tunnel-after n (n .tunnels))) h };
       size = r .sized .size;
       links = record { cap = r .cap };
       flows = record { class = r .class; rate = r .rate };

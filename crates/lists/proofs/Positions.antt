@@ -34,9 +34,18 @@ module _ (n : Network) where
   unfolding tunnelAt
   tunnels-follow = omega arith
 
-  pub head-before : linkAt n 0 ≤ tunnelAt n 0
+  -- all of them stand after the head
+  pub link-after : (k : ℕ) → linkAt n 0 ≤ linkAt n k
+  unfolding linkAt
+  link-after k = omega arith
+
+  pub flow-after : (f : ℕ) → linkAt n 0 ≤ flowAt n f
+  unfolding flowAt linkAt
+  flow-after f = omega arith
+
+  pub tunnel-after : (t : ℕ) → linkAt n 0 ≤ tunnelAt n t
   unfolding tunnelAt flowAt linkAt
-  head-before = omega arith
+  tunnel-after t = omega arith
 
   pub head-size : linkAt n 0 ≡ 6
   unfolding linkAt

@@ -121,7 +121,7 @@ pub struct RuleTables {
 impl RuleTables {
     pub const SWITCHES: u64 = 64;
 
-    pub const TUNNELS: u64 = 96;
+    pub const TUNNELS: u64 = Network::TUNNELS;
 
     // The most rules that a switch has room for.
     pub const ROOM: u64 = 65_535;

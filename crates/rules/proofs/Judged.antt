@@ -10,11 +10,13 @@ use borrow.Author.Tests.{lt-ltb, le-ltb}
 use Rattle.model.specs.Limits.{mostTunnels, mostSwitches, mostRoom, leastShare, mostShare}
 use Rattle.model.specs.Outcome.{good}
 use Rattle.lists.specs.Answers.{done}
-use Rattle.lists.specs.Lists.{at}
+use Rattle.lists.specs.Lists.{at, tableSizes, roomAt, ruleAt, tablesSize}
+use Rattle.lists.specs.declared.RuleTables.{RuleTables}
 use Rattle.lists.specs.declared.Answer.the-variants.{Done}
-use Rattle.forms.specs.Form.{Whole, allows, fieldOf, rulesLines, ruleLines, rulesBody}
+use Rattle.forms.specs.Form.{line, Whole, allows, fieldOf, rulesLines, ruleLines, rulesBody}
 use Rattle.forms.specs.Read.{judgeList}
 use Rattle.forms.specs.declared.form.Form.the-variants.{Rules}
+use Rattle.forms.specs.declared.form.Range.the-variants.{Between}
 use Rattle.forms.specs.declared.form.Field.the-variants.{End}
 use Rattle.forms.proofs.Forms.{between, rules-head-at, rules-body-at, body-room, body-rule, rules-end}
 use Rattle.forms.proofs.Answers.{done-good}
@@ -23,52 +25,54 @@ use Rattle.forms.proofs.Walks.{judged-good}
 use Rattle.rules.specs.Rules.{keep, remove}
 use Rattle.rules.specs.Lists.{GoodRules}
 
-body-ends : (switches tunnels n : ℕ) → rulesBody switches tunnels n ≡ End → switches + 2 * tunnels ≤ n
-body-ends switches tunnels n e = rooms (decLt n switches)
+-- where the form has an end, it is past the last number
+body-ends : (n : RuleTables) (i : ℕ) → roomAt n 0 ≤ i → rulesBody n i ≡ End → tablesSize n ≤ i
+body-ends n i h e = rooms (decLt (i - 4) (n .switches))
   where
-    by-tunnel : switches ≤ n → Dec ((n - switches) / 2 < tunnels) → switches + 2 * tunnels ≤ n
-    by-tunnel k (yes h) =
-        let j : (n - switches) % 2 < 2 = omega arith in
-        let p : switches + 2 * ((n - switches) / 2) + (n - switches) % 2 ≡ n = omega arith in
-        absurd (lines-no-end (ruleLines switches) ((n - switches) % 2) (tt, (tt, tt)) j
-        (sym (body-rule switches tunnels ((n - switches) / 2) ((n - switches) % 2) h j) ∙ ap (rulesBody switches tunnels) p ∙ e))
-    by-tunnel k (no h) = omega arith
+    by-tunnel : ruleAt n 0 ≤ i → Dec ((i - ruleAt n 0) / 2 < n .tunnels) → tablesSize n ≤ i
+    by-tunnel k (yes less) =
+        let j : (i - ruleAt n 0) % 2 < 2 = omega arith in
+        let p : ruleAt n ((i - ruleAt n 0) / 2) + (i - ruleAt n 0) % 2 ≡ i = omega arith in
+        absurd (lines-no-end (ruleLines n) ((i - ruleAt n 0) % 2) (tt, (tt, tt)) j (sym (body-rule n ((i - ruleAt n 0) / 2) ((i - ruleAt n 0) % 2) less j) ∙ ap (rulesBody n) p ∙ e))
+    by-tunnel k (no more) = omega arith
 
-    rooms : Dec (n < switches) → switches + 2 * tunnels ≤ n
-    rooms (yes h) = let z : _≡_ {A = ℕ} 0 1 = cc (body-room switches tunnels n h) in absurd (omega arith)
-    rooms (no h) = by-tunnel (omega arith) (decLt ((n - switches) / 2) tunnels)
+    rooms : Dec (i - 4 < n .switches) → tablesSize n ≤ i
+    rooms (yes less) =
+        let p : roomAt n (i - 4) ≡ i = omega arith in
+        let q : rulesBody n i ≡ line "room=" (Between 0 mostRoom) = sym (ap (rulesBody n) p) ∙ body-room n (i - 4) less in
+        let z : _≡_ {A = ℕ} 0 1 = cc in absurd (omega arith)
+    rooms (no more) = by-tunnel (omega arith) (decLt ((i - ruleAt n 0) / 2) (n .tunnels))
 
 module _ (l : List ℕ) (w : Whole Rules l) where
-  long : 4 ≤ length l
+  abbrev sizes : RuleTables
+  sizes = tableSizes l
+
+  long : length rulesLines ≤ length l
   unfolding fieldOf
-  long = go (decLt (length l) 4)
+  long = go (decLt (length l) (length rulesLines))
     where
-      go : Dec (length l < 4) → 4 ≤ length l
-      go (yes h) = absurd (lines-no-end rulesLines (length l) (tt, (tt, (tt, (tt, tt)))) h (rw (lt-ltb (length l) 4 h) at (w .ends)))
+      go : Dec (length l < length rulesLines) → length rulesLines ≤ length l
+      go (yes h) = absurd (lines-no-end rulesLines (length l) (tt, (tt, (tt, (tt, tt)))) h (rw (lt-ltb (length l) (length rulesLines) h) at (w .ends)))
       go (no h) = omega arith
 
-  ends : rulesBody (at l 2) (at l 3) (length l - 4) ≡ End
+  ends : rulesBody sizes (length l) ≡ End
   unfolding fieldOf
-  ends = rw (le-ltb (length l) 4 long) at (w .ends)
+  ends = rw (le-ltb (length l) (length rulesLines) long) at (w .ends)
 
-  size : length l ≡ 4 + at l 2 + 2 * at l 3
-  size = go (decLt (4 + (at l 2 + 2 * at l 3)) (length l))
+  size : length l ≡ tablesSize sizes
+  size = go (decLt (tablesSize sizes) (length l))
     where
-      go : Dec (4 + (at l 2 + 2 * at l 3) < length l) → length l ≡ 4 + at l 2 + 2 * at l 3
+      go : Dec (tablesSize sizes < length l) → length l ≡ tablesSize sizes
       go (yes h) =
-          let e : rulesBody (at l 2) (at l 3) (at l 2 + 2 * at l 3) ≡ End = rules-end (at l 2) (at l 3) (at l 2 + 2 * at l 3) (omega arith) in
-          absurd (rw e at (rules-body-at l (w .sound) (at l 2 + 2 * at l 3) h))
-      go (no h) = omega (arith, body-ends (at l 2) (at l 3) (length l - 4) ends, long)
+          let e : rulesBody sizes (tablesSize sizes) ≡ End = rules-end sizes (tablesSize sizes) (omega arith) in
+          absurd (rw e at (rules-body-at l (w .sound) (tablesSize sizes) h (omega arith)))
+      go (no h) = omega (arith, body-ends sizes (length l) (omega (arith, long)) ends)
 
-  head-line : (i : ℕ) → i < 4 → T (allows (getD rulesLines i End) (at l i))
+  head-line : (i : ℕ) → i < length rulesLines → T (allows (getD rulesLines i End) (at l i))
   head-line i h = rules-head-at l (w .sound) i (omega (arith, long)) h
 
-  body-line : (n i : ℕ) → i ≡ 4 + n → i < length l → T (allows (rulesBody (at l 2) (at l 3) n) (at l i))
-  body-line n i e h = rw e (rules-body-at l (w .sound) n (rw e at h))
-
-  tunnel-line : (t j i : ℕ) → t < at l 3 → j < 2 → i ≡ 4 + at l 2 + 2 * t + j → T (allows (getD (ruleLines (at l 2)) j End) (at l i))
-  tunnel-line t j i h k e =
-      rw (body-rule (at l 2) (at l 3) t j h k) at (body-line (at l 2 + 2 * t + j) i (omega arith) (omega (arith, size)))
+  tunnel-line : (t j i : ℕ) → t < sizes .tunnels → j < 2 → i ≡ ruleAt sizes t + j → T (allows (getD (ruleLines sizes) j End) (at l i))
+  tunnel-line t j i h k e = rw e (rw (body-rule sizes t j h k) at (rules-body-at l (w .sound) (ruleAt sizes t + j) (omega (arith, size)) (omega arith)))
 
   ranges : GoodRules l
   ranges =
@@ -77,9 +81,9 @@ module _ (l : List ℕ) (w : Whole Rules l) where
         slack = between leastShare mostShare (at l 1) (head-line 1 (omega arith));
         switches = between 1 mostSwitches (at l 2) (head-line 2 (omega arith));
         tunnels = between 0 mostTunnels (at l 3) (head-line 3 (omega arith)) .1;
-        room = λ s h. between 0 mostRoom (at l (4 + s)) (rw (body-room (at l 2) (at l 3) s h) at (body-line s (4 + s) refl (omega (arith, size)))) .1;
-        via = λ t h. let p = set-in (at l 2) (at l (4 + at l 2 + 2 * t)) (tunnel-line t 0 (4 + at l 2 + 2 * t) h (omega arith) (omega arith)) in (λ z. omega (arith, z, p .0), p .1);
-        kind = λ t h. between keep remove _ (tunnel-line t 1 (4 + at l 2 + 2 * t + 1) h (omega arith) refl);
+        room = λ s h. between 0 mostRoom (at l (roomAt sizes s)) (rw (body-room sizes s h) at (rules-body-at l (w .sound) (roomAt sizes s) (omega (arith, size)) (omega arith))) .1;
+        via = λ t h. let p = set-in (sizes .switches) (at l (ruleAt sizes t)) (tunnel-line t 0 (ruleAt sizes t) h (omega arith) (omega arith)) in (λ z. omega (arith, z, p .0), p .1);
+        kind = λ t h. between keep remove _ (tunnel-line t 1 (ruleAt sizes t + 1) h (omega arith) refl);
       }
 
 -- a list that is judged good is what is got, and is good

@@ -1,5 +1,5 @@
 -- The longest text of rule tables: how many bytes its lines have at most.
-use mathlib.Core.Path.{_≡_, refl, _∙_}
+use mathlib.Core.Path.{_≡_, refl, ap, _∙_}
 use mathlib.Core.List.{List}
 use Prim.Native.Nat.{ℕ, zero, suc, _+_, _*_, _^_, _≤_, _<_}
 use native.Mathlib.Nat.{le-of-lt}
@@ -7,9 +7,10 @@ use native.Mathlib.Omega.{arith}
 use lib.ListN.{length, getD, take, drop}
 use Rattle.model.specs.Limits.{mostTunnels, mostSwitches, mostRoom, leastShare, mostShare}
 use Rattle.model.specs.Outcome.{good}
-use Rattle.lists.specs.Lists.{at}
+use Rattle.lists.specs.Lists.{at, tableSizes, roomAt, ruleAt}
+use Rattle.lists.specs.declared.RuleTables.{RuleTables}
 use Rattle.forms.specs.Keys.{keys, placeIn, prefixOf}
-use Rattle.forms.specs.Form.{fieldOf, rulesLines, Sound}
+use Rattle.forms.specs.Form.{fieldOf, rulesLines, rulesBody, Sound}
 use Rattle.forms.specs.Read.{readText}
 use Rattle.forms.specs.Write.{renderFrom, render}
 use Rattle.forms.specs.declared.form.Form.the-variants.{Rules}
@@ -41,33 +42,37 @@ module _ (l : List ℕ) (g : GoodRules l) (s : Sound Rules l) where
   set-then : (k n i : ℕ) → fieldOf Rules (take i l) ≡ Line k (Set n) → i < length l → from i ≤ length (prefixOf k) + 17 + from (i + 1)
   set-then k n i e h = line-then Rules l i (length (prefixOf k) + 17) h (rw e (omega (arith, line-length k (Set n) (at l i))))
 
-  -- the lines of the tunnels from t on, of which k are left, and before them those of the switches
-  tunnels-then : (k t : ℕ) → t + k ≡ at l 3 → from (4 + at l 2 + 2 * t) ≤ k * 28
-  tunnels-then zero t e = rw (render-end Rules (take (4 + at l 2 + 2 * t) l) l (4 + at l 2 + 2 * t) (omega (arith, g .size))) (omega arith)
-  tunnels-then (suc k) t e =
-      let h : 4 + at l 2 + 2 * t + 1 < length l = omega (arith, g .size) in
-      let i : ℕ = 4 + at l 2 + 2 * t in
-      let in-t : t < at l 3 = omega arith in
-      let via : fieldOf Rules (take (4 + at l 2 + 2 * t) l) ≡ Line (placeIn keys "via=") (Set (at l 2))
-      = rules-body-field l i (omega arith) (at l 2 + 2 * t + 0) (omega arith) ∙ body-rule (at l 2) (at l 3) t 0 in-t (omega arith) in
-      let kind : fieldOf Rules (take (4 + at l 2 + 2 * t + 1) l) ≡ Line (placeIn keys "kind=") (Between 1 3)
-      = rules-body-field l (i + 1) (omega arith) (at l 2 + 2 * t + 1) (omega arith) ∙ body-rule (at l 2) (at l 3) t 1 in-t (omega arith) in
-      let n : 4 + at l 2 + 2 * t + 1 + 1 ≡ 4 + at l 2 + 2 * (t + 1) = omega arith in
-      let rest : from (4 + at l 2 + 2 * t + 1 + 1) ≤ k * 28 = rw n (tunnels-then k (t + 1) (omega arith)) in
-      omega (arith, set-then (placeIn keys "via=") (at l 2) (4 + at l 2 + 2 * t) via (omega arith), number-then (placeIn keys "kind=") 1 3 1 (4 + at l 2 + 2 * t + 1) kind (omega arith) (omega arith) (omega arith) h)
+  abbrev sizes : RuleTables
+  sizes = tableSizes l
 
-  switches-then : (k s : ℕ) → s + k ≡ at l 2 → from (4 + s) ≤ k * 11 + at l 3 * 28
+  -- the lines of the tunnels from t on, of which k are left, and before them those of the switches
+  tunnels-then : (k t : ℕ) → t + k ≡ sizes .tunnels → from (ruleAt sizes t) ≤ k * 28
+  tunnels-then zero t e = rw (render-end Rules (take (ruleAt sizes t) l) l (ruleAt sizes t) (omega (arith, g .size))) (omega arith)
+  tunnels-then (suc k) t e =
+      let i : ℕ = ruleAt sizes t in
+      let h : ruleAt sizes t + 1 < length l = omega (arith, g .size) in
+      let in-t : t < sizes .tunnels = omega arith in
+      let first : ruleAt sizes t ≡ ruleAt sizes t + 0 = omega arith in
+      let via : fieldOf Rules (take (ruleAt sizes t) l) ≡ Line (placeIn keys "via=") (Set (sizes .switches))
+      = rules-body-field l i (omega arith) (omega arith) ∙ ap (rulesBody sizes) first ∙ body-rule sizes t 0 in-t (omega arith) in
+      let kind : fieldOf Rules (take (ruleAt sizes t + 1) l) ≡ Line (placeIn keys "kind=") (Between 1 3)
+      = rules-body-field l (i + 1) (omega arith) (omega arith) ∙ body-rule sizes t 1 in-t (omega arith) in
+      let n : ruleAt sizes t + 1 + 1 ≡ ruleAt sizes (t + 1) = omega arith in
+      let rest : from (ruleAt sizes t + 1 + 1) ≤ k * 28 = rw n (tunnels-then k (t + 1) (omega arith)) in
+      omega (arith, set-then (placeIn keys "via=") (sizes .switches) (ruleAt sizes t) via (omega arith), number-then (placeIn keys "kind=") 1 3 1 (ruleAt sizes t + 1) kind (omega arith) (omega arith) (omega arith) h)
+
+  switches-then : (k s : ℕ) → s + k ≡ sizes .switches → from (roomAt sizes s) ≤ k * 11 + sizes .tunnels * 28
   switches-then zero s e =
-      let n : 4 + s ≡ 4 + at l 2 + 2 * 0 = omega arith in
-      rw n (omega (arith, tunnels-then (at l 3) 0 (omega arith)))
+      let n : roomAt sizes s ≡ ruleAt sizes 0 = omega arith in
+      rw n (omega (arith, tunnels-then (sizes .tunnels) 0 (omega arith)))
   switches-then (suc k) s e =
-      let h : 4 + s < length l = omega (arith, g .size) in
-      let in-s : s < at l 2 = omega arith in
-      let field : fieldOf Rules (take (4 + s) l) ≡ Line (placeIn keys "room=") (Between 0 mostRoom)
-      = rules-body-field l (4 + s) (le-of-lt h) s refl ∙ body-room (at l 2) (at l 3) s in-s in
-      let n : 4 + s + 1 ≡ 4 + (s + 1) = omega arith in
-      let rest : from (4 + s + 1) ≤ k * 11 + at l 3 * 28 = rw n (switches-then k (s + 1) (omega arith)) in
-      omega (arith, number-then (placeIn keys "room=") 0 mostRoom 5 (4 + s) field (omega arith) (omega arith) (omega arith) h)
+      let h : roomAt sizes s < length l = omega (arith, g .size) in
+      let in-s : s < sizes .switches = omega arith in
+      let field : fieldOf Rules (take (roomAt sizes s) l) ≡ Line (placeIn keys "room=") (Between 0 mostRoom)
+      = rules-body-field l (roomAt sizes s) (le-of-lt h) (omega arith) ∙ body-room sizes s in-s in
+      let n : roomAt sizes s + 1 ≡ roomAt sizes (s + 1) = omega arith in
+      let rest : from (roomAt sizes s + 1) ≤ k * 11 + sizes .tunnels * 28 = rw n (switches-then k (s + 1) (omega arith)) in
+      omega (arith, number-then (placeIn keys "room=") 0 mostRoom 5 (roomAt sizes s) field (omega arith) (omega arith) (omega arith) h)
 
   head-then : from 0 ≤ 41 + from 4
   head-then =
@@ -80,7 +85,7 @@ module _ (l : List ℕ) (g : GoodRules l) (s : Sound Rules l) where
 
   most : length (render Rules l) ≤ mostRuleBytes
   unfolding render
-  most = omega (arith, head-then, switches-then (at l 2) 0 (omega arith), g .switches .1, g .tunnels)
+  most = omega (arith, head-then, switches-then (sizes .switches) 0 (omega arith), g .switches .1, g .tunnels)
 
 pub longest : (text l : List ℕ) → readText Rules text ≡ good l → length text ≤ mostRuleBytes
 longest text l e =

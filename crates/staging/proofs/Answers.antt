@@ -10,7 +10,7 @@ use Rattle.model.specs.Limits.{mostTunnels, mostSwitches}
 use Rattle.model.specs.Listed.{listed}
 use Rattle.model.specs.Outcome.{good, Place, unless, unfit}
 use Rattle.model.proofs.Listed.{listed-length}
-use Rattle.lists.specs.Lists.{at}
+use Rattle.lists.specs.Lists.{at, tableSizes}
 use Rattle.lists.specs.Answers.{done, withRoom, lent}
 use Rattle.lists.specs.declared.Answer.{Answer}
 use Rattle.lists.specs.declared.Answer.the-variants.{Done, Refused}
@@ -88,17 +88,17 @@ module _ (l out : List ℕ) (a : Answer) (x : List ℕ) (J : Judged l a x) where
     pub stage-spares : Spares (rulesOf l) x
     stage-spares = J .spares fit
 
-    all-length : length all ≡ at l 3
+    all-length : length all ≡ tableSizes l .tunnels
     unfolding rulesOf
-    all-length = listed-length (at l 3) _
+    all-length = listed-length (tableSizes l .tunnels) _
 
-    pub stage-none : length out < at l 3 → (Refused 10 (at l 3) 0 ≡ answer) × (out ≡ after)
+    pub stage-none : length out < tableSizes l .tunnels → (Refused 10 (tableSizes l .tunnels) 0 ≡ answer) × (out ≡ after)
     unfolding staged
     stage-none h =
         let g = give-none all out (rw all-length h) in
         rw fit (ap (λ (n : ℕ). Refused 10 n 0) (sym all-length) ∙ sym (g .0), sym (g .1))
 
-    pub stage-all : at l 3 ≤ length out → (Done (at l 3) ≡ answer) × (listed (at l 3) (stages (rulesOf l) (lastStage (rulesOf l))) ++ drop (at l 3) out ≡ after)
+    pub stage-all : tableSizes l .tunnels ≤ length out → (Done (tableSizes l .tunnels) ≡ answer) × (listed (tableSizes l .tunnels) (stages (rulesOf l) (lastStage (rulesOf l))) ++ drop (tableSizes l .tunnels) out ≡ after)
     unfolding staged rulesOf
     stage-all h =
         let g = give-all all out (rw all-length h) in

@@ -15,10 +15,10 @@ use Rattle.model.specs.Sets.{inSet}
 use Rattle.model.proofs.Bounded.{ceil-most}
 use Rattle.model.proofs.Sets.{set-within}
 use Rattle.model.proofs.Searches.{bool-cases}
-use Rattle.lists.specs.Lists.{at}
+use Rattle.lists.specs.Lists.{at, ruleAt, tableSizes}
 use Rattle.rules.specs.Rules.{Rules, add, remove, isKind, rule, count, lastStage, spare}
 use Rattle.rules.specs.Stage.{Move, adds, removes, kindOf, Stages, moved, waits, within, goes, given, turn, pass}
-use Rattle.rules.specs.Lists.{tunnelAt, rulesOf}
+use Rattle.rules.specs.Lists.{rulesOf}
 use Rattle.switches.specs.Inner.{Table, Counted, Shifted, Shiftable, Spares, fitsAll}
 use Rattle.staging.specs.Inner.{moveOf, counts, timesOf, goesBy, Ready, Reached}
 use Rattle.rules.proofs.Counts.{and-none, every-at, every-all, within-at, within-all, count-some, count-moved, count-waits}
@@ -150,7 +150,7 @@ module _ (l x : List ℕ) (kind stage times unit : ℕ) (c o : List ℕ) (r : Re
   table = counted-table R (R .tunnels) (counts R m f) c (r .counted) (r .good .tunnels)
 
   -- the turn of tunnel t, whose numbers stand from i on
-  module _ (t : ℕ) (h : t < at l 3) (i : ℕ) (here : i ≡ tunnelAt l t) where
+  module _ (t : ℕ) (h : t < tableSizes l .tunnels) (i : ℕ) (here : i ≡ ruleAt (tableSizes l) t) where
     stays : (waits R m f t && goes R m stage f t) ≡ false → Reached l m (turn R m stage f t) c o
     stays e = record { counted = r .counted; size = r .size; stages = sym (turn-stays R m stage f t e) }
 

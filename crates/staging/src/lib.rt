@@ -10,6 +10,7 @@ ghost use Rattle.rules.specs.Stage.{staged};
 ghost use Rattle.rules.specs.Lists.{rulesOf, stagedList, GoodRules};
 use forms::judge;
 use lists::Answer;
+use lists::RuleTables;
 use switches::room;
 use switches::tables::SWITCHES;
 
@@ -56,7 +57,7 @@ fn stage_good(list: &[u64], out: &mut [u64]) -> Answer
     let Answer::Done(_) = judged else {
         return judged;
     };
-    let tunnels = list[3] as usize;
+    let tunnels = RuleTables::of(list).tunnels;
     if out.len() < tunnels {
         return Answer::Refused {
             number: 10,

@@ -4,10 +4,10 @@ ghost use mathlib.Core.List.{_++_};
 ghost use Prim.Native.Nat.{_-_, _*_, _≤_, _<_};
 ghost use lib.ListN.{length, drop};
 ghost use Rattle.model.specs.Listed.{listed};
-ghost use Rattle.lists.specs.Lists.{at};
+ghost use Rattle.lists.specs.Lists.{at, ruleAt, tableSizes};
 ghost use Rattle.rules.specs.Stage as model;
 ghost use Rattle.rules.specs.Rules.{remove, lastStage};
-ghost use Rattle.rules.specs.Lists.{tunnelAt, rulesOf, GoodRules};
+ghost use Rattle.rules.specs.Lists.{rulesOf, GoodRules};
 ghost use Rattle.switches.specs.Inner.{OfKind, Spares};
 ghost use Rattle.staging.specs.Inner.{Ready, Reached, StagedTo, moveOf};
 use lists::RuleTables;
@@ -35,7 +35,7 @@ fn turn(
     stages: &mut [u64],
 )
     requires { ⌜ Ready (now list) (now spares) (p .kind) (p .stage) (p .times) (p .unit) (now counts) (now stages) ⌝ }
-    requires { ⌜ (t < at (now list) 3) × (from ≡ tunnelAt (now list) t) ⌝ }
+    requires { ⌜ (t < tableSizes (now list) .tunnels) × (from ≡ ruleAt (tableSizes (now list)) t) ⌝ }
     ensures { λ _. ⌜ Reached (now (list .entry)) (moveOf (p .kind)) (model.turn (rulesOf (now (list .entry))) (moveOf (p .kind)) (p .stage) (at (now (stages .entry))) t) (now (counts .exit)) (now (stages .exit)) ⌝ }
 {
     let kind = p.kind;
@@ -61,12 +61,10 @@ fn pass(list: &[u64], spares: &[u64], p: Terms, counts: &mut [u64], stages: &mut
     ensures { λ _. ⌜ Reached (now (list .entry)) (moveOf (p .kind)) (model.pass (rulesOf (now (list .entry))) (moveOf (p .kind)) (p .stage) (at (now (stages .entry))) (rulesOf (now (list .entry)) .tunnels)) (now (counts .exit)) (now (stages .exit)) ⌝ }
 {
     let sizes = RuleTables::of(list);
-    let tunnels = sizes.tunnels;
-    let mut from = sizes.tunnels_at();
     let mut t: usize = 0;
-    while t < tunnels {
+    while t < sizes.tunnels {
+        let from = sizes.rule_at(t);
         turn(list, from, spares, p, t, counts, stages);
-        from += 2;
         t += 1;
     }
 }
@@ -124,11 +122,12 @@ fn copy(stages: &[u64], tunnels: usize, out: &mut [u64])
 
 // Gives each tunnel its stage. The stages are found in a table that starts with none, since the output may hold anything.
 pub(crate) fn give(list: &[u64], spares: &[u64], remaining: &mut [u64], out: &mut [u64])
-    requires { ⌜ GoodRules (now list) × Spares (rulesOf (now list)) (now spares) × OfKind (now list) remove (now remaining) × (at (now list) 3 ≤ length (now out)) ⌝ }
-    ensures { λ _. ⌜ now (out .exit) ≡ listed (at (now (list .entry)) 3) (model.stages (rulesOf (now (list .entry))) (lastStage (rulesOf (now (list .entry))))) ++ drop (at (now (list .entry)) 3) (now (out .entry)) ⌝ }
+    requires { ⌜ GoodRules (now list) × Spares (rulesOf (now list)) (now spares) × OfKind (now list) remove (now remaining) × (tableSizes (now list) .tunnels ≤ length (now out)) ⌝ }
+    ensures { λ _. ⌜ now (out .exit) ≡ listed (tableSizes (now (list .entry)) .tunnels) (model.stages (rulesOf (now (list .entry))) (lastStage (rulesOf (now (list .entry))))) ++ drop (tableSizes (now (list .entry)) .tunnels) (now (out .entry)) ⌝ }
 {
     let mut added = [0u64; SWITCHES];
     let mut stages = [0u64; TUNNELS];
     run(list, spares, &mut added, remaining, &mut stages);
-    copy(&stages, list[3] as usize, out);
+    let sizes = RuleTables::of(list);
+    copy(&stages, sizes.tunnels, out);
 }

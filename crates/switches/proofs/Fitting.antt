@@ -1,6 +1,6 @@
 -- Laws of the judging of the switches, one after the other: none so far is too full, and what is spare at each is in the table.
 use Prim.Native.Nat.{ℕ, _+_, _-_, _*_, _≤_, _<_}
-use mathlib.Core.Path.{_≡_, refl, sym, ap, _∙_}
+use mathlib.Core.Path.{_≡_, refl, sym, ap, ap₂, _∙_}
 use mathlib.Core.Logic.{⊎-elim}
 use mathlib.Core.Bool.{Bool, true, false, cond}
 use mathlib.Core.List.{List}
@@ -15,7 +15,7 @@ use Rattle.model.specs.Limits.{mostTunnels, mostSwitches, mostRoom}
 use Rattle.model.specs.Search.{onlyIf, orElse, first}
 use Rattle.model.specs.Outcome.{Place}
 use Rattle.model.proofs.Searches.{bool-cases, first-zero, first-on, first-at}
-use Rattle.lists.specs.Lists.{at}
+use Rattle.lists.specs.Lists.{at, roomAt, tableSizes}
 use Rattle.lists.specs.declared.Answer.the-variants.{Done, Refused}
 use Rattle.rules.specs.Rules.{Rules, keep, add, remove, isKind, count, usable, spare}
 use Rattle.rules.specs.Stage.{tooMany, unfitAt, lowestUnfit}
@@ -38,7 +38,7 @@ judging-start R x e = record {
   each = λ s h. absurd (omega (arith, h));
 }
 
-pub judging-end : (l x : List ℕ) (n : ℕ) → Judging (rulesOf l) n x → n ≡ at l 2 → Judged l (Done 0) x
+pub judging-end : (l x : List ℕ) (n : ℕ) → Judging (rulesOf l) n x → n ≡ tableSizes l .switches → Judged l (Done 0) x
 unfolding rulesOf
 judging-end l x n J e =
     let fit : lowestUnfit (rulesOf l) ≡ none = rw e at (J .fits) in
@@ -60,7 +60,7 @@ pick-none true b n e h = absurd (omega (arith, e, h))
 pick-none false true n e h = absurd (omega (arith, e, h))
 pick-none false false n e h = (refl, refl)
 
-module _ (l kept adding removing : List ℕ) (g : GoodRules l) (K : Kinds l kept adding removing) (s : ℕ) (h : s < at l 2) where
+module _ (l kept adding removing : List ℕ) (g : GoodRules l) (K : Kinds l kept adding removing) (s : ℕ) (h : s < tableSizes l .switches) (i : ℕ) (here : i ≡ roomAt (tableSizes l) s) where
   abbrev R : Rules
   R = rulesOf l
 
@@ -75,35 +75,39 @@ module _ (l kept adding removing : List ℕ) (g : GoodRules l) (K : Kinds l kept
   counts-most = (counted _ kept (K .keeps) .1, counted _ adding (K .enters) .1, counted _ removing (K .leaves) .1)
 
   abbrev most : ℕ
-  most = (1000 - at l 1) * at l (4 + s)
+  most = (1000 - at l 1) * at l i
 
-  pub usable-most : (1000 - at l 1) * at l (4 + s) ≤ 1000 * mostRoom
-  usable-most = let part : 1000 - at l 1 ≤ 1000 = omega arith in mul-le-mul part (g .room s h)
+  most-is : most ≡ usable R s
+  unfolding usable rulesOf
+  most-is = ap (λ (j : ℕ). (1000 - at l 1) * at l j) here
+
+  pub usable-most : (1000 - at l 1) * at l i ≤ 1000 * mostRoom
+  usable-most = let part : 1000 - at l 1 ≤ 1000 = omega arith in rw here (mul-le-mul part (g .room s h))
 
   -- the test of a set is by its counts
   test-same : (other : ℕ) (c : List ℕ) → Counted R (R .tunnels) (isKind R other) c → tooMany R other s ≡ ltb most (1000 * (at kept s + at c s))
-  unfolding tooMany usable rulesOf
-  test-same other c C = rw (sym (counted _ kept (K .keeps) .0), sym (counted _ c C .0)) refl
+  unfolding tooMany
+  test-same other c C = rw (most-is, counted _ kept (K .keeps) .0, counted _ c C .0) refl
 
-  module _ (second : ℕ) (e : second ≡ unfitBy ((1000 - at l 1) * at l (4 + s)) (at kept s) (at removing s) (at adding s)) (x : List ℕ) (J : Judging R s x) where
+  module _ (second : ℕ) (e : second ≡ unfitBy ((1000 - at l 1) * at l i) (at kept s) (at removing s) (at adding s)) (x : List ℕ) (J : Judging R s x) where
     pub judging-not : second < 2 → Judged l (Refused 18 s second) x
     unfolding rulesOf unfitAt unfitBy
     judging-not b =
-        let found : lowestUnfit R ≡ some (spot s second) = first-at (unfitAt R) s (R .switches) _ (J .fits) here h in
+        let found : lowestUnfit R ≡ some (spot s second) = first-at (unfitAt R) s (R .switches) _ (J .fits) not-here h in
         record { answer = rw found; spares = λ z. absurd (Option·some-ne-none (spot s second) (sym found ∙ z)) }
       where
-        here : unfitAt R s ≡ some (spot s second)
-        here = rw (test-same remove removing (K .leaves), test-same add adding (K .enters)) (pick _ _ s second e b)
+        not-here : unfitAt R s ≡ some (spot s second)
+        not-here = rw (test-same remove removing (K .leaves), test-same add adding (K .enters)) (pick _ _ s second e b)
 
     module _ (n : 2 ≤ second) where
       fit : (ltb most (1000 * (at kept s + at removing s)) ≡ false) × (ltb most (1000 * (at kept s + at adding s)) ≡ false)
       unfolding unfitBy
       fit = pick-none _ _ second e n
 
-      pub kept-most : 1000 * at kept s ≤ (1000 - at l 1) * at l (4 + s)
+      pub kept-most : 1000 * at kept s ≤ (1000 - at l 1) * at l i
       kept-most = omega (arith, ltb-false most (1000 * (at kept s + at removing s)) (fit .0))
 
-      pub judging-on : Judging R (s + 1) (set x s ((1000 - at l 1) * at l (4 + s) - 1000 * at kept s))
+      pub judging-on : Judging R (s + 1) (set x s ((1000 - at l 1) * at l i - 1000 * at kept s))
       unfolding unfitAt onlyIf orElse spare usable rulesOf
       judging-on = record {
         fits = first-on (unfitAt R) s (J .fits) (rw (test-same remove removing (K .leaves), test-same add adding (K .enters), fit .0, fit .1));
@@ -111,19 +115,19 @@ module _ (l kept adding removing : List ℕ) (g : GoodRules l) (K : Kinds l kept
         each = each;
       }
         where
-          here : at (set x s (most - 1000 * at kept s)) s ≡ most - 1000 * at kept s
-          here = getD-set-same x s (most - 1000 * at kept s) 0 (omega (arith, low, J .table .size))
+          stored : at (set x s (most - 1000 * at kept s)) s ≡ most - 1000 * at kept s
+          stored = getD-set-same x s (most - 1000 * at kept s) 0 (omega (arith, low, J .table .size))
 
           small : (u : ℕ) → u < mostSwitches → at (set x s (most - 1000 * at kept s)) u ≤ 1000 * mostRoom
           small u k =
               ⊎-elim
-              (λ e. let q : u ≡ s = eqb-true u s e in rw q (omega (arith, here, usable-most)))
+              (λ e. let q : u ≡ s = eqb-true u s e in rw q (omega (arith, stored, usable-most)))
               (λ e. omega (arith, getD-set-other x s u (most - 1000 * at kept s) 0 (eqb-false u s e), J .table .most u k))
               (bool-cases (eqb u s))
 
           each : (u : ℕ) → u < s + 1 → at (set x s (most - 1000 * at kept s)) u ≡ usable R u - 1000 * count R (isKind R keep) u
           each u k =
               ⊎-elim
-              (λ e. let q : u ≡ s = eqb-true u s e in rw q (here ∙ ap (λ (n : ℕ). most - 1000 * n) (counted _ kept (K .keeps) .0)))
+              (λ e. let q : u ≡ s = eqb-true u s e in rw q (stored ∙ ap₂ (λ (m n : ℕ). m - 1000 * n) most-is (counted _ kept (K .keeps) .0)))
               (λ e. getD-set-other x s u (most - 1000 * at kept s) 0 (eqb-false u s e) ∙ J .each u (omega (arith, k, eqb-false u s e)))
               (bool-cases (eqb u s))

@@ -10,9 +10,9 @@ use borrow.Author.Tests.{eq-eqb, ne-eqb}
 use Rattle.model.specs.Limits.{mostTunnels, mostSwitches}
 use Rattle.model.specs.Sets.{inSet}
 use Rattle.model.proofs.Sums.{sum-zero, sum-take, sum-skip, sum-bound}
-use Rattle.lists.specs.Lists.{at}
+use Rattle.lists.specs.Lists.{at, ruleAt, tableSizes}
 use Rattle.rules.specs.Rules.{Rules, isKind, rule}
-use Rattle.rules.specs.Lists.{tunnelAt, rulesOf}
+use Rattle.rules.specs.Lists.{rulesOf}
 use Rattle.switches.specs.Inner.{Table, Counted, Shifted, Shiftable}
 
 pub cond-zero : (b : Bool) → _≡_ {A = ℕ} (cond b 0 0) 0
@@ -57,7 +57,7 @@ one-more via c T = record { table = T; small = omega arith; enough = λ s h e. o
 
 -- ---- the tunnels of a kind, in a list: t is the next, and its lines begin at i
 
-module _ (l : List ℕ) (kind t i : ℕ) (c : List ℕ) (here : i ≡ tunnelAt l t) (C : Counted (rulesOf l) t (isKind (rulesOf l) kind) c) where
+module _ (l : List ℕ) (kind t i : ℕ) (c : List ℕ) (here : i ≡ ruleAt (tableSizes l) t) (C : Counted (rulesOf l) t (isKind (rulesOf l) kind) c) where
   pub kind-take : (c′ : List ℕ) → at l (i + 1) ≡ kind → Shifted (at l i) 1 0 c c′ → Counted (rulesOf l) (t + 1) (isKind (rulesOf l) kind) c′
   unfolding rulesOf isKind
   kind-take c′ e S = counted-take (rulesOf l) t (isKind (rulesOf l) kind) c c′ C (eq-eqb _ kind (rw here at e)) (rw here at S)

@@ -38,10 +38,10 @@ fn by_counts(
     ensures { λ r. ⌜ Judged (now (list .entry)) r (now (spares .exit)) ⌝ }
 {
     let free = 1000 - list[1];
-    let switches = list[2] as usize;
+    let sizes = RuleTables::of(list);
     let mut s: usize = 0;
-    while s < switches {
-        let usable = free * list[4 + s];
+    while s < sizes.switches {
+        let usable = free * list[sizes.room_at(s)];
         let held = kept[s];
         let second = unfit(usable, held, removing[s], adding[s]);
         if second < 2 {

@@ -46,14 +46,12 @@ pub fn count(list: &[u64], kind: u64, counts: &mut [u64])
     ensures { λ _. ⌜ OfKind (now (list .entry)) kind (now (counts .exit)) ⌝ }
 {
     let sizes = RuleTables::of(list);
-    let tunnels = sizes.tunnels;
-    let mut at = sizes.tunnels_at();
     let mut t: usize = 0;
-    while t < tunnels {
+    while t < sizes.tunnels {
+        let at = sizes.rule_at(t);
         if list[at + 1] == kind {
             shift(counts, list[at], 1, 0);
         }
-        at += 2;
         t += 1;
     }
 }

@@ -1,31 +1,42 @@
 -- How long the lines of a list are: all that is not a decimal digit, and those.
 use mathlib.Core.Path.{_≡_, refl, sym, ap, _∙_}
 use mathlib.Core.List.{List, [], _∷_, _++_}
-use Prim.Native.Nat.{ℕ, zero, suc, _+_, _*_, _-_, _/_, _%_, _≤_, _<_}
+use Prim.Native.Nat.{ℕ, zero, suc, _+_, _*_, _-_, _≤_, _<_}
 use native.Mathlib.Numerals.{add-one}
-use native.Mathlib.Nat.{zero-add, one-mul, le-of-lt}
+use native.Mathlib.Nat.{zero-add, le-of-lt}
 use native.Mathlib.Decide.{decLt}
 use native.Mathlib.Omega.{arith}
 use lib.ListN.{length, getD, length-append}
-use Rattle.lists.specs.Lists.{at}
+use Rattle.lists.specs.Lists.{networkSizes, linkAt, flowAt, tunnelAt}
+use Rattle.lists.specs.declared.Network as counts
+use Rattle.lists.proofs.Positions.{link-at, flow-at, tunnel-at, flows-follow, tunnels-follow, head-size, each-number}
 use Rattle.forms.specs.Bytes.{bytes}
-use Rattle.forms.specs.Form.{Whole}
+use Rattle.forms.specs.Form.{Whole, networkLines, planLines}
 use Rattle.forms.specs.Write.{digitsIn, widthOf, render}
 use Rattle.forms.specs.declared.form.Form.{Form}
 use Rattle.forms.specs.declared.form.Form.the-variants.{Network, Plan}
 use Rattle.forms.proofs.Good.{network-size, plan-size}
 use Rattle.forms.proofs.Numbers.{length-digits}
-use Rattle.writers.specs.Write.{lineAt, linesFrom, Decimal, widthsOf}
+use Rattle.writers.specs.Write.{lineAt, linesFrom, Decimal, widthsOf, tunnelWidths}
 use Rattle.writers.proofs.Runs.{DecimalAt, lines-none, lines-more, all-lines, network-head-line, cap-line, class-line, rate-line, flow-line, via-line, old-line, new-line, plan-head-line, at-line}
 
-module _ (l : List ℕ) (from step : ℕ) where
-  pub widths-none : widthsOf l from step 0 ≡ 0
+module _ (l : List ℕ) where
+  pub widths-none : widthsOf l 0 ≡ 0
   unfolding widthsOf
   widths-none = refl
 
-  pub widths-more : (n : ℕ) → widthsOf l from step (n + 1) ≡ widthsOf l from step n + widthOf (getD l (from + step * n) 0)
+  pub widths-more : (n : ℕ) → widthsOf l (n + 1) ≡ widthsOf l n + widthOf (getD l n 0)
   unfolding widthsOf
   widths-more n = rw add-one
+
+  pub tunnel-widths-none : tunnelWidths l 0 ≡ 0
+  unfolding tunnelWidths
+  tunnel-widths-none = refl
+
+  pub tunnel-widths-more : (t : ℕ) → tunnelWidths l (t + 1)
+      ≡ tunnelWidths l t + (widthOf (getD l (tunnelAt (networkSizes l) t) 0) + widthOf (getD l (tunnelAt (networkSizes l) t + 2) 0) + widthOf (getD l (tunnelAt (networkSizes l) t + 3) 0))
+  unfolding tunnelWidths
+  tunnel-widths-more t = rw add-one
 
 -- ---- one line more
 
@@ -35,7 +46,7 @@ module _ (form : Form) (l : List ℕ) where
   size n = length (linesFrom form l 0 n)
 
   abbrev digits : ℕ → ℕ
-  digits n = widthsOf l 0 1 n
+  digits n = widthsOf l n
 
   size-more : (n : ℕ) → size (n + 1) ≡ size n + length (lineAt form l n)
   size-more n = ap length (rw zero-add at (lines-more form l 0 n)) ∙ length-append (linesFrom form l 0 n) (lineAt form l n)
@@ -51,12 +62,11 @@ module _ (form : Form) (l : List ℕ) where
   Long n c = size n ≡ c + digits n
 
   long-none : Long 0 0
-  long-none = omega (arith, ap length (lines-none form l 0), widths-none l 0 1)
+  long-none = omega (arith, ap length (lines-none form l 0), widths-none l)
 
   long-more : (n n′ c c′ : ℕ) (key : List ℕ) → n′ ≡ n + 1 → c′ ≡ c + length key + 1 → DecimalAt form l n key → Long n c → Long n′ c′
   long-more n n′ c c′ key e f d h =
-      let more : digits (n + 1) ≡ digits n + widthOf (getD l n 0) = rw (one-mul n, zero-add n) at (widths-more l 0 1 n) in
-      rw (e, f) (omega (arith, size-more n, decimal-length n key d, more))
+      rw (e, f) (omega (arith, size-more n, decimal-length n key d, widths-more l n))
 
 -- ---- the plan
 
@@ -73,12 +83,12 @@ module _ (l : List ℕ) (w : Whole Plan l) where
   rows-long zero h = plan-head-long
   rows-long (suc n) h = long-more Plan l (4 + n) (4 + suc n) (29 + 4 * n) (29 + 4 * suc n) (bytes "at=") (omega arith) (omega arith) (at-line l w (4 + n) (omega arith) (omega arith)) (rows-long n (omega arith))
 
-  pub plan-length : length (render Plan l) ≡ 13 + 4 * length l + widthsOf l 0 1 (length l)
+  pub plan-length : length (render Plan l) ≡ 29 + 4 * (length l - length planLines) + widthsOf l (length l)
   plan-length =
       let e : 4 + (length l - 4) ≡ length l = omega (arith, plan-size l w) in
       omega (arith, rw (e, all-lines Plan l) at (rows-long (length l - 4) (omega arith)))
 
-  plan-head-number : (i : ℕ) → i < 4 → Decimal l i
+  plan-head-number : (i : ℕ) → i < length planLines → Decimal l i
   plan-head-number zero h = plan-head-line l w 0 _ _ h refl refl .number
   plan-head-number (suc zero) h = plan-head-line l w 1 _ _ h refl refl .number
   plan-head-number (suc (suc zero)) h = plan-head-line l w 2 _ _ h refl refl .number
@@ -106,66 +116,58 @@ module _ (l : List ℕ) (w : Whole Network l) where
       let five : Long Network l 5 37 = long-more Network l 4 5 30 37 (bytes "flows=") refl refl (line 4 _ _ (omega arith) refl refl) four in
       long-more Network l 5 6 37 46 (bytes "tunnels=") refl refl (line 5 _ _ (omega arith) refl refl) five
 
-  links-long : (k : ℕ) → k ≤ at l 3 → Long Network l (6 + k) (46 + 5 * k)
-  links-long zero h = network-head-long
-  links-long (suc k) h = long-more Network l (6 + k) (6 + suc k) (46 + 5 * k) (46 + 5 * suc k) (bytes "cap=") (omega arith) (omega arith) (cap-line l w k (6 + k) h refl) (links-long k (le-of-lt h))
+  abbrev sizes : counts.Network
+  sizes = networkSizes l
 
-  -- where the lines of flow f begin, and those of tunnel t; how many bytes before them are no decimal digit
-  abbrev flowsFrom : ℕ → ℕ
-  flowsFrom f = 6 + at l 3 + 2 * f
+  links-long : (k : ℕ) → k ≤ sizes .links → Long Network l (linkAt sizes k) (46 + 5 * k)
+  links-long zero h = rw (head-size sizes) network-head-long
+  links-long (suc k) h =
+      long-more Network l (linkAt sizes k) (linkAt sizes (suc k)) (46 + 5 * k) (46 + 5 * suc k) (bytes "cap=") (omega (arith, link-at sizes k, link-at sizes (suc k))) (omega arith)
+      (cap-line l w k (linkAt sizes k) h refl) (links-long k (le-of-lt h))
 
-  abbrev tunnelsFrom : ℕ → ℕ
-  tunnelsFrom t = 6 + at l 3 + 2 * at l 4 + 4 * t
-
-  flows-long : (f : ℕ) → f ≤ at l 4 → Long Network l (flowsFrom f) (46 + 5 * at l 3 + 13 * f)
-  flows-long zero h =
-      let e : flowsFrom 0 ≡ 6 + at l 3 = omega arith in
-      omega (arith, ap (size Network l) e, ap (digits Network l) e, links-long (at l 3) (omega arith))
+  flows-long : (f : ℕ) → f ≤ sizes .flows → Long Network l (flowAt sizes f) (46 + 5 * sizes .links + 13 * f)
+  flows-long zero h = rw (flows-follow sizes) (omega (arith, links-long (sizes .links) (omega arith)))
   flows-long (suc f) h =
-      let i : ℕ = 6 + at l 3 + 2 * f in
-      let c : ℕ = 46 + 5 * at l 3 + 13 * f in
-      long-more Network l (i + 1) (flowsFrom (suc f)) (c + 7) (46 + 5 * at l 3 + 13 * suc f) (bytes "rate=") (omega arith) (omega arith) (rate-line l w f (i + 1) h refl)
+      let i : ℕ = flowAt sizes f in
+      let c : ℕ = 46 + 5 * sizes .links + 13 * f in
+      long-more Network l (i + 1) (flowAt sizes (suc f)) (c + 7) (46 + 5 * sizes .links + 13 * suc f) (bytes "rate=") (omega (arith, flow-at sizes f, flow-at sizes (suc f))) (omega arith)
+      (rate-line l w f (i + 1) h refl)
       (long-more Network l i (i + 1) c (c + 7) (bytes "class=") refl (omega arith) (class-line l w f i h refl) (flows-long f (le-of-lt h)))
 
-  via-length : (t i : ℕ) → t < at l 5 → i ≡ 6 + at l 3 + 2 * at l 4 + 4 * t + 1 → length (lineAt Network l i) ≡ 21
+  via-length : (t i : ℕ) → t < sizes .tunnels → i ≡ tunnelAt sizes t + 1 → length (lineAt Network l i) ≡ 21
   via-length t i h e =
       let d = digitsIn 16 16 (getD l i 0) in
       omega (arith, ap length (via-line l w t i h e), length-append d (10 ∷ []), length-digits 16 16 (getD l i 0))
 
   -- the tunnels: the digits of their flows, old and new amounts are counted apart
   abbrev TunnelsLong : ℕ → Type 0
-  TunnelsLong t = size Network l (tunnelsFrom t)
-      ≡ 46 + 5 * at l 3 + 13 * at l 4 + 37 * t + widthsOf l 0 1 (flowsFrom (at l 4)) + widthsOf l (flowsFrom (at l 4)) 4 t + widthsOf l (flowsFrom (at l 4) + 2) 4 t + widthsOf l (flowsFrom (at l 4) + 3) 4 t
+  TunnelsLong t = size Network l (tunnelAt sizes t) ≡ 46 + 5 * sizes .links + 13 * sizes .flows + 37 * t + widthsOf l (tunnelAt sizes 0) + tunnelWidths l t
 
   tunnels-none : TunnelsLong 0
-  tunnels-none =
-      let first = flowsFrom (at l 4) in
-      let e : tunnelsFrom 0 ≡ flowsFrom (at l 4) = omega arith in
-      omega (arith, ap (size Network l) e, flows-long (at l 4) (omega arith), widths-none l first 4, widths-none l (first + 2) 4, widths-none l (first + 3) 4)
+  tunnels-none = rw (tunnels-follow sizes) (omega (arith, flows-long (sizes .flows) (omega arith), tunnel-widths-none l))
 
-  tunnels-more : (t : ℕ) → t < at l 5 → TunnelsLong t → TunnelsLong (t + 1)
+  tunnels-more : (t : ℕ) → t < sizes .tunnels → TunnelsLong t → TunnelsLong (t + 1)
   tunnels-more t h p =
-      let first = flowsFrom (at l 4) in
-      let i = tunnelsFrom t in
-      let e : tunnelsFrom t + 1 + 1 + 1 + 1 ≡ tunnelsFrom (t + 1) = omega arith in
-      let old : flowsFrom (at l 4) + 2 + 4 * t ≡ tunnelsFrom t + 1 + 1 = omega arith in
-      let new : flowsFrom (at l 4) + 3 + 4 * t ≡ tunnelsFrom t + 1 + 1 + 1 = omega arith in
+      let i = tunnelAt sizes t in
+      let e : i + 1 + 1 + 1 + 1 ≡ tunnelAt sizes (t + 1) = omega (arith, tunnel-at sizes t, tunnel-at sizes (t + 1)) in
+      let old : i + 2 ≡ i + 1 + 1 = omega arith in
+      let new : i + 3 ≡ i + 1 + 1 + 1 = omega arith in
       let width : ℕ → ℕ = λ j. widthOf (getD l j 0) in
       let flow-size = size-more Network l i ∙ ap (λ (n : ℕ). size Network l i + n) (decimal-length Network l i (bytes "flow=") (flow-line l w t i h refl)) in
       let via-size = size-more Network l (i + 1) ∙ ap (λ (n : ℕ). size Network l (i + 1) + n) (via-length t (i + 1) h refl) in
-      let old-size = size-more Network l (i + 1 + 1) ∙ ap (λ (n : ℕ). size Network l (i + 1 + 1) + n) (decimal-length Network l (i + 1 + 1) (bytes "old=") (old-line l w t (i + 1 + 1) h (omega arith))) in
-      let new-size = size-more Network l (i + 1 + 1 + 1) ∙ ap (λ (n : ℕ). size Network l (i + 1 + 1 + 1) + n) (decimal-length Network l (i + 1 + 1 + 1) (bytes "new=") (new-line l w t (i + 1 + 1 + 1) h (omega arith))) in
-      omega (arith, flow-size, via-size, old-size, new-size, ap (size Network l) e, widths-more l first 4 t, widths-more l (first + 2) 4 t, widths-more l (first + 3) 4 t, ap width old, ap width new)
+      let old-size = size-more Network l (i + 1 + 1) ∙ ap (λ (n : ℕ). size Network l (i + 1 + 1) + n) (decimal-length Network l (i + 1 + 1) (bytes "old=") (old-line l w t (i + 1 + 1) h (sym old))) in
+      let new-size = size-more Network l (i + 1 + 1 + 1) ∙ ap (λ (n : ℕ). size Network l (i + 1 + 1 + 1) + n) (decimal-length Network l (i + 1 + 1 + 1) (bytes "new=") (new-line l w t (i + 1 + 1 + 1) h (sym new))) in
+      omega (arith, flow-size, via-size, old-size, new-size, ap (size Network l) e, tunnel-widths-more l t, ap width old, ap width new)
 
-  tunnels-long : (t : ℕ) → t ≤ at l 5 → TunnelsLong t
+  tunnels-long : (t : ℕ) → t ≤ sizes .tunnels → TunnelsLong t
   tunnels-long zero h = tunnels-none
   tunnels-long (suc t) h = rw (add-one t) at (tunnels-more t h (tunnels-long t (le-of-lt h)))
 
   pub network-length : length (render Network l)
-      ≡ 46 + 5 * at l 3 + 13 * at l 4 + 37 * at l 5 + widthsOf l 0 1 (flowsFrom (at l 4)) + widthsOf l (flowsFrom (at l 4)) 4 (at l 5) + widthsOf l (flowsFrom (at l 4) + 2) 4 (at l 5) + widthsOf l (flowsFrom (at l 4) + 3) 4 (at l 5)
-  network-length = sym (ap length (all-lines Network l)) ∙ ap (size Network l) (network-size l w) ∙ tunnels-long (at l 5) (omega arith)
+      ≡ 46 + 5 * sizes .links + 13 * sizes .flows + 37 * sizes .tunnels + widthsOf l (tunnelAt sizes 0) + tunnelWidths l (sizes .tunnels)
+  network-length = sym (ap length (all-lines Network l)) ∙ ap (size Network l) (network-size l w) ∙ tunnels-long (sizes .tunnels) (omega arith)
 
-  network-head-number : (i : ℕ) → i < 6 → Decimal l i
+  network-head-number : (i : ℕ) → i < length networkLines → Decimal l i
   network-head-number zero h = network-head-line l w 0 _ _ h refl refl .number
   network-head-number (suc zero) h = network-head-line l w 1 _ _ h refl refl .number
   network-head-number (suc (suc zero)) h = network-head-line l w 2 _ _ h refl refl .number
@@ -175,17 +177,19 @@ module _ (l : List ℕ) (w : Whole Network l) where
   network-head-number (suc (suc (suc (suc (suc (suc i)))))) h = absurd (omega arith)
 
   -- the numbers before those of the tunnels are decimal
-  pub network-number : (i : ℕ) → i < flowsFrom (at l 4) → Decimal l i
-  network-number i h = head (decLt i 6)
+  pub network-number : (i : ℕ) → i < tunnelAt sizes 0 → Decimal l i
+  network-number i h = head (decLt i (length networkLines))
     where
-      flow : 6 + at l 3 ≤ i → Dec ((i - 6 - at l 3) % 2 < 1) → Decimal l i
-      flow k (yes e) = class-line l w ((i - 6 - at l 3) / 2) i (omega arith) (omega arith) .number
-      flow k (no e) = rate-line l w ((i - 6 - at l 3) / 2) i (omega arith) (omega arith) .number
+      flow : (f j : ℕ) → f < sizes .flows → j < 2 → flowAt sizes f + j < tunnelAt sizes 0 → Decimal l (flowAt sizes f + j)
+      flow f zero k g less = class-line l w f (flowAt sizes f + 0) k (omega arith) .number
+      flow f (suc zero) k g less = rate-line l w f (flowAt sizes f + 1) k refl .number
+      flow f (suc (suc j)) k g less = absurd (omega arith)
 
-      link : 6 ≤ i → Dec (i < 6 + at l 3) → Decimal l i
-      link k (yes e) = cap-line l w (i - 6) i (omega arith) (omega arith) .number
-      link k (no e) = flow (omega arith) (decLt ((i - 6 - at l 3) % 2) 1)
-
-      head : Dec (i < 6) → Decimal l i
+      head : Dec (i < length networkLines) → Decimal l i
       head (yes k) = network-head-number i k
-      head (no k) = link (omega arith) (decLt i (6 + at l 3))
+      head (no k) =
+          each-number sizes (λ m. m < tunnelAt sizes 0 → Decimal l m)
+          (λ k g less. cap-line l w k (linkAt sizes k) g refl .number)
+          flow
+          (λ t j g g′ less. absurd (omega (arith, tunnel-at sizes t)))
+          i (omega (arith, head-size sizes)) (omega (arith, tunnel-at sizes (sizes .tunnels))) h

@@ -8,17 +8,19 @@ use native.Mathlib.Numerals.{add-one}
 use native.Mathlib.Omega.{arith}
 use lib.ListN.{length, getD, take, drop, length-append}
 use borrow.Author.Tests.{lt-ltb}
-use Rattle.lists.specs.Lists.{at}
+use Rattle.lists.specs.Lists.{networkSizes, linkAt, flowAt, tunnelAt, planSizes, planSize}
+use Rattle.lists.specs.declared.Network as counts
+use Rattle.lists.proofs.Positions.{head-size, head-in, link-in, flow-in, tunnel-in, link-after, flow-after, tunnel-after}
 use Rattle.forms.specs.Bytes.{bytes}
 use Rattle.forms.specs.Keys.{prefixOf}
-use Rattle.forms.specs.Form.{fieldOf, isHex, Sound, Whole, networkLines, flowLines, tunnelLines, planLines}
+use Rattle.forms.specs.Form.{fieldOf, isHex, Sound, Whole, networkLines, networkBody, flowLines, tunnelLines, planLines}
 use Rattle.forms.specs.Write.{widthOf, lineOf, render, renderFrom}
 use Rattle.forms.specs.declared.form.Form.{Form}
 use Rattle.forms.specs.declared.form.Form.the-variants.{Network, Plan}
 use Rattle.forms.specs.declared.form.Range.{Range}
 use Rattle.forms.specs.declared.form.Field.{Field}
 use Rattle.forms.specs.declared.form.Field.the-variants.{Line, End}
-use Rattle.forms.proofs.Forms.{body-cap, body-flow, body-tunnel, rowLines, network-head-field, network-body-field, plan-head-field, plan-body-field}
+use Rattle.forms.proofs.Forms.{body-cap, body-flow, body-tunnel, network-head-field, network-body-field, plan-head-field, plan-body-field}
 use Rattle.forms.proofs.Good.{network-size, plan-size}
 use Rattle.forms.proofs.Rendering.{render-step, render-end, at-most, short-value, line-length}
 use Rattle.writers.specs.Write.{Puts, decimalLine, hexLine, lineAt, linesFrom, Decimal, Writable}
@@ -132,57 +134,71 @@ module _ (form : Form) (l : List ℕ) (n : ℕ) {out : List ℕ} (fits : length 
   head-next q = next-put form l 0 n head-room m m less (sym (zero-add m)) (d .line) p (m + 1) refl q
 
 module _ (l : List ℕ) (w : Whole Network l) where
-  pub network-head-line : (i k : ℕ) (r : Range) → i < 6 → getD networkLines i End ≡ Line k r → isHex r ≡ false → DecimalAt Network l i (prefixOf k)
-  network-head-line i k r h e x = decimal-at Network l i k r (w .sound) (omega (arith, network-size l w)) (network-head-field l i (omega (arith, network-size l w)) h ∙ e) x
+  abbrev sizes : counts.Network
+  sizes = networkSizes l
 
-  pub cap-line : (k i : ℕ) → k < at l 3 → i ≡ 6 + k → DecimalAt Network l i (bytes "cap=")
+  long : length networkLines ≤ length l
+  long = omega (arith, network-size l w, head-size sizes, head-in l (network-size l w))
+
+  pub network-head-line : (i k : ℕ) (r : Range) → i < length networkLines → getD networkLines i End ≡ Line k r → isHex r ≡ false → DecimalAt Network l i (prefixOf k)
+  network-head-line i k r h e x = decimal-at Network l i k r (w .sound) (omega (arith, long)) (network-head-field l i (omega (arith, long)) h ∙ e) x
+
+  -- the field at a number after the head
+  body-field : (i j : ℕ) → i < length l → i ≡ j → linkAt sizes 0 ≤ j → fieldOf Network (take i l) ≡ networkBody sizes j
+  body-field i j h e after = network-body-field l i (le-of-lt h) (omega (arith, head-size sizes)) ∙ ap (networkBody sizes) e
+
+  pub cap-line : (k i : ℕ) → k < sizes .links → i ≡ linkAt sizes k → DecimalAt Network l i (bytes "cap=")
   cap-line k i h e =
-      let within : i < length l = omega (arith, network-size l w) in
-      decimal-at Network l i _ _ (w .sound) within (network-body-field l i (le-of-lt within) k e ∙ body-cap (at l 3) (at l 4) (at l 5) k h) refl
+      let within : i < length l = omega (arith, link-in l (network-size l w) k h) in
+      decimal-at Network l i _ _ (w .sound) within (body-field i (linkAt sizes k) within e (link-after sizes k) ∙ body-cap sizes k h) refl
 
   -- the lines of flow f, and those of tunnel t
-  flow-field : (f j i : ℕ) → f < at l 4 → j < 2 → i ≡ 6 + at l 3 + 2 * f + j → fieldOf Network (take i l) ≡ getD flowLines j End
-  flow-field f j i h k e =
-      network-body-field l i (omega (arith, network-size l w)) (at l 3 + 2 * f + j) (omega arith) ∙ body-flow (at l 3) (at l 4) (at l 5) f j h k
+  flow-within : (f j i : ℕ) → f < sizes .flows → j < 2 → i ≡ flowAt sizes f + j → i < length l
+  flow-within f j i h k e = omega (arith, flow-in l (network-size l w) f h)
 
-  tunnel-field : (t j i : ℕ) → t < at l 5 → j < 4 → i ≡ 6 + at l 3 + 2 * at l 4 + 4 * t + j → fieldOf Network (take i l) ≡ getD (tunnelLines (at l 3) (at l 4)) j End
-  tunnel-field t j i h k e =
-      network-body-field l i (omega (arith, network-size l w)) (at l 3 + 2 * at l 4 + 4 * t + j) (omega arith) ∙ body-tunnel (at l 3) (at l 4) (at l 5) t j h k
+  flow-field : (f j i : ℕ) → f < sizes .flows → j < 2 → i ≡ flowAt sizes f + j → fieldOf Network (take i l) ≡ getD flowLines j End
+  flow-field f j i h k e = body-field i (flowAt sizes f + j) (flow-within f j i h k e) e (omega (arith, flow-after sizes f)) ∙ body-flow sizes f j h k
 
-  of-flow : (f j i k : ℕ) (r : Range) → f < at l 4 → j < 2 → i ≡ 6 + at l 3 + 2 * f + j → getD flowLines j End ≡ Line k r → isHex r ≡ false → DecimalAt Network l i (prefixOf k)
-  of-flow f j i k r h below e line x = decimal-at Network l i k r (w .sound) (omega (arith, network-size l w)) (flow-field f j i h below e ∙ line) x
+  tunnel-within : (t j i : ℕ) → t < sizes .tunnels → j < 4 → i ≡ tunnelAt sizes t + j → i < length l
+  tunnel-within t j i h k e = omega (arith, tunnel-in l (network-size l w) t h)
 
-  of-tunnel : (t j i k : ℕ) (r : Range) → t < at l 5 → j < 4 → i ≡ 6 + at l 3 + 2 * at l 4 + 4 * t + j → getD (tunnelLines (at l 3) (at l 4)) j End ≡ Line k r → isHex r ≡ false
+  tunnel-field : (t j i : ℕ) → t < sizes .tunnels → j < 4 → i ≡ tunnelAt sizes t + j → fieldOf Network (take i l) ≡ getD (tunnelLines sizes) j End
+  tunnel-field t j i h k e = body-field i (tunnelAt sizes t + j) (tunnel-within t j i h k e) e (omega (arith, tunnel-after sizes t)) ∙ body-tunnel sizes t j h k
+
+  of-flow : (f j i k : ℕ) (r : Range) → f < sizes .flows → j < 2 → i ≡ flowAt sizes f + j → getD flowLines j End ≡ Line k r → isHex r ≡ false → DecimalAt Network l i (prefixOf k)
+  of-flow f j i k r h below e line x = decimal-at Network l i k r (w .sound) (flow-within f j i h below e) (flow-field f j i h below e ∙ line) x
+
+  of-tunnel : (t j i k : ℕ) (r : Range) → t < sizes .tunnels → j < 4 → i ≡ tunnelAt sizes t + j → getD (tunnelLines sizes) j End ≡ Line k r → isHex r ≡ false
       → DecimalAt Network l i (prefixOf k)
-  of-tunnel t j i k r h below e line x = decimal-at Network l i k r (w .sound) (omega (arith, network-size l w)) (tunnel-field t j i h below e ∙ line) x
+  of-tunnel t j i k r h below e line x = decimal-at Network l i k r (w .sound) (tunnel-within t j i h below e) (tunnel-field t j i h below e ∙ line) x
 
-  pub class-line : (f i : ℕ) → f < at l 4 → i ≡ 6 + at l 3 + 2 * f → DecimalAt Network l i (bytes "class=")
+  pub class-line : (f i : ℕ) → f < sizes .flows → i ≡ flowAt sizes f → DecimalAt Network l i (bytes "class=")
   class-line f i h e = of-flow f 0 i _ _ h (omega arith) (omega arith) refl refl
 
-  pub rate-line : (f i : ℕ) → f < at l 4 → i ≡ 6 + at l 3 + 2 * f + 1 → DecimalAt Network l i (bytes "rate=")
+  pub rate-line : (f i : ℕ) → f < sizes .flows → i ≡ flowAt sizes f + 1 → DecimalAt Network l i (bytes "rate=")
   rate-line f i h e = of-flow f 1 i _ _ h (omega arith) e refl refl
 
-  pub flow-line : (t i : ℕ) → t < at l 5 → i ≡ 6 + at l 3 + 2 * at l 4 + 4 * t → DecimalAt Network l i (bytes "flow=")
+  pub flow-line : (t i : ℕ) → t < sizes .tunnels → i ≡ tunnelAt sizes t → DecimalAt Network l i (bytes "flow=")
   flow-line t i h e = of-tunnel t 0 i _ _ h (omega arith) (omega arith) refl refl
 
-  pub via-line : (t i : ℕ) → t < at l 5 → i ≡ 6 + at l 3 + 2 * at l 4 + 4 * t + 1 → lineAt Network l i ≡ hexLine (bytes "via=") (getD l i 0)
+  pub via-line : (t i : ℕ) → t < sizes .tunnels → i ≡ tunnelAt sizes t + 1 → lineAt Network l i ≡ hexLine (bytes "via=") (getD l i 0)
   unfolding lineAt
   via-line t i h e = rw (tunnel-field t 1 i h (omega arith) e)
 
-  pub old-line : (t i : ℕ) → t < at l 5 → i ≡ 6 + at l 3 + 2 * at l 4 + 4 * t + 2 → DecimalAt Network l i (bytes "old=")
+  pub old-line : (t i : ℕ) → t < sizes .tunnels → i ≡ tunnelAt sizes t + 2 → DecimalAt Network l i (bytes "old=")
   old-line t i h e = of-tunnel t 2 i _ _ h (omega arith) e refl refl
 
-  pub new-line : (t i : ℕ) → t < at l 5 → i ≡ 6 + at l 3 + 2 * at l 4 + 4 * t + 3 → DecimalAt Network l i (bytes "new=")
+  pub new-line : (t i : ℕ) → t < sizes .tunnels → i ≡ tunnelAt sizes t + 3 → DecimalAt Network l i (bytes "new=")
   new-line t i h e = of-tunnel t 3 i _ _ h (omega arith) e refl refl
 
 module _ (l : List ℕ) (w : Whole Plan l) where
-  pub plan-head-line : (i k : ℕ) (r : Range) → i < 4 → getD planLines i End ≡ Line k r → isHex r ≡ false → DecimalAt Plan l i (prefixOf k)
+  pub plan-head-line : (i k : ℕ) (r : Range) → i < length planLines → getD planLines i End ≡ Line k r → isHex r ≡ false → DecimalAt Plan l i (prefixOf k)
   plan-head-line i k r h e x = decimal-at Plan l i k r (w .sound) (omega (arith, plan-size l w)) (plan-head-field l i (omega (arith, plan-size l w)) h ∙ e) x
 
-  pub at-line : (i : ℕ) → 4 ≤ i → i < length l → DecimalAt Plan l i (bytes "at=")
+  pub at-line : (i : ℕ) → length planLines ≤ i → i < length l → DecimalAt Plan l i (bytes "at=")
   at-line i four h =
-      let n : i - 4 < rowLines l = omega (arith, plan-size l w) in
-      decimal-at Plan l i _ _ (w .sound) h (rw (lt-ltb (i - 4) (rowLines l) n) at (plan-body-field l i (le-of-lt h) (i - 4) (omega arith))) refl
+      let n : i < planSize (planSizes l) = omega (arith, plan-size l w) in
+      decimal-at Plan l i _ _ (w .sound) h (rw (lt-ltb i (planSize (planSizes l)) n) at (plan-body-field l i (le-of-lt h) four)) refl
 
 -- ---- the lines of any form, one by one
 

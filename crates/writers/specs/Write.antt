@@ -1,10 +1,11 @@
 -- What a write leaves, and the lines of a list, from any on.
-use Prim.Native.Nat.{ℕ, zero, suc, _+_, _*_, _≤_, _<_}
+use Prim.Native.Nat.{ℕ, zero, suc, _+_, _≤_, _<_}
 use mathlib.Core.Path.{_≡_}
 use mathlib.Core.Bool.{false}
 use mathlib.Core.List.{List, [], _∷_, _++_}
 use lib.ListN.{length, take, drop, getD}
-use Rattle.forms.specs.Form.{fieldOf, isHex, mostNumbers}
+use Rattle.lists.specs.Lists.{networkSizes, tunnelAt, mostNumbers}
+use Rattle.forms.specs.Form.{fieldOf, isHex}
 use Rattle.forms.specs.Write.{digitsIn, widthOf, lineOf}
 use Rattle.forms.specs.declared.form.Form.{Form}
 use Rattle.forms.specs.declared.form.Range.{Range}
@@ -59,7 +60,14 @@ pub record Decimal (l : List ℕ) (i : ℕ) : Type 0 where
   pub few : i < mostNumbers
   pub small : getD l i 0 < 10000000000
 
--- n numbers, each `step` past the one before it
-unfoldable pub widthsOf : List ℕ → ℕ → ℕ → ℕ → ℕ
-widthsOf l from step zero = 0
-widthsOf l from step (suc n) = widthsOf l from step n + widthOf (getD l (from + step * n) 0)
+-- the first n numbers
+unfoldable pub widthsOf : List ℕ → ℕ → ℕ
+widthsOf l zero = 0
+widthsOf l (suc n) = widthsOf l n + widthOf (getD l n 0)
+
+-- of the first n tunnels, their flows, old and new amounts
+unfoldable pub tunnelWidths : List ℕ → ℕ → ℕ
+tunnelWidths l zero = 0
+tunnelWidths l (suc t) =
+    tunnelWidths l t
+    + (widthOf (getD l (tunnelAt (networkSizes l) t) 0) + widthOf (getD l (tunnelAt (networkSizes l) t + 2) 0) + widthOf (getD l (tunnelAt (networkSizes l) t + 3) 0))

@@ -4,20 +4,40 @@ ghost use mathlib.Core.Path.{_≡_};
 ghost use Prim.Native.Nat.{ℕ, _+_, _*_, _-_, _≤_, _<_};
 ghost use lib.ListN.{length};
 ghost use Rattle.lists.specs.Answers.{done, withRoom, lent};
-ghost use Rattle.lists.specs.Lists.{at as numberAt};
-ghost use Rattle.forms.specs.Form.{Whole, mostNumbers};
+ghost use Rattle.lists.specs.Lists.{networkSizes, linkAt, flowAt, tunnelAt, mostNumbers};
+ghost use Rattle.forms.specs.Form.{Whole, networkLines, planLines};
 ghost use Rattle.forms.specs.Slots.{keyBytes};
 ghost use Rattle.forms.specs.Write.{digitChar, digitsIn, widthOf, lineOf, render};
-ghost use Rattle.writers.specs.Write.{Puts, decimalValue, decimalLine, hexLine, linesFrom, Decimal, Writable, Needed, widthsOf};
+ghost use Rattle.writers.specs.Write.{Puts, decimalValue, decimalLine, hexLine, linesFrom, Decimal, Writable, Needed, widthsOf, tunnelWidths};
 ghost use Rattle.forms.specs.Named.{writeNetwork, writePlan, writeRules};
 use forms::form;
 use forms::form::Field;
 use forms::form::Form;
 use forms::judge;
 use lists::Answer;
+use lists::Network;
+use lists::PlanSizes;
 
 // No valid text is longer, so that none has to be measured where there is so much room.
 const BYTES: usize = 65_536;
+
+// How many bytes of the lines are no decimal digit: each line's key, `=` and line feed, and of a `via` line also its 16 digits.
+// Of a network's head: net, scratch, overrun, links, flows, tunnels.
+const NETWORK_BYTES: usize = 5 + 9 + 9 + 7 + 7 + 9;
+
+// cap
+const LINK_BYTES: usize = 5;
+
+// class, rate
+const FLOW_BYTES: usize = 7 + 6;
+
+// flow, via, old, new
+const TUNNEL_BYTES: usize = 6 + 21 + 5 + 5;
+
+// Of a plan's head: plan, parts, steps, tunnels.
+const PLAN_BYTES: usize = 6 + 7 + 7 + 9;
+
+const AT_BYTES: usize = 4;
 
 // How many decimal digits a number has.
 fn width(v: u64) -> usize
@@ -43,19 +63,35 @@ fn short_width(v: u64) -> usize
     if v < 1_000 { 3 } else { 4 }
 }
 
-// How many decimal digits n numbers of a list have together, of which each is `step` past the one before it.
-fn widths(list: &[u64], from: usize, step: usize, n: usize) -> usize
-    requires { ⌜ (step ≤ 4) × (n ≤ mostNumbers) ⌝ }
-    requires { ⌜ ((k : ℕ) → k < n → Decimal (now list) (from + step * k)) ⌝ }
-    ensures { λ r. ⌜ (r ≡ widthsOf (now (list .entry)) from step n) × (r ≤ 10 * n) ⌝ }
+// How many decimal digits the first n numbers of a list have together.
+fn widths(list: &[u64], n: usize) -> usize
+    requires { ⌜ n ≤ mostNumbers ⌝ }
+    requires { ⌜ ((i : ℕ) → i < n → Decimal (now list) i) ⌝ }
+    ensures { λ r. ⌜ (r ≡ widthsOf (now (list .entry)) n) × (r ≤ 10 * n) ⌝ }
 {
     let mut sum: usize = 0;
-    let mut i = from;
-    let mut k: usize = 0;
-    while k < n {
+    let mut i: usize = 0;
+    while i < n {
         sum += width(list[i]);
-        i += step;
-        k += 1;
+        i += 1;
+    }
+    sum
+}
+
+// How many the tunnels' flows, old and new amounts have. A set has none: its 16 digits are hexadecimal.
+fn tunnel_widths(list: &[u64], sizes: Network) -> usize
+    requires { ⌜ Whole Form.Network (now list) × (sizes ≡ networkSizes (now list)) ⌝ }
+    ensures { λ r. ⌜ (r ≡ tunnelWidths (now (list .entry)) (sizes .tunnels)) × (r ≤ 30 * sizes .tunnels) ⌝ }
+{
+    let mut sum: usize = 0;
+    let mut t: usize = 0;
+    while t < sizes.tunnels {
+        let at = sizes.tunnel_at(t);
+        let flow = width(list[at]);
+        let old = width(list[at + 2]);
+        let new = width(list[at + 3]);
+        sum += flow + old + new;
+        t += 1;
     }
     sum
 }
@@ -65,16 +101,13 @@ fn network_len(list: &[u64]) -> usize
     requires { ⌜ Whole Form.Network (now list) ⌝ }
     ensures { λ r. ⌜ r ≡ length (render Form.Network (now (list .entry))) ⌝ }
 {
-    let links = list[3] as usize;
-    let flows = list[4] as usize;
-    let tunnels = list[5] as usize;
-    let first = 6 + links + 2 * flows;
-    let fixed = 46 + 5 * links + 13 * flows + 37 * tunnels;
-    let head = widths(list, 0, 1, first);
-    let flow = widths(list, first, 4, tunnels);
-    let old = widths(list, first + 2, 4, tunnels);
-    let new = widths(list, first + 3, 4, tunnels);
-    fixed + head + flow + old + new
+    let sizes = Network::of(list);
+    let links = LINK_BYTES * sizes.links;
+    let flows = FLOW_BYTES * sizes.flows;
+    let tunnels = TUNNEL_BYTES * sizes.tunnels;
+    let digits = widths(list, sizes.tunnel_at(0));
+    let more = tunnel_widths(list, sizes);
+    NETWORK_BYTES + links + flows + tunnels + digits + more
 }
 
 // The same for a plan.
@@ -82,7 +115,8 @@ fn plan_len(list: &[u64]) -> usize
     requires { ⌜ Whole Form.Plan (now list) ⌝ }
     ensures { λ r. ⌜ r ≡ length (render Form.Plan (now (list .entry))) ⌝ }
 {
-    13 + 4 * list.len() + widths(list, 0, 1, list.len())
+    let rows = list.len() - PlanSizes::HEAD;
+    PLAN_BYTES + AT_BYTES * rows + widths(list, list.len())
 }
 
 // How many bytes a number's line has, by what the form has there.
@@ -284,8 +318,8 @@ fn put_set_line(out: &mut [u8], at: usize, key: &[u8], v: u64) -> usize
 // Puts the lines of a network that stand before those of its links.
 fn put_network_head(out: &mut [u8], list: &[u64]) -> usize
     requires { ⌜ Whole Form.Network (now list) ⌝ }
-    requires { ⌜ length (linesFrom Form.Network (now list) 0 6) ≤ length (now out) ⌝ }
-    ensures { λ r. ⌜ Puts (linesFrom Form.Network (now (list .entry)) 0 6) 0 (now (out .entry)) (now (out .exit)) r ⌝ }
+    requires { ⌜ length (linesFrom Form.Network (now list) 0 (length networkLines)) ≤ length (now out) ⌝ }
+    ensures { λ r. ⌜ Puts (linesFrom Form.Network (now (list .entry)) 0 (length networkLines)) 0 (now (out .entry)) (now (out .exit)) r ⌝ }
 {
     let scratch = put_line(out, 0, b"net=", list[0]);
     let overrun = put_line(out, scratch, b"scratch=", list[1]);
@@ -298,14 +332,15 @@ fn put_network_head(out: &mut [u8], list: &[u64]) -> usize
 // Puts the lines of a network's links.
 fn put_links(out: &mut [u8], at: usize, list: &[u64]) -> usize
     requires { ⌜ Whole Form.Network (now list) ⌝ }
-    requires { ⌜ at + length (linesFrom Form.Network (now list) 6 (numberAt (now list) 3)) ≤ length (now out) ⌝ }
-    ensures { λ r. ⌜ Puts (linesFrom Form.Network (now (list .entry)) 6 (numberAt (now (list .entry)) 3)) at (now (out .entry)) (now (out .exit)) r ⌝ }
+    requires { ⌜ at + length (linesFrom Form.Network (now list) (linkAt (networkSizes (now list)) 0) (networkSizes (now list) .links)) ≤ length (now out) ⌝ }
+    ensures { λ r. ⌜ Puts (linesFrom Form.Network (now (list .entry)) (linkAt (networkSizes (now (list .entry))) 0) (networkSizes (now (list .entry)) .links)) at (now (out .entry)) (now (out .exit)) r ⌝ }
 {
-    let links = list[3] as usize;
+    let sizes = Network::of(list);
     let mut p = at;
     let mut k: usize = 0;
-    while k < links {
-        p = put_line(out, p, b"cap=", list[6 + k]);
+    while k < sizes.links {
+        let i = sizes.link_at(k);
+        p = put_line(out, p, b"cap=", list[i]);
         k += 1;
     }
     p
@@ -314,15 +349,14 @@ fn put_links(out: &mut [u8], at: usize, list: &[u64]) -> usize
 // Puts the lines of a network's flows.
 fn put_flows(out: &mut [u8], at: usize, list: &[u64]) -> usize
     requires { ⌜ Whole Form.Network (now list) ⌝ }
-    requires { ⌜ at + length (linesFrom Form.Network (now list) (6 + numberAt (now list) 3) (2 * numberAt (now list) 4)) ≤ length (now out) ⌝ }
-    ensures { λ r. ⌜ Puts (linesFrom Form.Network (now (list .entry)) (6 + numberAt (now (list .entry)) 3) (2 * numberAt (now (list .entry)) 4)) at (now (out .entry)) (now (out .exit)) r ⌝ }
+    requires { ⌜ at + length (linesFrom Form.Network (now list) (flowAt (networkSizes (now list)) 0) (2 * networkSizes (now list) .flows)) ≤ length (now out) ⌝ }
+    ensures { λ r. ⌜ Puts (linesFrom Form.Network (now (list .entry)) (flowAt (networkSizes (now (list .entry))) 0) (2 * networkSizes (now (list .entry)) .flows)) at (now (out .entry)) (now (out .exit)) r ⌝ }
 {
-    let first = 6 + list[3] as usize;
-    let flows = list[4] as usize;
+    let sizes = Network::of(list);
     let mut p = at;
     let mut f: usize = 0;
-    while f < flows {
-        let i = first + 2 * f;
+    while f < sizes.flows {
+        let i = sizes.flow_at(f);
         let rate = put_line(out, p, b"class=", list[i]);
         p = put_line(out, rate, b"rate=", list[i + 1]);
         f += 1;
@@ -333,15 +367,14 @@ fn put_flows(out: &mut [u8], at: usize, list: &[u64]) -> usize
 // Puts the lines of a network's tunnels.
 fn put_tunnels(out: &mut [u8], at: usize, list: &[u64]) -> usize
     requires { ⌜ Whole Form.Network (now list) ⌝ }
-    requires { ⌜ at + length (linesFrom Form.Network (now list) (6 + numberAt (now list) 3 + 2 * numberAt (now list) 4) (4 * numberAt (now list) 5)) ≤ length (now out) ⌝ }
-    ensures { λ r. ⌜ Puts (linesFrom Form.Network (now (list .entry)) (6 + numberAt (now (list .entry)) 3 + 2 * numberAt (now (list .entry)) 4) (4 * numberAt (now (list .entry)) 5)) at (now (out .entry)) (now (out .exit)) r ⌝ }
+    requires { ⌜ at + length (linesFrom Form.Network (now list) (tunnelAt (networkSizes (now list)) 0) (4 * networkSizes (now list) .tunnels)) ≤ length (now out) ⌝ }
+    ensures { λ r. ⌜ Puts (linesFrom Form.Network (now (list .entry)) (tunnelAt (networkSizes (now (list .entry))) 0) (4 * networkSizes (now (list .entry)) .tunnels)) at (now (out .entry)) (now (out .exit)) r ⌝ }
 {
-    let first = 6 + list[3] as usize + 2 * list[4] as usize;
-    let tunnels = list[5] as usize;
+    let sizes = Network::of(list);
     let mut p = at;
     let mut t: usize = 0;
-    while t < tunnels {
-        let i = first + 4 * t;
+    while t < sizes.tunnels {
+        let i = sizes.tunnel_at(t);
         let via = put_line(out, p, b"flow=", list[i]);
         let old = put_set_line(out, via, b"via=", list[i + 1]);
         let new = put_line(out, old, b"old=", list[i + 2]);
@@ -366,8 +399,8 @@ fn put_network(out: &mut [u8], list: &[u64]) -> usize
 // Puts the lines of a plan that stand before its rows.
 fn put_plan_head(out: &mut [u8], list: &[u64]) -> usize
     requires { ⌜ Whole Form.Plan (now list) ⌝ }
-    requires { ⌜ length (linesFrom Form.Plan (now list) 0 4) ≤ length (now out) ⌝ }
-    ensures { λ r. ⌜ Puts (linesFrom Form.Plan (now (list .entry)) 0 4) 0 (now (out .entry)) (now (out .exit)) r ⌝ }
+    requires { ⌜ length (linesFrom Form.Plan (now list) 0 (length planLines)) ≤ length (now out) ⌝ }
+    ensures { λ r. ⌜ Puts (linesFrom Form.Plan (now (list .entry)) 0 (length planLines)) 0 (now (out .entry)) (now (out .exit)) r ⌝ }
 {
     let parts = put_line(out, 0, b"plan=", list[0]);
     let steps = put_line(out, parts, b"parts=", list[1]);
@@ -379,15 +412,15 @@ fn put_plan_head(out: &mut [u8], list: &[u64]) -> usize
 // of `put_value`, leaves that a function by itself, and then has the key's bytes at hand wherever `put_line` is called.
 fn put_rows(out: &mut [u8], at: usize, list: &[u64]) -> usize
     requires { ⌜ Whole Form.Plan (now list) ⌝ }
-    requires { ⌜ at + length (linesFrom Form.Plan (now list) 4 (length (now list) - 4)) ≤ length (now out) ⌝ }
-    ensures { λ r. ⌜ Puts (linesFrom Form.Plan (now (list .entry)) 4 (length (now (list .entry)) - 4)) at (now (out .entry)) (now (out .exit)) r ⌝ }
+    requires { ⌜ at + length (linesFrom Form.Plan (now list) (length planLines) (length (now list) - length planLines)) ≤ length (now out) ⌝ }
+    ensures { λ r. ⌜ Puts (linesFrom Form.Plan (now (list .entry)) (length planLines) (length (now (list .entry)) - length planLines)) at (now (out .entry)) (now (out .exit)) r ⌝ }
 {
-    let rows = list.len() - 4;
+    let rows = list.len() - PlanSizes::HEAD;
     let mut p = at;
     let mut k: usize = 0;
     while k < rows {
         let from = put(out, p, b"at=");
-        p = put_value(out, from, list[4 + k]);
+        p = put_value(out, from, list[PlanSizes::HEAD + k]);
         k += 1;
     }
     p

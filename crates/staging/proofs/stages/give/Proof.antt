@@ -1,14 +1,20 @@
 -- `staging::stages::give` meets its contract: the stages are those of the definition, and are copied. Assumes nothing.
-use mathlib.Core.Path.{refl, ap, _∙_}
+use Prim.Native.Nat.{ℕ}
+use mathlib.Core.Path.{refl, ap, ap₂, _∙_}
 use mathlib.Core.List.{_++_}
 use lib.ListN.{drop}
 use Rattle.model.specs.Listed.{listed}
 use Rattle.lists.specs.Lists.{at}
+use Rattle.lists.specs.declared.RuleTables.{RuleTables}
 use Rattle.rules.specs.Stage.{Stages}
 use Rattle.staging.proofs.Answers.{staged-none}
+use native.Mathlib.Omega.{arith}
 use borrow.Author.Needs.{needs}
 use Rattle.staging.proofs.stages.give.Statement.{statement}
 use Rattle.staging.proofs.stages.give.Tie as tie
+use Rattle.lists.proofs.RuleTables.of.Reads as of-reads
+use Rattle.staging.proofs.stages.copy.Reads as copy-reads
+use Rattle.staging.proofs.stages.run.Reads as run-reads
 
 slice-aggregate-run : tie.Need-slice-aggregate-run
 slice-aggregate-run c = search needs
@@ -19,14 +25,14 @@ slice-aggregate-run-2 c = search needs
 run-requires : tie.Need-run-requires
 run-requires c κs = let p = c .before .before .before .before .before .before .before .pre in ((p .0, p .1), staged-none _ _ _ _ refl refl (p .2))
 
+of-requires : tie.Need-of-requires
+of-requires c κs = omega (arith, c .before .before .before .before .before .before .before .before .before .before .before .before .pre .0 .size)
+
 slice-aggregate-copy : tie.Need-slice-aggregate-copy
 slice-aggregate-copy c = search needs
 
-shared-slice-read-copy : tie.Need-shared-slice-read-copy
-shared-slice-read-copy c = search needs
-
 copy-requires : tie.Need-copy-requires
-copy-requires c κs = search needs
+copy-requires c κs = let e = ap (λ (n : RuleTables). n .tunnels) (c .before .before .of .ensures) in (omega (arith, e, c .before .before .before .before .before .before .before .before .before .before .before .before .before .before .before .pre .0 .tunnels, c .before .before .before .before .before .before .before .run .kept), omega (arith, e, c .before .before .before .before .before .before .before .before .before .before .before .before .before .before .before .pre .3))
 
 same-length : tie.Need-same-length
 same-length c = search needs
@@ -35,11 +41,8 @@ same-length-2 : tie.Need-same-length-2
 same-length-2 c = search needs
 
 returns : tie.Need-returns
-returns c =
-    let c1 = c .before .before in
-    let c2 = c1 .before .before .before .before .before .before .before .before in
-    let c3 = c2 .before .before .before .before .before .before .before .before in
-    let a = c3 .args in c1 .copy .ensures ∙ ap (λ (f : Stages). listed (at (a .list .now) 3) f ++ drop (at (a .list .now) 3) (a .out .now)) (c2 .run .ensures .stages)
+returns c = let a = c .before .before .before .before .before .before .before .before .before .before .before .before .before .before .before .before .before .before .args in
+    c .before .before .copy .ensures ∙ ap₂ (λ (n : ℕ) (f : Stages). listed n f ++ drop n (a .out .now)) (ap (λ (n : RuleTables). n .tunnels) (c .before .before .before .before .before .of .ensures)) (c .before .before .before .before .before .before .before .before .before .before .run .ensures .stages)
 
 pub give-spec : {M : Type 1} → statement M
 give-spec =
@@ -48,8 +51,8 @@ give-spec =
     slice-aggregate-run
     slice-aggregate-run-2
     run-requires
+    of-requires
     slice-aggregate-copy
-    shared-slice-read-copy
     copy-requires
     same-length
     same-length-2

@@ -1,118 +1,101 @@
 -- `writers::write::network_len` meets its contract.
-use Prim.Native.Nat.{ℕ, _+_, _*_}
-use mathlib.Core.Path.{refl}
-use native.Mathlib.Nat.{zero-add, one-mul}
-use native.Mathlib.Omega.{arith}
-use lib.ListN.{getD}
-use Rattle.forms.specs.Good.{NetworkRanges}
+use Prim.Native.Nat.{ℕ, _≤_, _<_, _+_, _*_}
+use mathlib.Core.Path.{_≡_, ap, subst⁻¹, _∙_}
+use lib.ListN.{length}
+use Rattle.model.specs.Limits.{mostLinks, mostFlows, mostTunnels}
+use Rattle.lists.specs.Lists.{networkSizes, tunnelAt, mostNumbers}
+use Rattle.lists.specs.Good.{Sized, Limited}
+use Rattle.lists.specs.declared.Network as counts
+use Rattle.lists.proofs.Positions.{limited, head-in, short, most-in-all, tunnel-at}
 use Rattle.forms.proofs.Good.{network-ranges}
+use Rattle.writers.specs.Write.{Decimal, widthsOf, tunnelWidths}
 use Rattle.writers.proofs.Measuring.{network-length, network-number}
-use Rattle.writers.proofs.Runs.{flow-line, old-line, new-line}
+use native.Mathlib.Omega.{arith}
+use borrow.Author.Needs.{needs}
 use Rattle.writers.proofs.write.network_len.Statement.{statement}
 use Rattle.writers.proofs.write.network_len.Tie as tie
+use Rattle.lists.proofs.Network.of.Reads as of-reads
+use Rattle.lists.proofs.Network.tunnel_at.Reads as tunnel-at-reads
+use Rattle.writers.proofs.write.tunnel_widths.Reads as tunnel-widths-reads
+use Rattle.writers.proofs.write.widths.Reads as widths-reads
 
-ranges : (s : tie.Start) → NetworkRanges (s .args .list .now)
-ranges s = network-ranges (s .args .list .now) (s .pre)
+sized : (s : tie.Start) → Sized (s .args .list .now)
+sized s = network-ranges (s .args .list .now) (s .pre) .sized
+
+bound : (c : tie.After-of) → Limited (c .of .result)
+bound c = limited _ (sized (c .before .before)) _ (c .of .ensures)
 
 -- where the lines of the tunnels begin
-abbrev first : tie.Start → ℕ
-first s = 6 + getD (s .args .list .now) 3 0 + 2 * getD (s .args .list .now) 4 0
+module _ (c : tie.After-tunnel-at) where
+  first : c .tunnel-at .result ≡ tunnelAt (networkSizes (c .before .before .before .before .before .before .args .list .now)) 0
+  first = c .tunnel-at .ensures ∙ ap (λ (n : counts.Network). tunnelAt n 0) (c .before .before .before .before .of .ensures)
 
-shared-slice-read-links : tie.Need-shared-slice-read-links
-shared-slice-read-links c = omega (arith, ranges (c .before .before) .size)
+  few : c .tunnel-at .result ≤ mostNumbers
+  few = let s = c .before .before .before .before .before .before in omega (arith, first, sized s .size, short _ (sized s), most-in-all, tunnel-at (networkSizes (s .args .list .now)) (networkSizes (s .args .list .now) .tunnels))
 
-shared-slice-read-flows : tie.Need-shared-slice-read-flows
-shared-slice-read-flows c = omega (arith, ranges (c .before .before .before) .size)
+of-requires : tie.Need-of-requires
+of-requires c κs = head-in _ (sized (c .before) .size)
 
-shared-slice-read-tunnels : tie.Need-shared-slice-read-tunnels
-shared-slice-read-tunnels c = omega (arith, ranges (c .before .before .before .before) .size)
+mul-links : tie.Need-mul-links
+mul-links c = record { fits = omega (arith, bound (c .before)) }
 
-add-first : tie.Need-add-first
-add-first c = omega (arith, ranges (c .before .before .before .before) .links .1, ranges (c .before .before .before .before) .flows, ranges (c .before .before .before .before) .tunnels)
+mul-flows : tie.Need-mul-flows
+mul-flows c = record { fits = omega (arith, bound (c .before .before)) }
 
-mul-first : tie.Need-mul-first
-mul-first c = omega (arith, ranges (c .before .before .before .before) .links .1, ranges (c .before .before .before .before) .flows, ranges (c .before .before .before .before) .tunnels)
+mul-tunnels : tie.Need-mul-tunnels
+mul-tunnels c = record { fits = omega (arith, bound (c .before .before .before)) }
 
-add-first-2 : tie.Need-add-first-2
-add-first-2 c = omega (arith, ranges (c .before .before .before .before) .links .1, ranges (c .before .before .before .before) .flows, ranges (c .before .before .before .before) .tunnels)
-
-mul-fixed : tie.Need-mul-fixed
-mul-fixed c = omega (arith, ranges (c .before .before .before .before) .links .1, ranges (c .before .before .before .before) .flows, ranges (c .before .before .before .before) .tunnels)
-
-add-fixed : tie.Need-add-fixed
-add-fixed c = omega (arith, ranges (c .before .before .before .before) .links .1, ranges (c .before .before .before .before) .flows, ranges (c .before .before .before .before) .tunnels)
-
-mul-fixed-2 : tie.Need-mul-fixed-2
-mul-fixed-2 c = omega (arith, ranges (c .before .before .before .before) .links .1, ranges (c .before .before .before .before) .flows, ranges (c .before .before .before .before) .tunnels)
-
-add-fixed-2 : tie.Need-add-fixed-2
-add-fixed-2 c = omega (arith, ranges (c .before .before .before .before) .links .1, ranges (c .before .before .before .before) .flows, ranges (c .before .before .before .before) .tunnels)
-
-mul-fixed-3 : tie.Need-mul-fixed-3
-mul-fixed-3 c = omega (arith, ranges (c .before .before .before .before) .links .1, ranges (c .before .before .before .before) .flows, ranges (c .before .before .before .before) .tunnels)
-
-add-fixed-3 : tie.Need-add-fixed-3
-add-fixed-3 c = omega (arith, ranges (c .before .before .before .before) .links .1, ranges (c .before .before .before .before) .flows, ranges (c .before .before .before .before) .tunnels)
+tunnel-at-requires : tie.Need-tunnel-at-requires
+tunnel-at-requires c κs = (bound (c .before .before .before), omega arith)
 
 widths-requires : tie.Need-widths-requires
-widths-requires c κs = ((omega arith, omega (arith, ranges (c .before .before .before .before) .links .1, ranges (c .before .before .before .before) .flows, ranges (c .before .before .before .before) .tunnels)), λ k h. rw (one-mul k, zero-add k) (network-number _ (c .before .before .before .before .pre) k h))
+widths-requires c κs = (few c, λ i h. network-number _ (c .before .before .before .before .before .before .pre) i (omega (arith, first c)))
 
-widths-requires-2 : tie.Need-widths-requires-2
-widths-requires-2 c κs = ((omega arith, omega (arith, ranges (c .before .before .before .before .before) .links .1, ranges (c .before .before .before .before .before) .flows, ranges (c .before .before .before .before .before) .tunnels)), λ k h. flow-line _ (c .before .before .before .before .before .pre) k _ h refl .number)
-
-add-widths : tie.Need-add-widths
-add-widths c = omega (arith, ranges (c .before .before .before .before .before .before) .links .1, ranges (c .before .before .before .before .before .before) .flows, ranges (c .before .before .before .before .before .before) .tunnels)
-
-widths-requires-3 : tie.Need-widths-requires-3
-widths-requires-3 c κs = ((omega arith, omega (arith, ranges (c .before .before .before .before .before .before) .links .1, ranges (c .before .before .before .before .before .before) .flows, ranges (c .before .before .before .before .before .before) .tunnels)), λ k h. old-line _ (c .before .before .before .before .before .before .pre) k (first (c .before .before .before .before .before .before) + 2 + 4 * k) h (omega arith) .number)
-
-add-widths-2 : tie.Need-add-widths-2
-add-widths-2 c = omega (arith, ranges (c .before .before .before .before .before .before .before) .links .1, ranges (c .before .before .before .before .before .before .before) .flows, ranges (c .before .before .before .before .before .before .before) .tunnels)
-
-widths-requires-4 : tie.Need-widths-requires-4
-widths-requires-4 c κs = ((omega arith, omega (arith, ranges (c .before .before .before .before .before .before .before) .links .1, ranges (c .before .before .before .before .before .before .before) .flows, ranges (c .before .before .before .before .before .before .before) .tunnels)), λ k h. new-line _ (c .before .before .before .before .before .before .before .pre) k (first (c .before .before .before .before .before .before .before) + 3 + 4 * k) h (omega arith) .number)
+tunnel-widths-requires : tie.Need-tunnel-widths-requires
+tunnel-widths-requires c κs = search needs
 
 add-result : tie.Need-add-result
-add-result c = omega (arith, ranges (c .before .before .before .before .before .before .before .before) .links .1, ranges (c .before .before .before .before .before .before .before .before) .flows, ranges (c .before .before .before .before .before .before .before .before) .tunnels, c .before .before .before .widths .ensures .1, c .before .before .widths2 .ensures .1, c .before .widths3 .ensures .1, c .widths4 .ensures .1)
+add-result c = record { fits = omega (arith, bound (c .before .before .before .before .before .before)) }
 
 add-result-2 : tie.Need-add-result-2
-add-result-2 c = omega (arith, ranges (c .before .before .before .before .before .before .before .before) .links .1, ranges (c .before .before .before .before .before .before .before .before) .flows, ranges (c .before .before .before .before .before .before .before .before) .tunnels, c .before .before .before .widths .ensures .1, c .before .before .widths2 .ensures .1, c .before .widths3 .ensures .1, c .widths4 .ensures .1)
+add-result-2 c = record { fits = omega (arith, bound (c .before .before .before .before .before .before)) }
 
 add-result-3 : tie.Need-add-result-3
-add-result-3 c = omega (arith, ranges (c .before .before .before .before .before .before .before .before) .links .1, ranges (c .before .before .before .before .before .before .before .before) .flows, ranges (c .before .before .before .before .before .before .before .before) .tunnels, c .before .before .before .widths .ensures .1, c .before .before .widths2 .ensures .1, c .before .widths3 .ensures .1, c .widths4 .ensures .1)
+add-result-3 c = record { fits = omega (arith, bound (c .before .before .before .before .before .before)) }
 
 add-result-4 : tie.Need-add-result-4
-add-result-4 c = omega (arith, ranges (c .before .before .before .before .before .before .before .before) .links .1, ranges (c .before .before .before .before .before .before .before .before) .flows, ranges (c .before .before .before .before .before .before .before .before) .tunnels, c .before .before .before .widths .ensures .1, c .before .before .widths2 .ensures .1, c .before .widths3 .ensures .1, c .widths4 .ensures .1)
+add-result-4 c = record { fits = omega (arith, bound (c .before .before .before .before .before .before), few (c .before .before), c .before .widths .ensures .1) }
+
+add-result-5 : tie.Need-add-result-5
+add-result-5 c = record { fits = omega (arith, bound (c .before .before .before .before .before .before), few (c .before .before), c .before .widths .ensures .1, c .tunnel-widths .ensures .1) }
 
 returns : tie.Need-returns
-returns c =
-    let s = c .before .before .before .before .before .before .before .before in
-    omega (arith, network-length (s .args .list .now) (s .pre), c .before .before .before .widths .ensures .0, c .before .before .widths2 .ensures .0, c .before .widths3 .ensures .0, c .widths4 .ensures .0)
+returns c = let l = c .before .before .before .before .before .before .before .before .args .list .now in
+    let e = c .before .before .before .before .before .before .of .ensures in
+    omega (
+      arith,
+      network-length l (c .before .before .before .before .before .before .before .before .pre),
+      c .before .widths .ensures .0 ∙ ap (widthsOf l) (first (c .before .before)),
+      c .tunnel-widths .ensures .0 ∙ ap (λ (n : counts.Network). tunnelWidths l (n .tunnels)) e,
+      ap (λ (n : counts.Network). n .links) e,
+      ap (λ (n : counts.Network). n .flows) e,
+      ap (λ (n : counts.Network). n .tunnels) e,
+    )
 
 pub network-len-spec : {M : Type 1} → statement M
 network-len-spec =
     tie.close
     (tie.spec
-    shared-slice-read-links
-    shared-slice-read-flows
-    shared-slice-read-tunnels
-    add-first
-    mul-first
-    add-first-2
-    mul-fixed
-    add-fixed
-    mul-fixed-2
-    add-fixed-2
-    mul-fixed-3
-    add-fixed-3
+    of-requires
+    mul-links
+    mul-flows
+    mul-tunnels
+    tunnel-at-requires
     widths-requires
-    widths-requires-2
-    add-widths
-    widths-requires-3
-    add-widths-2
-    widths-requires-4
+    tunnel-widths-requires
     add-result
     add-result-2
     add-result-3
     add-result-4
+    add-result-5
     returns)

@@ -1,9 +1,8 @@
 -- `writers::write::plan_len` meets its contract.
 use Prim.Native.Nat.{_-_, _≤_}
-use native.Mathlib.Nat.{zero-add, one-mul}
 use native.Mathlib.Omega.{arith}
 use lib.ListN.{length}
-use Rattle.forms.specs.Form.{mostNumbers}
+use Rattle.lists.specs.Lists.{mostNumbers}
 use Rattle.forms.proofs.Good.{plan-size}
 use Rattle.writers.proofs.Measuring.{plan-length, plan-number}
 use Rattle.writers.proofs.write.plan_len.Statement.{statement}
@@ -15,6 +14,9 @@ few s =
     let n = plan-size l (s .pre) in
     omega (arith, plan-number l (s .pre) (length l - 1) (omega arith) .few)
 
+sub-rows : tie.Need-sub-rows
+sub-rows c = omega (arith, plan-size _ (c .before .pre))
+
 mul-result : tie.Need-mul-result
 mul-result c = omega (arith, few (c .before))
 
@@ -22,7 +24,7 @@ add-result : tie.Need-add-result
 add-result c = omega (arith, few (c .before))
 
 widths-requires : tie.Need-widths-requires
-widths-requires c κs = ((omega arith, few (c .before)), λ k h. rw (one-mul k, zero-add k) (plan-number _ (c .before .pre) k h))
+widths-requires c κs = (few (c .before), plan-number _ (c .before .pre))
 
 add-result-2 : tie.Need-add-result-2
 add-result-2 c = omega (arith, few (c .before .before), c .widths .ensures .1)
@@ -34,6 +36,7 @@ pub plan-len-spec : {M : Type 1} → statement M
 plan-len-spec =
     tie.close
     (tie.spec
+    sub-rows
     mul-result
     add-result
     widths-requires

@@ -1,131 +1,130 @@
 -- `writers::write::put_flows` meets its contract.
 use Prim.Native.Nat.{ℕ, _≤_, _+_, _*_, _-_}
-use mathlib.Core.Path.{_≡_, refl}
+use mathlib.Core.Path.{_≡_, refl, ap}
 use mathlib.Core.List.{List}
-use native.Mathlib.Omega.{arith}
-use lib.ListN.{getD}
-use Rattle.forms.specs.Bytes.{bytes}
-use Rattle.forms.specs.Good.{NetworkRanges}
-use Rattle.forms.specs.declared.form.Form.the-variants.{Network}
+use lib.ListN.{length, getD}
+use Rattle.lists.specs.Lists.{networkSizes, linkAt, flowAt, tunnelAt}
+use Rattle.lists.specs.Good.{Sized}
+use Rattle.lists.specs.declared.Network as counts
+use Rattle.lists.proofs.Positions.{FlowPlace, flow-place, flow-at, limited, head-in}
 use Rattle.forms.proofs.Good.{network-ranges}
-use Rattle.writers.specs.Write.{Puts, linesFrom}
+use Rattle.forms.specs.Bytes.{bytes}
+use Rattle.forms.specs.declared.form.Form.the-variants.{Network}
+use Rattle.writers.specs.Write.{Puts, lineAt, hexLine, linesFrom}
 use Rattle.writers.proofs.Writing.{puts-length}
 use Rattle.writers.proofs.Runs.{DecimalAt, class-line, rate-line, no-lines, run-within, next-fits, next-put}
+use native.Mathlib.Omega.{arith}
 use borrow.Author.Needs.{needs}
 use Rattle.writers.proofs.write.put_flows.Statement.{statement}
 use Rattle.writers.proofs.write.put_flows.Tie as tie
+use Rattle.lists.proofs.Network.flow_at.Reads as flow-at-reads
+use Rattle.lists.proofs.Network.of.Reads as of-reads
+use Rattle.writers.proofs.write.put_line.Reads as put-line-reads
 
 abbrev Inv-loop : tie.InvT-loop
-Inv-loop out₀ at list first flows p₀ f₀ t10 t11 out p f = record { few : f ≤ flows; put : Puts (linesFrom Network list first (2 * f)) at out₀ out p }
+Inv-loop out₀ at list sizes p₀ f₀ t9 t10 out p f = record { few : f ≤ sizes .flows; put : Puts (linesFrom Network list (flowAt (networkSizes list) 0) (2 * f)) at out₀ out p }
 
 abbrev μ-loop : tie.MeasureT-loop
-μ-loop out₀ at list first flows p₀ f₀ t10 t11 out p f = flows - f
+μ-loop out₀ at list sizes p₀ f₀ t9 t10 out p f = sizes .flows - f
 
-ranges : (s : tie.Start Inv-loop μ-loop) → NetworkRanges (s .args .list .now)
-ranges s = network-ranges (s .args .list .now) (s .pre .0)
+sized : (s : tie.Start Inv-loop μ-loop) → Sized (s .args .list .now)
+sized s = network-ranges (s .args .list .now) (s .pre .0) .sized
 
 -- in a turn
-module _ (c : tie.In-loop Inv-loop μ-loop) where
+module _ (c : tie.After-flow-at Inv-loop μ-loop) where
   abbrev start : tie.Start Inv-loop μ-loop
-  start = c .before .before .before .before .before .before
+  start = c .before .before .before .before .before .before .before
 
   abbrev list : List ℕ
   list = start .args .list .now
 
+  abbrev f : ℕ
+  f = c .before .before .before .loop .f
+
+  -- where the lines of the part begin, and the place of this turn's
   abbrev first : ℕ
-  first = 6 + getD list 3 0
+  first = flowAt (networkSizes list) 0
 
-  abbrev flow : ℕ
-  flow = c .before .loop .f
+  abbrev i : ℕ
+  i = c .flow-at .result
 
-  abbrev place : ℕ
-  place = first + 2 * flow
+  place : FlowPlace list f i
+  place = flow-place list (sized start) _ (c .before .before .before .before .of .ensures) _ _ (c .before .if1 .taken) (c .flow-at .ensures)
 
-  class : DecimalAt Network list place (bytes "class=")
-  class = class-line list (start .pre .0) flow place (c .loop-test .taken) refl
+  here : i ≡ first + 2 * f
+  here = omega (arith, place .here, flow-at (networkSizes list) f)
 
-  rate : DecimalAt Network list (place + 1) (bytes "rate=")
-  rate = rate-line list (start .pre .0) flow (place + 1) (c .loop-test .taken) refl
+  class : DecimalAt Network list i (bytes "class=")
+  class = class-line list (start .pre .0) f i (place .there) (place .here)
+
+  rate : DecimalAt Network list (i + 1) (bytes "rate=")
+  rate = rate-line list (start .pre .0) f (i + 1) (place .there) (ap (λ (j : ℕ). j + 1) (place .here))
 
 -- the line of the class is put
-with-class : (c : tie.After-put-line Inv-loop μ-loop) → Puts (linesFrom Network (list (c .before .before .before .before)) (first (c .before .before .before .before)) (2 * flow (c .before .before .before .before) + 1)) (start (c .before .before .before .before) .args .at) (start (c .before .before .before .before) .args .out .now) (c .put-line .last .0) (c .put-line .result)
+with-class : (c : tie.After-put-line Inv-loop μ-loop) → let t = c .before .before .before .before in Puts (linesFrom Network (list t) (first t) (2 * f t + 1)) (start t .args .at) (start t .args .out .now) (c .put-line .last .0) (c .put-line .result)
 with-class c =
     let t = c .before .before .before .before in
-    next-put Network (list t) (first t) _ (start t .pre .1) (2 * flow t) (place t) (omega (arith, t .loop-test .taken)) refl (class t .line) (t .before .loop .inv .put) (2 * flow t + 1) refl (c .put-line .ensures)
+    next-put Network (list t) (first t) _ (start t .pre .1) (2 * f t) (i t) (omega (arith, place t .there)) (here t) (class t .line) (c .before .before .before .before .before .before .before .loop .inv .put) (2 * f t + 1) refl (c .put-line .ensures)
 
-shared-slice-read-first : tie.Need-shared-slice-read-first Inv-loop μ-loop
-shared-slice-read-first c = omega (arith, ranges (c .before .before .before) .size)
-
-add-first : tie.Need-add-first Inv-loop μ-loop
-add-first c = omega (arith, ranges (c .before .before .before) .links .1)
-
-shared-slice-read-flows : tie.Need-shared-slice-read-flows Inv-loop μ-loop
-shared-slice-read-flows c = omega (arith, ranges (c .before .before .before .before) .size)
+of-requires : tie.Need-of-requires Inv-loop μ-loop
+of-requires c κs = head-in _ (sized (c .before .before) .size)
 
 loop-holds : tie.Need-loop-holds Inv-loop μ-loop
-loop-holds c = record { few = search needs; put = no-lines Network _ _ _ _ }
+loop-holds c = record { few = omega arith; put = no-lines Network _ _ _ _ }
 
-mul-i : tie.Need-mul-i Inv-loop μ-loop
-mul-i c = omega (arith, class c .number .few)
-
-add-i : tie.Need-add-i Inv-loop μ-loop
-add-i c = omega (arith, class c .number .few)
+flow-at-requires : tie.Need-flow-at-requires Inv-loop μ-loop
+flow-at-requires c κs = (limited _ (sized (c .before .before .before .before .before .before)) _ (c .before .before .before .of .ensures), omega (arith, c .if1 .taken))
 
 slice-aggregate-put-line : tie.Need-slice-aggregate-put-line Inv-loop μ-loop
 slice-aggregate-put-line c = search needs
 
 mul-put-line : tie.Need-mul-put-line Inv-loop μ-loop
-mul-put-line c = omega (arith, class (c .before .before) .number .few)
+mul-put-line c = record { fits = omega (arith, place (c .before .before) .few) }
 
 shared-slice-read-put-line : tie.Need-shared-slice-read-put-line Inv-loop μ-loop
 shared-slice-read-put-line c = class (c .before .before .before) .number .within
 
 put-line-requires : tie.Need-put-line-requires Inv-loop μ-loop
-put-line-requires c κs =
-    let t = c .before .before .before in
-    (class t .number .small, next-fits Network (list t) (first t) _ (start t .pre .1) (2 * flow t) (place t) (omega (arith, t .loop-test .taken)) refl (class t .line) (t .before .loop .inv .put))
+put-line-requires c κs = let t = c .before .before .before in
+    (class t .number .small, next-fits Network (list t) (first t) _ (start t .pre .1) (2 * f t) (i t) (omega (arith, place t .there)) (here t) (class t .line) (c .before .before .before .before .before .before .loop .inv .put))
 
 slice-aggregate-put-line-2 : tie.Need-slice-aggregate-put-line-2 Inv-loop μ-loop
 slice-aggregate-put-line-2 c = search needs
 
 add-put-line : tie.Need-add-put-line Inv-loop μ-loop
-add-put-line c = omega (arith, rate (c .before .before .before .before .before .before .before .before) .number .few)
+add-put-line c = record { fits = omega (arith, place (c .before .before .before .before .before .before .before .before) .few) }
 
 mul-put-line-2 : tie.Need-mul-put-line-2 Inv-loop μ-loop
-mul-put-line-2 c = omega (arith, rate (c .before .before .before .before .before .before .before .before) .number .few)
+mul-put-line-2 c = record { fits = omega (arith, place (c .before .before .before .before .before .before .before .before) .few) }
 
 shared-slice-read-put-line-2 : tie.Need-shared-slice-read-put-line-2 Inv-loop μ-loop
 shared-slice-read-put-line-2 c = rate (c .before .before .before .before .before .before .before .before .before) .number .within
 
 put-line-requires-2 : tie.Need-put-line-requires-2 Inv-loop μ-loop
-put-line-requires-2 c κs =
-    let t = c .before .before .before .before .before .before .before .before .before in
-    (rate t .number .small, next-fits Network (list t) (first t) _ (start t .pre .1) (2 * flow t + 1) (place t + 1) (omega (arith, t .loop-test .taken)) (omega arith) (rate t .line) (with-class (c .before .before .before .before .before)))
+put-line-requires-2 c κs = let t = c .before .before .before .before .before .before .before .before .before in
+    (rate t .number .small, next-fits Network (list t) (first t) _ (start t .pre .1) (2 * f t + 1) (i t + 1) (omega (arith, place t .there)) (omega (arith, here t)) (rate t .line) (with-class (c .before .before .before .before .before)))
 
 add-f : tie.Need-add-f Inv-loop μ-loop
-add-f c = omega (arith, rate (c .before .before .before .before .before .before .before .before .before .before .before .before) .number .few)
+add-f c = record { fits = omega (arith, place (c .before .before .before .before .before .before .before .before .before .before .before .before) .few, here (c .before .before .before .before .before .before .before .before .before .before .before .before)) }
 
 loop-less : tie.Need-loop-less Inv-loop μ-loop
-loop-less c = omega (arith, c .before .before .before .before .before .before .before .before .before .before .before .before .loop-test .taken)
+loop-less c = search needs
 
 loop-again : tie.Need-loop-again Inv-loop μ-loop
-loop-again c =
-    let t = c .before .before .before .before .before .before .before .before .before .before .before .before in
+loop-again c = let t = c .before .before .before .before .before .before .before .before .before .before .before .before in
     record {
-      few = omega (arith, t .loop-test .taken);
-      put = next-put Network (list t) (first t) _ (start t .pre .1) (2 * flow t + 1) (place t + 1) (omega (arith, t .loop-test .taken)) (omega arith) (rate t .line) (with-class (c .before .before .before .before .before .before .before .before)) (2 * (flow t + 1)) (omega arith) (c .before .before .put-line2 .ensures);
+      few = omega (arith, c .before .before .before .before .before .before .before .before .before .before .before .before .before .if1 .taken);
+      put = next-put Network (list t) (first t) _ (start t .pre .1) (2 * f t + 1) (i t + 1) (omega (arith, place t .there)) (omega (arith, here t)) (rate t .line) (with-class (c .before .before .before .before .before .before .before .before)) (2 * (f t + 1)) (omega arith) (c .before .before .put-line2 .ensures);
     }
 
 same-length : tie.Need-same-length Inv-loop μ-loop
-same-length c =
-    let s = c .before .before .before .before .before .before in
-    let v = c .before .loop .inv in
-    puts-length (run-within Network (s .args .list .now) _ _ _ (s .args .at) (s .args .out .now) (omega (arith, v .few)) (s .pre .1)) (v .put)
+same-length c = let s = c .before .before .before .before .before .before in
+    let v = c .before .before .loop .inv in
+    puts-length (run-within Network (s .args .list .now) _ _ _ (s .args .at) (s .args .out .now) (omega (arith, v .few, ap (λ (n : counts.Network). n .flows) (c .before .before .before .of .ensures))) (s .pre .1)) (v .put)
 
 returns : tie.Need-returns Inv-loop μ-loop
-returns c =
-    let e : c .before .loop .f ≡ getD (c .before .before .before .before .before .before .args .list .now) 4 0 = omega (arith, c .before .loop .inv .few, c .loop-test .left) in
-    rw e at (c .before .loop .inv .put)
+returns c = let e : c .before .before .loop .f ≡ networkSizes (c .before .before .before .before .before .before .args .list .now) .flows = omega (arith, c .before .before .loop .inv .few, c .if1 .left, ap (λ (n : counts.Network). n .flows) (c .before .before .before .of .ensures)) in
+    rw e at (c .before .before .loop .inv .put)
 
 pub put-flows-spec : {M : Type 1} → statement M
 put-flows-spec =
@@ -133,12 +132,9 @@ put-flows-spec =
     (tie.spec
     Inv-loop
     μ-loop
-    shared-slice-read-first
-    add-first
-    shared-slice-read-flows
+    of-requires
     loop-holds
-    mul-i
-    add-i
+    flow-at-requires
     slice-aggregate-put-line
     mul-put-line
     shared-slice-read-put-line

@@ -1,54 +1,83 @@
 -- `writers::write::put_network` meets its contract.
-use Prim.Native.Nat.{ℕ, _+_, _*_}
-use mathlib.Core.Path.{_≡_}
+use Prim.Native.Nat.{ℕ, _≤_, _+_, _*_}
+use mathlib.Core.Path.{_≡_, subst}
 use mathlib.Core.List.{List}
-use native.Mathlib.Omega.{arith}
 use lib.ListN.{length}
-use Rattle.lists.specs.Lists.{at}
+use Rattle.lists.specs.Lists.{networkSizes, linkAt, flowAt, tunnelAt}
+use Rattle.lists.specs.declared.Network as counts
+use Rattle.lists.proofs.Positions.{link-at, flow-at, tunnel-at, flows-follow, tunnels-follow, head-size, head-in}
+use Rattle.forms.specs.Form.{networkLines}
 use Rattle.forms.specs.declared.form.Form.the-variants.{Network}
 use Rattle.forms.proofs.Good.{network-size}
 use Rattle.writers.specs.Write.{Puts, linesFrom}
 use Rattle.writers.proofs.Runs.{all-lines, front-fits, rest-fits, rest-put}
+use native.Mathlib.Omega.{arith}
 use borrow.Author.Needs.{needs}
 use Rattle.writers.proofs.write.put_network.Statement.{statement}
 use Rattle.writers.proofs.write.put_network.Tie as tie
+use Rattle.writers.proofs.write.put_flows.Reads as put-flows-reads
+use Rattle.writers.proofs.write.put_links.Reads as put-links-reads
+use Rattle.writers.proofs.write.put_network_head.Reads as put-network-head-reads
+use Rattle.writers.proofs.write.put_tunnels.Reads as put-tunnels-reads
 
+-- each part begins where the one before it ends, and the last ends with the list
 module _ (s : tie.Start) where
   abbrev list : List ℕ
   list = s .args .list .now
 
-  size : length list ≡ 6 + at list 3 + 2 * at list 4 + 4 * at list 5
-  size = network-size list (s .pre .0)
+  abbrev sizes : counts.Network
+  sizes = networkSizes list
 
-  abbrev Written : ℕ → List ℕ → ℕ → Type 0
-  Written m out p = Puts (linesFrom Network list 0 m) 0 (s .args .out .now) out p
+  links-end : linkAt sizes 0 + sizes .links ≡ flowAt sizes 0
+  links-end = omega (arith, link-at sizes (sizes .links), flows-follow sizes)
 
--- the lines of the links are put, and those of the flows
-with-links : (c : tie.After-put-links) → Written (c .before .before .before .before .before .before .before .before) (6 + at (list (c .before .before .before .before .before .before .before .before)) 3) (c .put-links .last .0) (c .put-links .result)
-with-links c = let s = c .before .before .before .before .before .before .before .before in rest-put Network _ 6 _ (s .pre .1) (omega (arith, size s)) (c .before .before .before .before .put-network-head .ensures) (c .put-links .ensures)
+  flows-end : flowAt sizes 0 + 2 * sizes .flows ≡ tunnelAt sizes 0
+  flows-end = omega (arith, flow-at sizes (sizes .flows), tunnels-follow sizes)
 
-with-flows : (c : tie.After-put-flows) → Written (c .before .before .before .before .before .before .before .before .before .before .before .before) (6 + at (list (c .before .before .before .before .before .before .before .before .before .before .before .before)) 3 + 2 * at (list (c .before .before .before .before .before .before .before .before .before .before .before .before)) 4) (c .put-flows .last .0) (c .put-flows .result)
-with-flows c = let s = c .before .before .before .before .before .before .before .before .before .before .before .before in rest-put Network _ _ _ (s .pre .1) (omega (arith, size s)) (with-links (c .before .before .before .before)) (c .put-flows .ensures)
+  tunnels-end : tunnelAt sizes 0 + 4 * sizes .tunnels ≡ length list
+  tunnels-end = omega (arith, tunnel-at sizes (sizes .tunnels), network-size list (s .pre .0))
+
+  abbrev Written : List ℕ → ℕ → ℕ → Type 0
+  Written out p m = Puts (linesFrom Network list 0 m) 0 (s .args .out .now) out p
+
+-- the head is put, then the lines of the links, then those of the flows
+with-head : (c : tie.After-put-network-head) → let s = c .before .before .before .before in Written s (c .put-network-head .last .0) (c .put-network-head .result) (linkAt (sizes s) 0)
+with-head c = let s = c .before .before .before .before in rw (head-size (sizes s)) (c .put-network-head .ensures)
+
+with-links : (c : tie.After-put-links) → let s = c .before .before .before .before .before .before .before .before in Written s (c .put-links .last .0) (c .put-links .result) (flowAt (sizes s) 0)
+with-links c =
+    let s = c .before .before .before .before .before .before .before .before in
+    subst (Written s (c .put-links .last .0) (c .put-links .result)) (links-end s)
+    (rest-put Network (list s) (linkAt (sizes s) 0) (sizes s .links) (s .pre .1) (omega (arith, links-end s, flows-end s, tunnels-end s)) (with-head (c .before .before .before .before)) (c .put-links .ensures))
+
+with-flows : (c : tie.After-put-flows) → let s = c .before .before .before .before .before .before .before .before .before .before .before .before in Written s (c .put-flows .last .0) (c .put-flows .result) (tunnelAt (sizes s) 0)
+with-flows c =
+    let s = c .before .before .before .before .before .before .before .before .before .before .before .before in
+    subst (Written s (c .put-flows .last .0) (c .put-flows .result)) (flows-end s)
+    (rest-put Network (list s) (flowAt (sizes s) 0) (2 * sizes s .flows) (s .pre .1) (omega (arith, flows-end s, tunnels-end s)) (with-links (c .before .before .before .before)) (c .put-flows .ensures))
 
 put-network-head-requires : tie.Need-put-network-head-requires
-put-network-head-requires c κs = let s = c .before .before .before in (s .pre .0, front-fits Network (list s) 6 (s .args .out .now) (s .pre .1) (omega (arith, size s)))
+put-network-head-requires c κs = let s = c .before .before .before in
+    (s .pre .0, front-fits Network (list s) (length networkLines) (s .args .out .now) (s .pre .1) (omega (arith, head-size (sizes s), head-in (list s) (network-size (list s) (s .pre .0)))))
 
 put-links-requires : tie.Need-put-links-requires
-put-links-requires c κs = let s = c .before .before .before .before .before .before .before in (s .pre .0, rest-fits Network _ 6 _ (s .pre .1) (omega (arith, size s)) (c .before .before .before .put-network-head .ensures))
+put-links-requires c κs = let s = c .before .before .before .before .before .before .before in
+    (s .pre .0, rest-fits Network (list s) (linkAt (sizes s) 0) (sizes s .links) (s .pre .1) (omega (arith, links-end s, flows-end s, tunnels-end s)) (with-head (c .before .before .before)))
 
 put-flows-requires : tie.Need-put-flows-requires
-put-flows-requires c κs = let s = c .before .before .before .before .before .before .before .before .before .before .before in (s .pre .0, rest-fits Network _ _ _ (s .pre .1) (omega (arith, size s)) (with-links (c .before .before .before)))
+put-flows-requires c κs = let s = c .before .before .before .before .before .before .before .before .before .before .before in
+    (s .pre .0, rest-fits Network (list s) (flowAt (sizes s) 0) (2 * sizes s .flows) (s .pre .1) (omega (arith, flows-end s, tunnels-end s)) (with-links (c .before .before .before)))
 
 put-tunnels-requires : tie.Need-put-tunnels-requires
-put-tunnels-requires c κs = let s = c .before .before .before .before .before .before .before .before .before .before .before .before .before .before .before in (s .pre .0, rest-fits Network _ _ _ (s .pre .1) (omega (arith, size s)) (with-flows (c .before .before .before)))
+put-tunnels-requires c κs = let s = c .before .before .before .before .before .before .before .before .before .before .before .before .before .before .before in
+    (s .pre .0, rest-fits Network (list s) (tunnelAt (sizes s) 0) (4 * sizes s .tunnels) (s .pre .1) (omega (arith, tunnels-end s)) (with-flows (c .before .before .before)))
 
 same-length : tie.Need-same-length
 same-length c = search needs
 
 returns : tie.Need-returns
-returns c =
-    let s = c .before .before .before .before .before .before .before .before .before .before .before .before .before .before .before .before .before .before in
-    rw (← size s, all-lines Network (list s)) at (rest-put Network (list s) _ _ (s .pre .1) (omega (arith, size s)) (with-flows (c .before .before .before .before .before .before)) (c .before .before .put-tunnels .ensures))
+returns c = let s = c .before .before .before .before .before .before .before .before .before .before .before .before .before .before .before .before .before .before in
+    rw (tunnels-end s, all-lines Network (list s)) at (rest-put Network (list s) (tunnelAt (sizes s) 0) (4 * sizes s .tunnels) (s .pre .1) (omega (arith, tunnels-end s)) (with-flows (c .before .before .before .before .before .before)) (c .before .before .put-tunnels .ensures))
 
 pub put-network-spec : {M : Type 1} → statement M
 put-network-spec =

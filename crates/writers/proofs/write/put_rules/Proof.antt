@@ -7,6 +7,7 @@ use lib.ListN.{length, getD}
 use lib.Seq.{length-take-le}
 use Rattle.forms.specs.Write.{lineOf}
 use Rattle.forms.specs.declared.form.Form.the-variants.{Rules}
+use Rattle.forms.proofs.Forms.{sound-take}
 use Rattle.forms.proofs.Rendering.{at-most}
 use Rattle.writers.specs.Write.{Puts, Writable, linesFrom, lineAt}
 use Rattle.writers.proofs.Writing.{puts-length}
@@ -51,7 +52,7 @@ slice-aggregate-rules-field : tie.Need-slice-aggregate-rules-field Inv-loop μ-l
 slice-aggregate-rules-field c = sym (length-take-le _ _ (le-of-lt (c .before .loop-test .taken)))
 
 rules-field-requires : tie.Need-rules-field-requires Inv-loop μ-loop
-rules-field-requires c κs = search needs
+rules-field-requires c κs = sound-take Rules _ _ (le-of-lt (c .before .loop-test .taken)) (c .before .before .before .before .before .before .pre .1 .0 .sound)
 
 mul-put-field : tie.Need-mul-put-field Inv-loop μ-loop
 mul-put-field c = let t = c .before .before .before in omega (arith, at-most _ _ _ (t .loop-test .taken) (start (c .before) .pre .1 .0 .sound))

@@ -5,9 +5,10 @@ use native.Mathlib.Nat.{le-of-lt}
 use native.Mathlib.Omega.{arith}
 use lib.ListN.{length, getD}
 use lib.Seq.{length-take-le}
-use Rattle.forms.specs.Form.{mostNumbers}
+use Rattle.lists.specs.Lists.{mostNumbers}
 use Rattle.forms.specs.Write.{lineOf}
 use Rattle.forms.specs.declared.form.Form.the-variants.{Rules}
+use Rattle.forms.proofs.Forms.{sound-take}
 use Rattle.forms.proofs.Rendering.{at-most, line-short}
 use Rattle.writers.specs.Write.{linesFrom}
 use Rattle.writers.proofs.Runs.{lines-none, all-lines, writable, length-more}
@@ -48,7 +49,7 @@ slice-aggregate-rules-field : tie.Need-slice-aggregate-rules-field Inv-loop μ-l
 slice-aggregate-rules-field c = sym (length-take-le _ _ (le-of-lt (c .before .loop-test .taken)))
 
 rules-field-requires : tie.Need-rules-field-requires Inv-loop μ-loop
-rules-field-requires c κs = search needs
+rules-field-requires c κs = sound-take Rules _ _ (le-of-lt (c .before .loop-test .taken)) (c .before .before .before .before .before .pre .1 .sound)
 
 mul-field-len : tie.Need-mul-field-len Inv-loop μ-loop
 mul-field-len c = omega (arith, few c)
