@@ -1,17 +1,17 @@
 -- What is known of a list that is judged good, and that a plan's list of which this is known is judged good.
-use mathlib.Core.Path.{_≡_, refl, sym, ap, _∙_}
+use mathlib.Core.Path.{_≡_, refl, sym, _∙_}
 use mathlib.Core.Bool.{Bool, true, false, cond, _&&_, _||_, not}
 use mathlib.Core.List.{List, [], _∷_}
 use mathlib.Core.Logic.{_⊎_, inl, inr}
 use mathlib.Core.Option.{Option, none, some}
-use Prim.Native.Nat.{ℕ, zero, suc, _+_, _*_, _-_, _/_, _%_, _^_, _≤_, _<_}
+use Prim.Native.Nat.{ℕ, zero, suc, _+_, _*_, _-_, _^_, _≤_, _<_}
 use native.Mathlib.Nat.{le-of-lt}
 use native.Mathlib.Decide.{decLt}
 use native.Mathlib.Omega.{arith}
 use lib.Dec.{T, eqb, leb, ltb, ltb→lt, eqb·suc-zero}
 use lib.ListN.{length, getD, take}
 use borrow.Author.Tests.{lt-ltb, le-ltb}
-use Rattle.model.specs.Limits.{mostLinks, mostFlows, mostTunnels, mostSteps, mostAmount, leastShare, mostShare}
+use Rattle.model.specs.Limits.{mostTunnels, mostSteps, mostAmount, leastShare, mostShare}
 use Rattle.model.specs.Outcome.{good, Cause, unless, Place}
 use Rattle.model.specs.Rule as rule
 use Rattle.model.specs.Claim.{Valid}

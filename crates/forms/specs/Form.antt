@@ -6,7 +6,7 @@ use mathlib.Core.List.{List, [], _∷_}
 use lib.ListN.{length, getD, take}
 use lib.Dec.{T, eqb, leb, ltb}
 use Rattle.model.specs.Limits.{mostLinks, mostFlows, mostTunnels, mostSteps, mostAmount, leastShare, mostShare, mostSwitches, mostRoom}
-use Rattle.lists.specs.Lists.{networkSizes, linkAt, flowAt, tunnelAt, networkSize, planSizes, rowAt, planSize, tableSizes, roomAt, ruleAt, tablesSize, mostNetwork, mostPlan, mostTables}
+use Rattle.lists.specs.Lists.{networkSizes, flowAt, tunnelAt, networkSize, planSizes, planSize, tableSizes, ruleAt, tablesSize, mostNetwork, mostPlan, mostTables}
 use Rattle.lists.specs.declared.Network.{Network}
 use Rattle.lists.specs.declared.PlanSizes.{PlanSizes}
 use Rattle.lists.specs.declared.RuleTables.{RuleTables}

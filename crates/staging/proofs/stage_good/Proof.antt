@@ -1,6 +1,6 @@
 -- `staging::stage_good` meets its contract: each return is a case of the definition. Assumes nothing.
 use Prim.Native.Nat.{ℕ}
-use mathlib.Core.Path.{_≡_, ap, sym, _∙_}
+use mathlib.Core.Path.{_≡_, ap, _∙_}
 use Rattle.lists.specs.Lists.{tableSizes}
 use Rattle.lists.specs.declared.Answer.the-variants.{Done, Refused}
 use Rattle.lists.specs.declared.RuleTables.{RuleTables}

@@ -1,12 +1,12 @@
 -- `forms::form::network_field` meets its contract.
-use mathlib.Core.Path.{sym, ap, subst⁻¹, _∙_}
+use mathlib.Core.Path.{ap, subst⁻¹, _∙_}
 use borrow.Author.Tests.{lt-ltb, le-ltb}
 use lib.ListN.{length}
 use Rattle.lists.specs.Lists.{networkSizes}
 use Rattle.lists.specs.Good.{Limited}
 use Rattle.lists.specs.declared.Network as counts
 use Rattle.lists.proofs.Positions.{head-size}
-use Rattle.forms.specs.Form.{fieldOf, networkLines, networkBody}
+use Rattle.forms.specs.Form.{fieldOf, networkBody}
 use Rattle.forms.proofs.Forms.{head-of-network}
 use native.Mathlib.Omega.{arith}
 use borrow.Author.Needs.{needs}

@@ -1,8 +1,7 @@
 -- `forms::form::rules_field` meets its contract.
-use mathlib.Core.Path.{ap, subst⁻¹, _∙_}
+use mathlib.Core.Path.{ap, _∙_}
 use borrow.Author.Tests.{lt-ltb, le-ltb}
 use lib.ListN.{length}
-use Rattle.lists.specs.Lists.{tableSizes}
 use Rattle.lists.specs.declared.RuleTables.{RuleTables}
 use Rattle.forms.specs.Form.{fieldOf, rulesBody}
 use Rattle.forms.proofs.Forms.{head-of-rules}

@@ -1,6 +1,5 @@
 -- `forms::ranges::body_in` meets its contract.
-use mathlib.Core.Path.{_≡_, ap, subst, subst⁻¹, _∙_}
-use lib.ListN.{length}
+use mathlib.Core.Path.{ap, subst, subst⁻¹}
 use Rattle.model.proofs.Searches.{not-false, not-true}
 use Rattle.lists.specs.Lists.{networkSizes, networkSize}
 use Rattle.lists.specs.Good.{Limited, Sized}
@@ -11,7 +10,6 @@ use Rattle.forms.proofs.Forms.{limited}
 use Rattle.forms.proofs.Good.{network-size}
 use Rattle.forms.proofs.InRange.{in-range-whole, decides-no, decides-same, whole-in-range}
 use native.Mathlib.Omega.{arith}
-use borrow.Author.Needs.{needs}
 use Rattle.forms.proofs.ranges.body_in.Statement.{statement}
 use Rattle.forms.proofs.ranges.body_in.Tie as tie
 use Rattle.forms.proofs.ranges.flows_in.Reads as flows-in-reads

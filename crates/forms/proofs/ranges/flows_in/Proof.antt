@@ -1,12 +1,10 @@
 -- `forms::ranges::flows_in` meets its contract.
-use Prim.Native.Nat.{ℕ, _≤_, _<_, _-_, _+_}
-use mathlib.Core.Path.{_≡_, sym, ap, _∙_, subst, subst⁻¹}
-use lib.Dec.{T}
-use Rattle.lists.specs.Lists.{at, networkSizes}
-use Rattle.lists.specs.declared.Network as counts
+use Prim.Native.Nat.{ℕ, _≤_, _-_, _+_}
+use mathlib.Core.Path.{_≡_, ap}
+use Rattle.lists.specs.Lists.{at}
 use Rattle.lists.proofs.Positions.{FlowPlace, flow-place, limited}
 use Rattle.forms.specs.Ranges.{FlowsIn}
-use Rattle.forms.proofs.InRange.{flows-none, flows-more, decides-yes, decides-no, untrue}
+use Rattle.forms.proofs.InRange.{flows-none, flows-more, decides-yes, decides-no}
 use native.Mathlib.Omega.{arith}
 use borrow.Author.Needs.{needs}
 use Rattle.forms.proofs.ranges.flows_in.Statement.{statement}

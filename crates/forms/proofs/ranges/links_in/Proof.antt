@@ -1,12 +1,10 @@
 -- `forms::ranges::links_in` meets its contract.
-use Prim.Native.Nat.{ℕ, _≤_, _<_, _-_, _+_}
-use mathlib.Core.Path.{_≡_, sym, ap, _∙_, subst, subst⁻¹}
-use lib.Dec.{T}
-use Rattle.lists.specs.Lists.{at, networkSizes}
-use Rattle.lists.specs.declared.Network as counts
+use Prim.Native.Nat.{_≤_, _-_}
+use mathlib.Core.Path.{_≡_, ap}
+use Rattle.lists.specs.Lists.{at}
 use Rattle.lists.proofs.Positions.{LinkPlace, link-place, limited}
 use Rattle.forms.specs.Ranges.{LinksIn}
-use Rattle.forms.proofs.InRange.{links-none, links-more, decides-yes, decides-no, untrue}
+use Rattle.forms.proofs.InRange.{links-none, links-more, decides-yes, decides-no}
 use native.Mathlib.Omega.{arith}
 use borrow.Author.Needs.{needs}
 use Rattle.forms.proofs.ranges.links_in.Statement.{statement}

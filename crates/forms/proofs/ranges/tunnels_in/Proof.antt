@@ -1,15 +1,13 @@
 -- `forms::ranges::tunnels_in` meets its contract.
-use Prim.Native.Nat.{ℕ, _≤_, _<_, _-_, _+_}
+use Prim.Native.Nat.{ℕ, _≤_, _-_, _+_}
 use mathlib.Core.Path.{_≡_, sym, ap, _∙_, subst, subst⁻¹}
 use lib.Dec.{T}
-use Rattle.lists.specs.Lists.{at, networkSizes}
+use Rattle.lists.specs.Lists.{at}
 use Rattle.lists.specs.declared.Network as counts
 use Rattle.lists.proofs.Positions.{TunnelPlace, tunnel-place, limited}
 use Rattle.forms.specs.Ranges.{TunnelsIn}
 use Rattle.forms.proofs.InRange.{tunnels-none, tunnels-more, via-at, at-via, decides-yes, decides-no, untrue}
 use Rattle.model.proofs.Searches.{not-false, not-true}
-use Rattle.forms.specs.Form.{admitsOf}
-use Rattle.forms.specs.declared.form.Range.the-variants.{Set}
 use native.Mathlib.Omega.{arith}
 use borrow.Author.Needs.{needs}
 use Rattle.forms.proofs.ranges.tunnels_in.Statement.{statement}

@@ -10,7 +10,6 @@ use Rattle.model.specs.Limits.{mostFlows}
 use Rattle.model.specs.Rule.{flowSum, missedBy}
 use Rattle.model.proofs.Searches.{first-zero, first-on}
 use Rattle.lists.specs.Lists.{at, networkSizes, networkOf}
-use Rattle.lists.specs.Good.{NetworkRanges}
 use Rattle.lists.specs.declared.Network as counts
 use Rattle.lists.proofs.Positions.{FlowPlace, flow-place, limited, head-in}
 use Rattle.forms.proofs.Gathering.{gathered-all, miss-old, miss-new, miss-none, missed-at, missed-none}

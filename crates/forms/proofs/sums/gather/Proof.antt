@@ -3,10 +3,10 @@ use Prim.Native.Nat.{ℕ, _≤_, _<_, _+_, _-_, _^_}
 use mathlib.Core.Path.{_≡_, sym, ap, _∙_}
 use mathlib.Core.List.{List}
 use native.Mathlib.Nat.{lt-of-lt-of-le}
-use lib.ListN.{length, getD, set}
+use lib.ListN.{length, getD}
 use Rattle.model.specs.Limits.{mostFlows, mostAmount}
 use Rattle.model.specs.Net.{Net}
-use Rattle.lists.specs.Lists.{at, networkSizes, networkOf, tunnelAt}
+use Rattle.lists.specs.Lists.{at, networkSizes, networkOf}
 use Rattle.lists.specs.Good.{NetworkRanges}
 use Rattle.lists.specs.declared.Network as counts
 use Rattle.lists.proofs.Positions.{TunnelPlace, tunnel-place, limited, head-in}

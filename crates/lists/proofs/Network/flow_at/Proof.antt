@@ -1,6 +1,5 @@
 -- `lists::Network::flow_at` meets its contract.
 use Rattle.lists.specs.Lists.{linkAt, flowAt}
-use native.Mathlib.Omega.{arith}
 use borrow.Author.Needs.{needs}
 use Rattle.lists.proofs.Network.flow_at.Statement.{statement}
 use Rattle.lists.proofs.Network.flow_at.Tie as tie

@@ -1,6 +1,5 @@
 -- `lists::Network::link_at` meets its contract.
 use Rattle.lists.specs.Lists.{linkAt}
-use native.Mathlib.Omega.{arith}
 use borrow.Author.Needs.{needs}
 use Rattle.lists.proofs.Network.link_at.Statement.{statement}
 use Rattle.lists.proofs.Network.link_at.Tie as tie

@@ -1,6 +1,5 @@
 -- `lists::Network::of` meets its contract.
 use Rattle.lists.specs.Lists.{networkSizes, linkAt}
-use native.Mathlib.Omega.{arith}
 use borrow.Author.Needs.{needs}
 use Rattle.lists.proofs.Network.of.Statement.{statement}
 use Rattle.lists.proofs.Network.of.Tie as tie

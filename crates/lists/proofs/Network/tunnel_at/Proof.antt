@@ -1,6 +1,5 @@
 -- `lists::Network::tunnel_at` meets its contract.
 use Rattle.lists.specs.Lists.{linkAt, flowAt, tunnelAt}
-use native.Mathlib.Omega.{arith}
 use borrow.Author.Needs.{needs}
 use Rattle.lists.proofs.Network.tunnel_at.Statement.{statement}
 use Rattle.lists.proofs.Network.tunnel_at.Tie as tie

@@ -2,12 +2,8 @@
 use mathlib.Core.Path.{ap}
 use Rattle.lists.specs.Lists.{networkOf}
 use Rattle.lists.specs.declared.Network as counts
-use Rattle.lists.specs.declared.PlanSizes.{PlanSizes}
 use Rattle.lists.proofs.Positions.{head-in}
 use Prim.Native.Nat.{ℕ}
-use Rattle.planner.specs.Tables.{evenSizes}
-use native.Mathlib.Omega.{arith}
-use borrow.Author.Needs.{needs}
 use Rattle.planner.proofs.rows.plan_sizes.Statement.{statement}
 use Rattle.planner.proofs.rows.plan_sizes.Tie as tie
 use Rattle.lists.proofs.Network.of.Reads as of-reads

@@ -6,7 +6,7 @@ use Rattle.model.specs.Rule.{worstOver}
 use Rattle.model.specs.Even.{even}
 use Rattle.model.proofs.Searches.{first-zero}
 use Rattle.model.proofs.Scans.{step-on}
-use Rattle.lists.specs.Lists.{networkSizes, networkOf}
+use Rattle.lists.specs.Lists.{networkOf}
 use Rattle.lists.specs.declared.Answer.the-variants.{Refused}
 use Rattle.lists.specs.declared.Network as counts
 use Rattle.lists.proofs.Positions.{head-in}

@@ -1,5 +1,5 @@
 -- `planner::steps::is_over` meets its contract: the two comparisons are the two bounds of the rule.
-use Prim.Native.Nat.{ℕ, _+_, _*_, _<_}
+use Prim.Native.Nat.{ℕ, _+_, _*_}
 use mathlib.Core.Path.{ap, _∙_}
 use lib.Dec.{ltb}
 use lib.ListN.{getD}
@@ -10,7 +10,6 @@ use Rattle.lists.proofs.Positions.{LinkPlace, link-place, limited, head-in, hea
 use Rattle.planner.proofs.Tables.{step-room}
 use Rattle.planner.proofs.Searching.{AtLink, link-low, protected-room, all-room, overrun-most, cap-room, overrun-room, is-over-first, is-over-second}
 use native.Mathlib.Omega.{arith}
-use borrow.Author.Needs.{needs}
 use Rattle.planner.proofs.steps.is_over.Statement.{statement}
 use Rattle.planner.proofs.steps.is_over.Tie as tie
 use Rattle.lists.proofs.Network.link_at.Reads as link-at-reads

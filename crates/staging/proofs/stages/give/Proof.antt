@@ -4,7 +4,6 @@ use mathlib.Core.Path.{refl, ap, ap₂, _∙_}
 use mathlib.Core.List.{_++_}
 use lib.ListN.{drop}
 use Rattle.model.specs.Listed.{listed}
-use Rattle.lists.specs.Lists.{at}
 use Rattle.lists.specs.declared.RuleTables.{RuleTables}
 use Rattle.rules.specs.Stage.{Stages}
 use Rattle.staging.proofs.Answers.{staged-none}

@@ -1,7 +1,7 @@
 -- `staging::stages::pass` meets its contract: the turns so far are those of the definition. Assumes nothing.
-use Prim.Native.Nat.{ℕ, _-_, _≤_, _<_}
-use mathlib.Core.Path.{_≡_, ap, _∙_}
-use Rattle.lists.specs.Lists.{at, tableSizes, ruleAt}
+use Prim.Native.Nat.{_-_, _≤_}
+use mathlib.Core.Path.{ap, _∙_}
+use Rattle.lists.specs.Lists.{at, ruleAt}
 use Rattle.lists.specs.declared.RuleTables.{RuleTables}
 use Rattle.rules.specs.Stage as model
 use Rattle.rules.specs.Lists.{rulesOf}

@@ -1,6 +1,6 @@
 -- `switches::room::by_counts` meets its contract: the switches passed are not too full, and what is spare at each is in its table. Assumes nothing.
-use Prim.Native.Nat.{ℕ, _-_, _≤_, _<_}
-use mathlib.Core.Path.{_≡_, ap, _∙_}
+use Prim.Native.Nat.{_-_, _≤_, _<_}
+use mathlib.Core.Path.{_≡_, ap}
 use Rattle.lists.specs.Lists.{tableSizes, roomAt}
 use Rattle.lists.specs.declared.RuleTables.{RuleTables}
 use Rattle.rules.specs.Lists.{rulesOf}

@@ -1,5 +1,5 @@
 -- `switches::tables::count` meets its contract: the tunnels passed are counted. Assumes nothing.
-use Prim.Native.Nat.{ℕ, _-_, _+_, _≤_, _<_}
+use Prim.Native.Nat.{_-_, _≤_, _<_}
 use mathlib.Core.Path.{_≡_, ap, _∙_}
 use mathlib.Core.Logic.{⊎-elim}
 use Rattle.lists.specs.Lists.{tableSizes, ruleAt}

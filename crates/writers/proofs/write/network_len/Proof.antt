@@ -1,14 +1,12 @@
 -- `writers::write::network_len` meets its contract.
-use Prim.Native.Nat.{ℕ, _≤_, _<_, _+_, _*_}
-use mathlib.Core.Path.{_≡_, ap, subst⁻¹, _∙_}
-use lib.ListN.{length}
-use Rattle.model.specs.Limits.{mostLinks, mostFlows, mostTunnels}
+use Prim.Native.Nat.{_≤_}
+use mathlib.Core.Path.{_≡_, ap, _∙_}
 use Rattle.lists.specs.Lists.{networkSizes, tunnelAt, mostNumbers}
 use Rattle.lists.specs.Good.{Sized, Limited}
 use Rattle.lists.specs.declared.Network as counts
 use Rattle.lists.proofs.Positions.{limited, head-in, short, most-in-all, tunnel-at}
 use Rattle.forms.proofs.Good.{network-ranges}
-use Rattle.writers.specs.Write.{Decimal, widthsOf, tunnelWidths}
+use Rattle.writers.specs.Write.{widthsOf, tunnelWidths}
 use Rattle.writers.proofs.Measuring.{network-length, network-number}
 use native.Mathlib.Omega.{arith}
 use borrow.Author.Needs.{needs}

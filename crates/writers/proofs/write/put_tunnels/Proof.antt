@@ -2,8 +2,8 @@
 use Prim.Native.Nat.{ℕ, _≤_, _+_, _*_, _-_}
 use mathlib.Core.Path.{_≡_, refl, ap}
 use mathlib.Core.List.{List}
-use lib.ListN.{length, getD}
-use Rattle.lists.specs.Lists.{networkSizes, linkAt, flowAt, tunnelAt}
+use lib.ListN.{getD}
+use Rattle.lists.specs.Lists.{networkSizes, tunnelAt}
 use Rattle.lists.specs.Good.{Sized}
 use Rattle.lists.specs.declared.Network as counts
 use Rattle.lists.proofs.Positions.{TunnelPlace, tunnel-place, tunnel-at, limited, head-in}

@@ -2,16 +2,13 @@
 use Prim.Native.Nat.{ℕ, _≤_, _<_, _+_, _*_, _-_}
 use mathlib.Core.Path.{_≡_, sym, ap, _∙_}
 use mathlib.Core.List.{List}
-use lib.ListN.{length, getD}
+use lib.ListN.{getD}
 use Rattle.model.specs.Limits.{mostTunnels}
-use Rattle.lists.specs.Lists.{networkSizes, linkAt, flowAt, tunnelAt}
 use Rattle.lists.specs.Good.{Sized}
 use Rattle.lists.specs.declared.Network as counts
-use Rattle.lists.proofs.Positions.{TunnelPlace, tunnel-place, limited, head-in}
+use Rattle.lists.proofs.Positions.{TunnelPlace, tunnel-place, limited}
 use Rattle.forms.proofs.Good.{network-ranges}
-use Rattle.forms.specs.Bytes.{bytes}
 use Rattle.forms.specs.Write.{widthOf}
-use Rattle.forms.specs.declared.form.Form.the-variants.{Network}
 use Rattle.writers.specs.Write.{Decimal, tunnelWidths}
 use Rattle.writers.proofs.Runs.{flow-line, old-line, new-line}
 use Rattle.writers.proofs.Measuring.{tunnel-widths-none, tunnel-widths-more}
