@@ -140,8 +140,13 @@ impl RuleTables {
 
     pub const HEAD: usize = 4;
 
+    // How far the lines of a tunnel are from those of the next, where a loop is the faster for going on by that.
+    pub const PER_TUNNEL: usize = 2;
+
     // The most numbers that a list of rule tables has.
-    pub const NUMBERS: usize = Self::HEAD + Self::SWITCHES as usize + 2 * Self::TUNNELS as usize;
+    pub const NUMBERS: usize = Self::HEAD
+        + Self::SWITCHES as usize
+        + Self::PER_TUNNEL * Self::TUNNELS as usize;
 
     // The sizes of the rule tables that a list holds, which has a head.
     pub fn of(list: &[u64]) -> RuleTables
@@ -167,7 +172,7 @@ impl RuleTables {
         requires { ⌜ (self .switches ≤ mostSwitches) × (t ≤ mostTunnels) ⌝ }
         ensures { λ r. ⌜ r ≡ ruleAt self t ⌝ }
     {
-        Self::HEAD + self.switches + 2 * t
+        Self::HEAD + self.switches + Self::PER_TUNNEL * t
     }
 }
 

@@ -61,10 +61,12 @@ fn pass(list: &[u64], spares: &[u64], p: Terms, counts: &mut [u64], stages: &mut
     ensures { λ _. ⌜ Reached (now (list .entry)) (moveOf (p .kind)) (model.pass (rulesOf (now (list .entry))) (moveOf (p .kind)) (p .stage) (at (now (stages .entry))) (rulesOf (now (list .entry)) .tunnels)) (now (counts .exit)) (now (stages .exit)) ⌝ }
 {
     let sizes = RuleTables::of(list);
+    let tunnels = sizes.tunnels;
+    let mut from = sizes.rule_at(0);
     let mut t: usize = 0;
-    while t < sizes.tunnels {
-        let from = sizes.rule_at(t);
+    while t < tunnels {
         turn(list, from, spares, p, t, counts, stages);
+        from += RuleTables::PER_TUNNEL;
         t += 1;
     }
 }
