@@ -54,10 +54,11 @@ pub fn write_plan(network: &[u64], q: u64, out: &mut [u64])
     out[1] = q;
     out[2] = q;
     out[3] = tunnels as u64;
+    let mut at = sizes.row_at(1);
     let mut done: u64 = 0;
     while done < q - 1 {
         done += 1;
-        let at = sizes.row_at(done as usize);
         write_row(network, q, done, &mut out[at..at + tunnels]);
+        at += tunnels;
     }
 }
