@@ -1,5 +1,5 @@
 -- Laws of the forms: sets and shifts, which field stands where, and what the numbers of a sound list are bounded by.
-use mathlib.Core.Path.{_≡_, refl}
+use mathlib.Core.Path.{_≡_, refl, ap, subst, _∙_}
 use mathlib.Core.Bool.{Bool, true, false, cond, _&&_, _||_, not, true≢false, false≢true}
 use mathlib.Core.List.{List, [], _∷_, _++_}
 use Prim.Native.Nat.{ℕ, zero, suc, _+_, _*_, _-_, _/_, _%_, _^_, _≤_, _<_}
@@ -14,7 +14,9 @@ use borrow.Author.Tests.{ne-eqb, lt-ltb, le-ltb, le-leb}
 use Rattle.model.proofs.Searches.{both}
 use Rattle.model.specs.Limits.{mostLinks, mostFlows, mostTunnels, mostSteps, mostAmount, mostShare, mostSwitches, mostRoom}
 use Rattle.lists.specs.Lists.{at, networkSizes, linkAt, flowAt, tunnelAt, networkSize, planSizes, planSize, tableSizes, roomAt, ruleAt, tablesSize, mostPlan, mostNumbers}
-use Rattle.lists.specs.Good.{Limited}
+use Rattle.lists.specs.Good.{Limited, StandsAt}
+use Rattle.lists.specs.declared.Position.{Position}
+use Rattle.lists.specs.declared.Position.the-variants as position
 use Rattle.lists.specs.declared.Network as counts
 use Rattle.lists.specs.declared.PlanSizes.{PlanSizes}
 use Rattle.lists.specs.declared.RuleTables.{RuleTables}
@@ -110,6 +112,20 @@ module _ (n : counts.Network) where
       let y : tunnelAt n 0 ≤ i = omega (arith, tunnel-at n (n .tunnels)) in
       let x : flowAt n 0 ≤ i = omega (arith, flows-before) in
       rw (le-ltb i (flowAt n 0) x, le-ltb i (tunnelAt n 0) y, le-ltb i (networkSize n) h)
+
+  -- by what stands at a position
+  module _ (i : ℕ) (r : Position) (s : StandsAt n i r) where
+    pub stands-link : (k : ℕ) → r ≡ position.Link k → networkBody n i ≡ line "cap=" (Between 0 mostAmount)
+    stands-link k e = let p = subst (StandsAt n i) e s in ap (networkBody n) (p .1) ∙ body-cap k (p .0)
+
+    pub stands-flow : (f j : ℕ) → r ≡ position.Flow f j → networkBody n i ≡ getD flowLines j End
+    stands-flow f j e = let p = subst (StandsAt n i) e s in ap (networkBody n) (p .2) ∙ body-flow f j (p .0) (p .1)
+
+    pub stands-tunnel : (t j : ℕ) → r ≡ position.Tunnel t j → networkBody n i ≡ getD (tunnelLines n) j End
+    stands-tunnel t j e = let p = subst (StandsAt n i) e s in ap (networkBody n) (p .2) ∙ body-tunnel t j (p .0) (p .1)
+
+    pub stands-past : r ≡ position.Past → networkBody n i ≡ End
+    stands-past e = body-end i (subst (StandsAt n i) e s)
 
 -- the field at an index of a list, in the head and after it
 module _ (l : List ℕ) (i : ℕ) (h : i ≤ length l) where

@@ -3,12 +3,14 @@ ghost use mathlib.Core.Path.{_≡_};
 ghost use lib.ListN.{getD};
 ghost use Prim.Native.Nat.{_≤_};
 ghost use Rattle.model.specs.Limits.{mostSwitches, mostTunnels};
+ghost use Rattle.lists.specs.Lists.{linkAt};
 ghost use Rattle.lists.specs.Good.{Limited};
 ghost use Rattle.forms.specs.Keys.{prefixOf};
 ghost use Rattle.forms.specs.Slots.{keyBytes};
 ghost use Rattle.forms.specs.Form.{fieldOf, networkBody, rulesBody, admitsOf, isHex, secondOf, hasRemarks, Sound, networkLines, flowLines, tunnelLines, planLines, rulesLines, ruleLines};
 use lists::Network;
 use lists::PlanSizes;
+use lists::Position;
 use lists::RuleTables;
 
 pub enum Form {
@@ -163,21 +165,15 @@ fn tunnel_group(sizes: Network, n: usize) -> Field
 }
 
 fn network_body(sizes: Network, i: usize) -> Field
-    requires { ⌜ Limited sizes ⌝ }
+    requires { ⌜ Limited sizes × (linkAt sizes 0 ≤ i) ⌝ }
     ensures { λ r. ⌜ r ≡ networkBody sizes i ⌝ }
 {
-    let flows_at = sizes.flow_at(0);
-    if i < flows_at {
-        return Field::Line(CAP, Range::Between(0, Network::AMOUNT));
+    match sizes.position(i) {
+        Position::Link(_) => Field::Line(CAP, Range::Between(0, Network::AMOUNT)),
+        Position::Flow(_, j) => flow_group(j),
+        Position::Tunnel(_, j) => tunnel_group(sizes, j),
+        Position::Past => Field::End,
     }
-    let tunnels_at = sizes.tunnel_at(0);
-    if i < tunnels_at {
-        return flow_group((i - flows_at) % 2);
-    }
-    if i < sizes.tunnel_at(sizes.tunnels) {
-        return tunnel_group(sizes, (i - tunnels_at) % 4);
-    }
-    Field::End
 }
 
 // What stands after some numbers of a network, each of which its own field allows.

@@ -8,6 +8,8 @@ use lib.ListN.{length}
 use Rattle.model.specs.Limits.{mostLinks, mostFlows, mostTunnels, mostSteps, mostAmount, leastShare, mostShare}
 use Rattle.model.specs.Rule.{missedRate}
 use Rattle.lists.specs.declared.Network.{Network}
+use Rattle.lists.specs.declared.Position.{Position}
+use Rattle.lists.specs.declared.Position.the-variants.{Link, Flow, Tunnel, Past}
 use Rattle.lists.specs.Lists.{at, networkSizes, linkAt, flowAt, tunnelAt, networkSize, networkOf, planSizes, rowAt, planSize}
 
 -- counts within the limits
@@ -15,6 +17,13 @@ pub record Limited (n : Network) : Type 0 where
   pub links : n .links ≤ mostLinks
   pub flows : n .flows ≤ mostFlows
   pub tunnels : n .tunnels ≤ mostTunnels
+
+-- what stands at position i, after the head
+abbrev pub StandsAt : Network → ℕ → Position → Type 0
+StandsAt n i (Link k) = (k < n .links) × (i ≡ linkAt n k)
+StandsAt n i (Flow f j) = (f < n .flows) × (j < 2) × (i ≡ flowAt n f + j)
+StandsAt n i (Tunnel t j) = (t < n .tunnels) × (j < 4) × (i ≡ tunnelAt n t + j)
+StandsAt n i Past = networkSize n ≤ i
 
 -- a list that is as long as its own counts say, and those are within the limits
 pub record Sized (l : List ℕ) : Type 0 where

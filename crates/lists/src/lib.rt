@@ -5,7 +5,7 @@ ghost use Prim.Native.Nat.{_≤_};
 ghost use lib.ListN.{length};
 ghost use Rattle.model.specs.Limits.{mostSteps, mostTunnels, mostSwitches};
 ghost use Rattle.lists.specs.Lists.{networkSizes, linkAt, flowAt, tunnelAt, planSizes, rowAt, tableSizes, roomAt, ruleAt};
-ghost use Rattle.lists.specs.Good.{Limited};
+ghost use Rattle.lists.specs.Good.{Limited, StandsAt};
 
 // How many links, flows and tunnels a network has.
 pub struct Network {
@@ -75,6 +75,34 @@ impl Network {
     {
         Self::HEAD + self.links + 2 * self.flows + 4 * t
     }
+
+    // Which number stands at position i, which is past the head.
+    pub fn position(self, i: usize) -> Position
+        requires { ⌜ Limited self × (linkAt self 0 ≤ i) ⌝ }
+        ensures { λ r. ⌜ StandsAt self i r ⌝ }
+    {
+        let n = i - Self::HEAD;
+        if n < self.links {
+            return Position::Link(n);
+        }
+        let m = n - self.links;
+        if m / 2 < self.flows {
+            return Position::Flow(m / 2, m % 2);
+        }
+        let k = m - 2 * self.flows;
+        if k / 4 < self.tunnels {
+            return Position::Tunnel(k / 4, k % 4);
+        }
+        Position::Past
+    }
+}
+
+// Which of a network's numbers stands at a position after the head: that of a link, line j of a flow or of a tunnel, or none.
+pub enum Position {
+    Link(usize),
+    Flow(usize, usize),
+    Tunnel(usize, usize),
+    Past,
 }
 
 // The numbers of a plan's head: in how many parts its amounts are counted, how many steps it has, and for how many tunnels.

@@ -27,7 +27,7 @@ of-requires : tie.Need-of-requires
 of-requires c κs = omega (arith, head-size (networkSizes (c .before .before .args .done .now)))
 
 network-body-requires : tie.Need-network-body-requires
-network-body-requires c κs = subst⁻¹ Limited (c .of .ensures) (head-of-network _ (c .before .before .before .pre) (c .before .if1 .left))
+network-body-requires c κs = (subst⁻¹ Limited (c .of .ensures) (head-of-network _ (c .before .before .before .pre) (c .before .if1 .left)), omega (arith, c .before .if1 .left, head-size (c .of .result)))
 
 returns-2 : tie.Need-returns-2
 unfolding fieldOf
