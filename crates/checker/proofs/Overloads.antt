@@ -4,14 +4,14 @@ use mathlib.Core.Path.{_≡_, refl, ap, ap₂, _∙_}
 use mathlib.Core.Logic.{_≢_}
 use mathlib.Core.Bool.{Bool, true, false, cond}
 use mathlib.Core.List.{List}
-use mathlib.Core.Option.{none, some}
+use mathlib.Core.Option.{none, some, orElse}
 use native.Mathlib.Omega.{arith}
 use native.Mathlib.Nat.{max-le}
 use borrow.Author.Tests.{lt-ltb, le-ltb}
 use Rattle.model.specs.Limits.{mostSteps, mostAmount}
 use Rattle.model.specs.Sets.{inSet}
 use Rattle.model.specs.Sum.{sumOver}
-use Rattle.model.specs.Search.{onlyIf, orElse}
+use Rattle.model.specs.Search.{onlyIf}
 use Rattle.model.specs.Net.{Net, Plan, row}
 use Rattle.model.specs.Scan.{Bound, Overload, test, testLink}
 use Rattle.model.specs.Rule.{crosses, onLink, counts, load, exceeds, worst, worstOver}

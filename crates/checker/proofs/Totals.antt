@@ -1,6 +1,6 @@
 -- The sums of a row: what is gathered for each flow, and the first flow whose sum is not parts × rate.
 use Prim.Native.Nat.{ℕ, _+_, _*_, _≤_, _<_}
-use mathlib.Core.Path.{_≡_, sym, ap, _∙_, subst}
+use mathlib.Core.Path.{_≡_, refl, sym, ap, _∙_, subst}
 use mathlib.Core.Logic.{⊎-elim}
 use mathlib.Core.Bool.{not}
 use mathlib.Core.List.{List}
@@ -12,9 +12,10 @@ use lib.ListN.{getD}
 use Rattle.model.specs.Limits.{mostFlows}
 use Rattle.model.specs.Search.{first}
 use Rattle.model.specs.Net.{Net, Plan, row}
-use Rattle.model.specs.Rule.{flowSum, missedIn}
-use Rattle.model.proofs.Sums.{sum-cong}
+use Rattle.model.specs.Rule.{flowSum, missedRate, missedIn}
+use Rattle.model.proofs.Sums.{sum-cong, sum-mul}
 use Rattle.model.proofs.Searches.{only-true, only-false, none-first, first-at}
+use Rattle.model.proofs.Rows.{row-first, row-last, rate-met}
 use Rattle.forms.specs.Sums.{Gathered}
 use Rattle.checker.specs.Columns.{Holds}
 use Rattle.checker.specs.Inner.{FirstMissed}
@@ -53,3 +54,19 @@ gathered-at N x n m s e g = subst (λ (k : ℕ). Gathered N x k s) e g
 
 pub missed-at : (N : Net) (parts q : ℕ) (sums : List ℕ) (r : ℕ) → parts ≡ q → FirstMissed N parts sums r → FirstMissed N q sums r
 missed-at N parts q sums r e m = subst (λ (k : ℕ). FirstMissed N k sums r) e m
+
+-- ---- the first and the last row of any plan add up, since a good network's amounts do
+
+module _ (N : Net) (P : Plan) (e : missedRate N ≡ none) where
+  own-row-met : (a : ℕ) (x : ℕ → ℕ) → ((t : ℕ) → row N P a t ≡ P .parts * x t) → ((f : ℕ) → f < N .flows → flowSum N x f ≡ N .rate f)
+      → first (N .flows) (missedIn N P a) ≡ none
+  unfolding missedIn flowSum
+  own-row-met a x own met =
+      none-first _ (N .flows) (λ f h. only-false _ _ (ap not (eq-eqb _ _
+      (sum-cong (N .tunnels) _ (λ t _ _. own t) ∙ sum-mul (N .tunnels) _ (P .parts) x ∙ ap (λ (k : ℕ). P .parts * k) (met f h)))))
+
+  pub first-row-met : first (N .flows) (missedIn N P 0) ≡ none
+  first-row-met = own-row-met 0 (N .old) (λ t. row-first N P 0 t refl) (λ f k. rate-met N e f k .0)
+
+  pub last-row-met : 0 < P .steps → first (N .flows) (missedIn N P (P .steps)) ≡ none
+  last-row-met h = own-row-met (P .steps) (N .new) (λ t. row-last N P (P .steps) t refl h) (λ f k. rate-met N e f k .1)

@@ -28,7 +28,7 @@ fn over(network: &[u64], parts: u64, vias: &[u64], all: &[u64], protected: &[u64
 {
     let sizes = Network::of(network);
     let n = sizes.tunnels;
-    let overrun = network[2];
+    let overrun = network[Network::OVERRUN];
     let link = l as u64;
     let room = parts * network[sizes.link_at(l)];
     if room < columns::load(vias, protected, n, link) {

@@ -44,7 +44,7 @@ fn missed_flow(network: &[u64], parts: u64, sums: &[u64]) -> usize
     let sizes = Network::of(network);
     let mut f = 0;
     while f < sizes.flows {
-        if sums[f] != parts * network[sizes.flow_at(f) + 1] {
+        if sums[f] != parts * network[sizes.flow_at(f) + Network::RATE] {
             return f;
         }
         f += 1;
@@ -52,7 +52,8 @@ fn missed_flow(network: &[u64], parts: u64, sums: &[u64]) -> usize
     f
 }
 
-// The lowest row that misses parts × rate, and the lowest flow that misses it there.
+// The lowest row that misses parts × rate, and the lowest flow that misses it there. The first and the last row are the
+// network's own amounts, which add up.
 pub(crate) fn missed_row(network: &[u64], plan: &[u64]) -> Missed
     requires { ⌜ Checkable (now network) (now plan) ⌝ }
     ensures { λ r. ⌜ r ≡ missedOf (missedRow (networkOf (now (network .entry))) (planOf (now (plan .entry)))) ⌝ }
@@ -62,8 +63,8 @@ pub(crate) fn missed_row(network: &[u64], plan: &[u64]) -> Missed
     let parts = sizes.parts;
     let steps = sizes.steps;
     let mut row = [0u64; TUNNELS];
-    let mut a = 0;
-    while a <= steps {
+    let mut a = 1;
+    while a < steps {
         rows::row(network, plan, a, &mut row);
         let mut sums = [0u64; FLOWS];
         row_sums(network, &row, &mut sums);

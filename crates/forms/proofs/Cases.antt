@@ -1,17 +1,18 @@
 -- The session's network text, read and written by the definitions, and texts that are refused: antt computes each.
 use mathlib.Core.Path.{_≡_, refl}
-use mathlib.Core.List.{List, [], _∷_, _++_}
+use mathlib.Core.List.{List, [], _∷_, _++_, flatten, flatMap}
+use mathlib.Core.Option.{orElse, Option·elim}
 use Prim.Native.Nat.{ℕ, _-_}
 use lib.ListN.{replicate}
 use Rattle.model.specs.Outcome.{Outcome, good, refused, malformed, outOfRange, missing, missedRate}
 use Rattle.model.specs.Sum.{sumOver}
-use Rattle.model.specs.Search.{onlyIf, orElse, first}
+use Rattle.model.specs.Search.{onlyIf, first}
 use Rattle.model.specs.Rule as rule
 use Rattle.lists.specs.Lists.{networkOf, networkSizes, linkAt, flowAt, tunnelAt}
 use Rattle.forms.specs.Bytes.{bytes}
-use Rattle.forms.specs.Line.{lines, onFirst, concat, fits, filter, plain, valuePart, beforeFeed, digitOf, numberFrom, decimalOf, hexOf}
+use Rattle.forms.specs.Line.{lines, onFirst, fits, plain, valuePart, beforeFeed, digitOf, numberFrom, decimalOf, hexOf}
 use Rattle.forms.specs.Form.{fieldOf, networkBody, rulesBody}
-use Rattle.forms.specs.Read.{walkLines, readLines, addUp}
+use Rattle.forms.specs.Read.{walk, numberIn, firstBad, readLines, addUp}
 use Rattle.forms.specs.Write.{render, renderFrom, digitsIn, widthOf, widthFrom}
 use Rattle.forms.specs.declared.form.Form.the-variants.{Network, Plan, Rules}
 use Rattle.forms.specs.Named.{readNetwork, readPlan, readRules}
@@ -35,7 +36,7 @@ network : List ℕ
 network = 1 ∷ 333 ∷ 0 ∷ 2 ∷ 2 ∷ 4 ∷ 15 ∷ 15 ∷ 0 ∷ 10 ∷ 0 ∷ 10 ∷ 0 ∷ 1 ∷ 10 ∷ 0 ∷ 0 ∷ 2 ∷ 0 ∷ 10 ∷ 1 ∷ 2 ∷ 10 ∷ 0 ∷ 1 ∷ 1 ∷ 0 ∷ 10 ∷ []
 
 reads : readNetwork session ≡ good network
-unfolding network session readLines walkLines lines onFirst valuePart beforeFeed digitOf numberFrom decimalOf hexOf fieldOf networkBody networkSizes linkAt flowAt tunnelAt addUp networkOf rule.missedRate rule.missedBy rule.flowSum sumOver onlyIf orElse first
+unfolding network session readLines walk numberIn firstBad plain flatMap lines onFirst valuePart beforeFeed digitOf numberFrom decimalOf hexOf fieldOf networkBody networkSizes linkAt flowAt tunnelAt addUp networkOf rule.missedRate rule.missedBy rule.flowSum sumOver onlyIf orElse first Option·elim
 reads = refl
 
 writes : render Network network ≡ session
@@ -44,38 +45,38 @@ writes = refl
 
 -- "Empty network text: 3 at line 1. `cap=007`: 1. `cap=10000001`: 2."
 empty-text : readNetwork [] ≡ refused missing 1 0
-unfolding readLines walkLines lines fieldOf networkBody networkSizes linkAt flowAt tunnelAt
+unfolding readLines walk numberIn firstBad plain flatMap lines fieldOf networkBody networkSizes linkAt flowAt tunnelAt
 empty-text = refl
 
 leading-zero : readNetwork (head ++ bytes "cap=007\n") ≡ refused malformed 7 0
-unfolding readLines walkLines lines onFirst valuePart beforeFeed digitOf numberFrom decimalOf hexOf fieldOf networkBody networkSizes linkAt flowAt tunnelAt
+unfolding readLines walk numberIn firstBad plain flatMap lines onFirst valuePart beforeFeed digitOf numberFrom decimalOf hexOf fieldOf networkBody networkSizes linkAt flowAt tunnelAt Option·elim
 leading-zero = refl
 
 large-cap : readNetwork (head ++ bytes "cap=10000001\n") ≡ refused outOfRange 7 0
-unfolding readLines walkLines lines onFirst valuePart beforeFeed digitOf numberFrom decimalOf hexOf fieldOf networkBody networkSizes linkAt flowAt tunnelAt
+unfolding readLines walk numberIn firstBad plain flatMap lines onFirst valuePart beforeFeed digitOf numberFrom decimalOf hexOf fieldOf networkBody networkSizes linkAt flowAt tunnelAt Option·elim
 large-cap = refl
 
 wrong-key : readNetwork (head ++ bytes "cup=7\n") ≡ refused malformed 7 0
-unfolding readLines walkLines lines onFirst valuePart beforeFeed digitOf numberFrom decimalOf hexOf fieldOf networkBody networkSizes linkAt flowAt tunnelAt
+unfolding readLines walk numberIn firstBad plain flatMap lines onFirst valuePart beforeFeed digitOf numberFrom decimalOf hexOf fieldOf networkBody networkSizes linkAt flowAt tunnelAt Option·elim
 wrong-key = refl
 
 -- `flow` when `flows` is 0
 no-flow : readNetwork (bytes "net=1\nscratch=20\noverrun=20\nlinks=1\nflows=0\ntunnels=1\ncap=0\nflow=0\n") ≡ refused outOfRange 8 0
-unfolding readLines walkLines lines onFirst valuePart beforeFeed digitOf numberFrom decimalOf hexOf fieldOf networkBody networkSizes linkAt flowAt tunnelAt
+unfolding readLines walk numberIn firstBad plain flatMap lines onFirst valuePart beforeFeed digitOf numberFrom decimalOf hexOf fieldOf networkBody networkSizes linkAt flowAt tunnelAt Option·elim
 no-flow = refl
 
 -- a missing last line feed, and bytes after the last line
 no-feed : readPlan (bytes "plan=1\nparts=1\nsteps=1\ntunnels=0") ≡ refused malformed 4 1
-unfolding readLines walkLines lines onFirst valuePart beforeFeed digitOf numberFrom decimalOf hexOf fieldOf
+unfolding readLines walk numberIn firstBad plain flatMap lines onFirst valuePart beforeFeed digitOf numberFrom decimalOf hexOf fieldOf Option·elim
 no-feed = refl
 
 more-bytes : readPlan (bytes "plan=1\nparts=1\nsteps=1\ntunnels=0\n\n") ≡ refused missing 5 1
-unfolding readLines walkLines lines onFirst valuePart beforeFeed digitOf numberFrom decimalOf hexOf fieldOf
+unfolding readLines walk numberIn firstBad plain flatMap lines onFirst valuePart beforeFeed digitOf numberFrom decimalOf hexOf fieldOf Option·elim
 more-bytes = refl
 
 -- a flow's new amounts miss its rate
 missed-new : readNetwork (bytes "net=1\nscratch=20\noverrun=0\nlinks=1\nflows=1\ntunnels=1\ncap=0\nclass=2\nrate=5\nflow=0\nvia=0000000000000001\nold=5\nnew=4\n") ≡ refused missedRate 0 1
-unfolding readLines walkLines lines onFirst valuePart beforeFeed digitOf numberFrom decimalOf hexOf fieldOf networkBody networkSizes linkAt flowAt tunnelAt addUp networkOf rule.missedRate rule.missedBy rule.flowSum sumOver onlyIf orElse first
+unfolding readLines walk numberIn firstBad plain flatMap lines onFirst valuePart beforeFeed digitOf numberFrom decimalOf hexOf fieldOf networkBody networkSizes linkAt flowAt tunnelAt addUp networkOf rule.missedRate rule.missedBy rule.flowSum sumOver onlyIf orElse first Option·elim
 missed-new = refl
 
 -- ---- remarks
@@ -88,7 +89,7 @@ remark : ℕ → List ℕ
 remark n = 35 ∷ (replicate (n - 1) 46 ++ (10 ∷ []))
 
 many : ℕ → List ℕ
-many n = concat (replicate n (remark 1))
+many n = flatten (replicate n (remark 1))
 
 -- texts, each with what it is read as
 abbrev got : (List ℕ → Outcome (List ℕ)) → List (List ℕ × Outcome (List ℕ)) → List (Outcome (List ℕ))
@@ -112,7 +113,7 @@ in-order : Read readPlan (
     ∷ (short ++ remark 79, numbers)
     ∷ (many 16 ++ (short ++ many 16), numbers)
     ∷ [])
-unfolding short remark many readLines walkLines lines onFirst concat fits valuePart beforeFeed digitOf numberFrom decimalOf hexOf fieldOf addUp
+unfolding short remark many readLines walk numberIn firstBad plain flatMap lines onFirst flatten fits valuePart beforeFeed digitOf numberFrom decimalOf hexOf fieldOf addUp Option·elim
 in-order = refl
 
 -- one of 81 bytes, a 33rd and one that the text's end cuts meet 1 at their own line
@@ -123,7 +124,7 @@ out-of-order : Read readPlan (
     ∷ (many 16 ++ (short ++ many 17), refused malformed 37 1)
     ∷ (short ++ bytes "# why", refused malformed 5 1)
     ∷ [])
-unfolding short remark many readLines walkLines lines onFirst concat fits valuePart beforeFeed digitOf numberFrom decimalOf hexOf fieldOf
+unfolding short remark many readLines walk numberIn firstBad plain flatMap lines onFirst flatten fits valuePart beforeFeed digitOf numberFrom decimalOf hexOf fieldOf Option·elim
 out-of-order = refl
 
 -- the first line that is not in order is named, remark or not, by its number in the text
@@ -135,11 +136,11 @@ first-named : Read readPlan (
     ∷ (short ++ bytes "# why\nat=1\n", refused missing 6 1)
     ∷ (short ++ bytes " # why\n", refused missing 5 1)
     ∷ [])
-unfolding short remark many readLines walkLines lines onFirst concat fits valuePart beforeFeed digitOf numberFrom decimalOf hexOf fieldOf
+unfolding short remark many readLines walk numberIn firstBad plain flatMap lines onFirst flatten fits valuePart beforeFeed digitOf numberFrom decimalOf hexOf fieldOf Option·elim
 first-named = refl
 
 without : plain Plan (bytes "# why\nplan=1\n#\nparts=1\nsteps=1\n# so\ntunnels=0\n# cut") ≡ short
-unfolding short lines onFirst filter concat
+unfolding short lines onFirst plain flatMap flatten
 without = refl
 
 -- ---- rule tables
@@ -165,5 +166,5 @@ rules-read : Read readRules (
     ∷ (tables ++ bytes "via=0000000000000003\nkind=4\n", refused outOfRange 8 2)
     ∷ (tables ++ bytes "via=0000000000000003\nkind=2", refused malformed 8 2)
     ∷ [])
-unfolding rules tables readLines walkLines lines onFirst fits valuePart beforeFeed digitOf numberFrom decimalOf hexOf fieldOf rulesBody addUp
+unfolding rules tables readLines walk numberIn firstBad plain flatMap lines onFirst fits valuePart beforeFeed digitOf numberFrom decimalOf hexOf fieldOf rulesBody addUp Option·elim
 rules-read = refl

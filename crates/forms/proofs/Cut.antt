@@ -3,7 +3,7 @@
 use mathlib.Core.Path.{_≡_, refl, sym, ap, _∙_}
 use mathlib.Core.Bool.{Bool, true, false, cond, _&&_}
 use mathlib.Core.List.{List, [], _∷_, _++_}
-use mathlib.Core.Option.{Option, none, some}
+use mathlib.Core.Option.{Option, none, some, Option·elim}
 use Prim.Native.Nat.{ℕ, zero, suc, _+_, _-_, _*_, _≤_, _<_}
 use native.Mathlib.Omega.{arith}
 use lib.Dec.{T, eqb, leb, ltb, ltb→lt}
@@ -14,7 +14,8 @@ use lib.ListN.{length, take, length-append}
 use Rattle.model.specs.Outcome.{Outcome, refused, missing, malformed, outOfRange}
 use Rattle.forms.specs.Line.{lines, onFirst, isRemark, fits, mostInRemark, mostRemarks, lineValue, isPassed}
 use Rattle.forms.specs.Form.{fieldOf, admitsOf, secondOf, Sound}
-use Rattle.forms.specs.Read.{walkLines, readLines, onField, onValue, atItem}
+use Rattle.forms.specs.Read.{readLines, onField}
+use Rattle.forms.specs.Turns.{walkLines, atItem}
 use Rattle.forms.specs.Write.{lineOf, renderFrom, render}
 use Rattle.forms.specs.Laws.{mostBytes}
 use Rattle.forms.specs.declared.form.Form.{Form}
@@ -24,7 +25,7 @@ use Rattle.forms.specs.declared.form.Field.the-variants.{Line, End}
 use Rattle.forms.proofs.Forms.{sound-none, sound-more}
 use Rattle.forms.proofs.Rendering.{render-more, line-short, render-plain}
 use Rattle.forms.proofs.Values.{line-of-value}
-use Rattle.forms.proofs.Remarks.{item-seen, unfit, fits-short}
+use Rattle.forms.proofs.Remarks.{item-seen, unfit, fits-short, read-by-turns}
 use Rattle.forms.proofs.Walks.{allows-line}
 
 -- ---- the lines of the first bytes of a text
@@ -98,10 +99,11 @@ stopped form n done remark =
 
 item-none : (form : Form) (n : ℕ) (done : List ℕ) (value : ℕ → Range → Option ℕ) (next : List ℕ → Outcome (List ℕ)) → ((k : ℕ) (r : Range) → value k r ≡ none)
     → atItem form n done value next ≡ onField (fieldOf form done) (refused missing n (secondOf form)) (λ k r. refused malformed n (secondOf form))
+unfolding Option·elim
 item-none form n done value next f = go (fieldOf form done)
   where
     go : (d : Field)
-        → onField d (refused missing n (secondOf form)) (λ k r. onValue (value k r) (refused malformed n (secondOf form)) (λ v. cond (admitsOf r v) (next (done ++ (v ∷ []))) (refused outOfRange n (secondOf form))))
+        → onField d (refused missing n (secondOf form)) (λ k r. Option·elim (value k r) (refused malformed n (secondOf form)) (λ v. cond (admitsOf r v) (next (done ++ (v ∷ []))) (refused outOfRange n (secondOf form))))
         ≡ onField d (refused missing n (secondOf form)) (λ k r. refused malformed n (secondOf form))
     go End = refl
     go (Line k r) = rw (f k r)
@@ -177,6 +179,6 @@ cut-walk form n c done (l ∷ ls) left s few h = go (decLt left (length l)) (λ 
 
 -- "Both read at most 65,536 bytes of a text": no answer depends on what comes after them
 pub first-bytes : (form : Form) (text : List ℕ) → readLines form (take mostBytes text) ≡ readLines form text
-unfolding readLines
 first-bytes form text =
-    rw (lines-take mostBytes text) (cut-walk form 1 0 [] (lines text) mostBytes (sound-none form) (omega arith) (omega arith))
+    rw (read-by-turns form (take mostBytes text), read-by-turns form text, lines-take mostBytes text)
+    (cut-walk form 1 0 [] (lines text) mostBytes (sound-none form) (omega arith) (omega arith))

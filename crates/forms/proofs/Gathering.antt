@@ -1,7 +1,7 @@
 -- Laws of the sums that are gathered tunnel by tunnel, and of the search for the first that misses its rate.
 use mathlib.Core.Path.{_≡_, refl, sym, ap}
 use mathlib.Core.List.{List}
-use mathlib.Core.Option.{Option, none, some}
+use mathlib.Core.Option.{Option, none, some, orElse}
 use Prim.Native.Nat.{ℕ, zero, suc, _+_, _*_, _^_, _≤_, _<_}
 use native.Mathlib.Decide.{ℕ-discrete}
 use native.Mathlib.Nat.{mul-le-mul-right}
@@ -12,7 +12,7 @@ use lib.Seq.{getD-set-same, getD-set-other}
 use borrow.Author.Tests.{eq-eqb, ne-eqb}
 use Rattle.model.specs.Limits.{mostFlows, mostTunnels}
 use Rattle.model.specs.Sum.{sumOver}
-use Rattle.model.specs.Search.{onlyIf, orElse, first}
+use Rattle.model.specs.Search.{onlyIf, first}
 use Rattle.model.specs.Net.{Net}
 use Rattle.model.specs.Outcome.{Place, Cause, unless, good}
 use Rattle.model.specs.Rule.{flowSum, missedBy, missedRate}

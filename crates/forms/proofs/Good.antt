@@ -232,7 +232,7 @@ module _ (l : List ℕ) (g : GoodPlan l) where
       let n : planSize (planSizes l) ≤ length l = omega (arith, g .size) in
       rw (le-ltb (length l) 4 four, le-ltb (length l) (planSize (planSizes l)) n)
 
-  whole-plan : Whole Plan l
+  pub whole-plan : Whole Plan l
   unfolding Sound
   whole-plan = record { sound = λ i h. plan-sound i h (decLt i 4); ends = plan-ends }
 

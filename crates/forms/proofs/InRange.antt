@@ -1,6 +1,6 @@
 -- Laws of the loops over the parts of a network's list, and that a list with its parts in their ranges is whole.
 use mathlib.Core.Bool.{Bool, true, false, true≢false, false≢true}
-use mathlib.Core.Path.{_≡_, subst, subst⁻¹}
+use mathlib.Core.Path.{_≡_, sym, ap, subst, subst⁻¹}
 use mathlib.Core.Logic.{⊎-elim}
 use mathlib.Core.List.{List}
 use Prim.Native.Nat.{ℕ, zero, suc, _+_, _-_, _≤_, _<_}
@@ -15,7 +15,8 @@ use Rattle.lists.specs.Lists.{at, networkSizes, linkAt, flowAt, tunnelAt, netwo
 use Rattle.lists.specs.declared.Network as counts
 use Rattle.lists.proofs.Positions.{tunnel-after, head-size, each-number}
 use Rattle.forms.specs.Form.{line, Sound, Whole, allows, admitsOf, fieldOf, networkLines, networkBody, flowLines, tunnelLines}
-use Rattle.forms.specs.Ranges.{Decides, LinksIn, FlowsIn, TunnelsIn, HeadIn}
+use Rattle.forms.specs.Ranges.{Decides, headLines, HeadIn, LinksIn, FlowsIn, TunnelsIn}
+use Rattle.forms.specs.declared.form.Form.{Form}
 use Rattle.forms.specs.declared.form.Form.the-variants.{Network}
 use Rattle.forms.specs.declared.form.Range.the-variants.{Between, Set}
 use Rattle.forms.specs.declared.form.Field.the-variants.{Line, End}
@@ -44,26 +45,37 @@ no-line f v e t = rw e at t
 pub not-allowed : (f : Field) (k : ℕ) (r : Range) (v : ℕ) → f ≡ Line k r → admitsOf r v ≡ false → T (allows f v) → ⊥
 not-allowed f k r v e a t = rw (e, a) at t
 
--- the set of a tunnel, where its position and the sizes are known by other names
+-- a set, where the limit and its position are known by other names
+pub set-same : (l : List ℕ) (m n i j : ℕ) → m ≡ n → i ≡ j → T (admitsOf (Set m) (at l i)) → T (admitsOf (Set n) (at l j))
+set-same l m n i j e f t = subst (λ (k : ℕ). T (admitsOf (Set k) (at l j))) e (subst (λ (k : ℕ). T (admitsOf (Set m) (at l k))) f t)
+
+-- the set of a tunnel, where its position and the sizes are
 module _ (l : List ℕ) (n : counts.Network) (same : n ≡ networkSizes l) (t i : ℕ) (here : i ≡ tunnelAt (networkSizes l) t) where
+  links : n .links ≡ networkSizes l .links
+  links = ap (λ (m : counts.Network). m .links) same
+
+  place : i + 1 ≡ tunnelAt (networkSizes l) t + 1
+  place = ap (λ (j : ℕ). j + 1) here
+
   pub via-at : T (admitsOf (Set (networkSizes l .links)) (at l (tunnelAt (networkSizes l) t + 1))) → T (admitsOf (Set (n .links)) (at l (i + 1)))
-  via-at v = subst⁻¹ (λ (m : counts.Network). T (admitsOf (Set (m .links)) (at l (i + 1)))) same (subst⁻¹ (λ (j : ℕ). T (admitsOf (Set (networkSizes l .links)) (at l (j + 1)))) here v)
+  via-at v = set-same l _ _ _ _ (sym links) (sym place) v
 
   pub at-via : T (admitsOf (Set (n .links)) (at l (i + 1))) → T (admitsOf (Set (networkSizes l .links)) (at l (tunnelAt (networkSizes l) t + 1)))
-  at-via v = subst (λ (j : ℕ). T (admitsOf (Set (networkSizes l .links)) (at l (j + 1)))) here (subst (λ (m : counts.Network). T (admitsOf (Set (m .links)) (at l (i + 1)))) same v)
+  at-via v = set-same l _ _ _ _ links place v
 
 -- ---- what holds of the numbers passed holds with one more
 
-one-more : (P : ℕ → Type 0) (n : ℕ) → ((k : ℕ) → k < n → P k) → P n → (k : ℕ) → k < n + 1 → P k
+pub one-more : (P : ℕ → Type 0) (n : ℕ) → ((k : ℕ) → k < n → P k) → P n → (k : ℕ) → k < n + 1 → P k
 one-more P n h p k less = ⊎-elim (λ (e : k ≡ n). subst⁻¹ P e p) (h k) (eq-or-lt-of-le {n = k} {m = n} (omega arith))
 
-module _ (l : List ℕ) where
-  pub head-none : HeadIn l 0
+module _ (form : Form) (l : List ℕ) where
+  pub head-none : HeadIn form l 0
   head-none = record { each = λ i h. absurd (omega arith) }
 
-  pub head-more : (n : ℕ) → HeadIn l n → T (allows (getD networkLines n End) (at l n)) → HeadIn l (n + 1)
-  head-more n h t = record { each = one-more (λ i. T (allows (getD networkLines i End) (at l i))) n (h .each) t }
+  pub head-more : (n : ℕ) → HeadIn form l n → T (allows (getD (headLines form) n End) (at l n)) → HeadIn form l (n + 1)
+  head-more n h t = record { each = one-more (λ i. T (allows (getD (headLines form) i End) (at l i))) n (h .each) t }
 
+module _ (l : List ℕ) where
   pub links-none : LinksIn l 0
   links-none = record { cap = λ k h. absurd (omega arith) }
 
@@ -97,7 +109,7 @@ module _ (l : List ℕ) where
 -- ---- a list with its parts in their ranges is whole
 
 pub record InRange (l : List ℕ) : Type 0 where
-  pub head : HeadIn l (length networkLines)
+  pub head : HeadIn Network l (length networkLines)
   pub size : length l ≡ networkSize (networkSizes l)
   pub links : LinksIn l (networkSizes l .links)
   pub flows : FlowsIn l (networkSizes l .flows)

@@ -7,7 +7,7 @@ use lib.ListN.{length, getD}
 use Prim.Native.String.{String}
 use Rattle.forms.specs.Bytes.{bytes}
 use Rattle.forms.specs.Keys.{keys, prefixOf}
-use Rattle.forms.specs.Line.{hashed}
+use Rattle.forms.specs.Turns.{hashed}
 use Rattle.model.proofs.Searches.{both}
 
 abbrev pub no-feeds : List ℕ → Bool

@@ -6,6 +6,8 @@ pub mod Answers
 pub mod Walks
 pub mod Good
 pub mod InRange
+pub mod PlanInRange
+pub mod RulesInRange
 pub mod Gathering
 pub mod Lines
 pub mod Rendering

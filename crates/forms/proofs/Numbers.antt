@@ -1,6 +1,6 @@
 -- Numbers and their digits: reading what is written gives the number, and writing what is read gives the digits.
 use mathlib.Core.Path.{_≡_, refl, sym, ap, _∙_}
-use mathlib.Core.Bool.{Bool, true, false, cond}
+use mathlib.Core.Bool.{Bool, true, false, cond, not, _&&_, _||_}
 use mathlib.Core.List.{List, [], _∷_}
 use mathlib.Core.Option.{Option, none, some}
 use Prim.Native.Nat.{ℕ, zero, suc, _+_, _*_, _-_, _/_, _%_, _^_, _≤_, _<_}
@@ -8,10 +8,11 @@ use native.Mathlib.Nat.{add-zero, one-mul, le-antisymm, div-eq-of-lt, div-lt-iff
 use native.Mathlib.Decide.{decLt, ℕ-discrete}
 use native.Mathlib.Omega.{arith}
 use lib.Arith.{mod-mul, digits-mod, digits-div}
-use lib.Dec.{ltb, eqb, lit≤}
+use lib.Dec.{T, ltb, leb, eqb, lit≤, leb→le}
 use mathlib.Core.Logic.{_⊎_, inl, inr, ⊎-elim}
 use lib.ListN.{length, getD}
 use borrow.Author.Tests.{ltb-true, ltb-false, eqb-true, eqb-false, lt-ltb, le-ltb, le-leb, lt-leb, eq-eqb, ne-eqb}
+use Rattle.model.proofs.Searches.{both}
 use Rattle.forms.specs.Line.{digitOf, numberFrom, decimalOf, hexOf}
 use Rattle.forms.specs.Write.{digitChar, digitsIn, widthFrom, widthOf}
 
@@ -247,15 +248,12 @@ wide-read : (v n : ℕ) → Wide v n → n ≤ 10 → decimalOf (digitsIn 10 n v
 unfolding decimalOf
 wide-read v n w l = go (ℕ-discrete n 1)
   where
-    nonzero : eqb n 0 ≡ false
-    nonzero = ne-eqb n 0 (λ e. omega (arith, w .least))
-
     value : numberFrom 10 0 (digitsIn 10 n v) ≡ some v
     value = number-digits 10 (lit≤ tt) (lit≤ tt) n v (w .below)
 
     go : Dec (n ≡ 1) → decimalOf (digitsIn 10 n v) ≡ some v
-    go (yes e) = rw (length-digits 10 n v, nonzero, le-ltb 10 n l, eq-eqb n 1 e) value
-    go (no o) = rw (length-digits 10 n v, nonzero, le-ltb 10 n l, ne-eqb n 1 o, ne-eqb (getD (digitsIn 10 n v) 0 0) 48 (leads v n w o)) value
+    go (yes e) = rw (length-digits 10 n v, le-leb 1 n (w .least), le-leb n 10 l, eq-eqb n 1 e) value
+    go (no o) = rw (length-digits 10 n v, le-leb 1 n (w .least), le-leb n 10 l, ne-eqb n 1 o, ne-eqb (getD (digitsIn 10 n v) 0 0) 48 (leads v n w o)) value
 
 pub decimal-digits : (v : ℕ) → v < 10000000000 → decimalOf (digitsIn 10 (widthOf v) v) ≡ some v
 decimal-digits v h = wide-read v (widthOf v) (width-of v h) (width-ten v)
@@ -265,13 +263,14 @@ unfolding hexOf
 hex-digits v h = rw (length-digits 16 16 v) (number-digits 16 (lit≤ tt) (lit≤ tt) 16 v h)
 
 -- and digits that are read as a number are its digits
-refused-else : (b : Bool) (x : Option ℕ) (v : ℕ) → cond b none x ≡ some v → (b ≡ false) × (x ≡ some v)
-refused-else true x v e = let z : _≡_ {A = ℕ} 0 1 = cc in absurd (omega arith)
-refused-else false x v e = (refl, e)
+taken : (b : Bool) (x : Option ℕ) (v : ℕ) → cond b x none ≡ some v → T b × (x ≡ some v)
+taken true x v e = (tt, e)
+taken false x v e = let z : _≡_ {A = ℕ} 0 1 = cc in absurd (omega arith)
 
-one-or : (a b : Bool) (x : Option ℕ) (v : ℕ) → cond a x (cond b none x) ≡ some v → ((a ≡ true) ⊎ (b ≡ false)) × (x ≡ some v)
-one-or true b x v e = (inl refl, e)
-one-or false b x v e = let p = refused-else b x v e in (inr (p .0), p .1)
+one-or : (a b : Bool) → T (a || not b) → (a ≡ true) ⊎ (b ≡ false)
+one-or true b t = inl refl
+one-or false true t = absurd t
+one-or false false t = inr refl
 
 leading : (v n : ℕ) → 1 ≤ n → (getD (digitsIn 10 n v) 0 0 ≡ 48 → ⊥) → 10 ^ (n - 1) ≤ v
 unfolding digitsIn
@@ -293,14 +292,15 @@ read-wide d v s o f = record { least = s; below = below-power v (length d) (f .l
 pub digits-decimal : (d : List ℕ) (v : ℕ) → decimalOf d ≡ some v → d ≡ digitsIn 10 (widthOf v) v
 unfolding decimalOf
 digits-decimal d v e =
-    let p₁ = refused-else (eqb (length d) 0) _ v e in
-    let p₂ = refused-else (ltb 10 (length d)) _ v (p₁ .1) in
-    let p₃ = one-or (eqb (length d) 1) (eqb (getD d 0 0) 48) (numberFrom 10 0 d) v (p₂ .1) in
-    let filled : (length d ≡ 0) → ⊥ = eqb-false (length d) 0 (p₁ .0) in
-    let short : length d ≤ 10 = ltb-false 10 (length d) (p₂ .0) in
-    let f : From 10 0 v d = from 10 (lit≤ tt) (lit≤ tt) 0 v d (p₃ .1) in
-    let o : (length d ≡ 1) ⊎ (getD d 0 0 ≡ 48 → ⊥) = ⊎-elim (λ t. inl (eqb-true (length d) 1 t)) (λ t. inr (eqb-false (getD d 0 0) 48 t)) (p₃ .0) in
-    let w : Wide v (length d) = read-wide d v (omega arith) o f in
+    let one = eqb (length d) 1 || not (eqb (getD d 0 0) 48) in
+    let p = taken (leb 1 (length d) && (leb (length d) 10 && one)) (numberFrom 10 0 d) v e in
+    let q = both (leb 1 (length d)) (leb (length d) 10 && one) (p .0) in
+    let r = both (leb (length d) 10) one (q .1) in
+    let filled : 1 ≤ length d = leb→le 1 (length d) (q .0) in
+    let short : length d ≤ 10 = leb→le (length d) 10 (r .0) in
+    let f : From 10 0 v d = from 10 (lit≤ tt) (lit≤ tt) 0 v d (p .1) in
+    let o : (length d ≡ 1) ⊎ (getD d 0 0 ≡ 48 → ⊥) = ⊎-elim (λ t. inl (eqb-true (length d) 1 t)) (λ t. inr (eqb-false (getD d 0 0) 48 t)) (one-or (eqb (length d) 1) (eqb (getD d 0 0) 48) (r .1)) in
+    let w : Wide v (length d) = read-wide d v filled o f in
     let small : v < 10000000000 = omega (arith, w .below, ten (length d) 10 short) in
     f .digits ∙ ap (λ (n : ℕ). digitsIn 10 n v) (wide-unique v (length d) (widthOf v) w (width-of v small))
 

@@ -1,8 +1,8 @@
 -- Laws of remarks: a text without them, the walk that passes over them, and how long they are.
 use mathlib.Core.Path.{_≡_, refl, sym, ap, _∙_}
 use mathlib.Core.Bool.{Bool, true, false, cond, not, _&&_}
-use mathlib.Core.List.{List, [], _∷_, _++_}
-use mathlib.Core.Option.{Option, none, some, Option·some-ne-none}
+use mathlib.Core.List.{List, [], _∷_, _++_, flatten, flatMap}
+use mathlib.Core.Option.{Option, none, some, Option·some-ne-none, Option·elim}
 use Prim.Native.Nat.{ℕ, zero, suc, _+_, _-_, _*_, _≤_, _<_}
 use native.Mathlib.Omega.{arith}
 use lib.Dec.{T, ltb, ltb→lt}
@@ -11,22 +11,47 @@ use native.Mathlib.Decide.{decLt}
 use borrow.Author.Tests.{lt-ltb, le-ltb, lt-leb}
 use Rattle.model.specs.Outcome.{Outcome, good, refused, Cause, malformed, outOfRange, missing}
 use Rattle.model.proofs.Searches.{both}
-use Rattle.forms.specs.Line.{lines, concat, beforeFeed, isRemark, isReal, fits, mostInRemark, mostRemarks, filter, remarks, realLines, plain, lineValue, isPassed}
+use Rattle.forms.specs.Line.{lines, beforeFeed, isRemark, fits, mostInRemark, mostRemarks, plain, lineValue, isPassed}
 use Rattle.forms.specs.Form.{fieldOf, admitsOf, secondOf, hasRemarks}
-use Rattle.forms.specs.Read.{walk, walkLines, readLines, onField, onValue, atEnd, atItem}
-use Rattle.forms.specs.Laws.{allFit, InOrder, numberIn, moved, firstBad, orEarlier, Remarked}
+use Rattle.forms.specs.Read.{walk, numberIn, moved, firstBad, orEarlier, readLines, onField}
+use Rattle.forms.specs.Turns.{walkLines, atEnd, atItem}
+use Rattle.forms.specs.Laws.{InOrder, Remarked}
 use Rattle.forms.specs.declared.form.Form.{Form}
 use Rattle.forms.specs.declared.form.Range.{Range}
 use Rattle.forms.specs.declared.form.Field.{Field}
 use Rattle.forms.specs.declared.form.Field.the-variants.{Line, End}
 use Rattle.forms.proofs.Lines.{last-feed}
-use Rattle.forms.proofs.Texts.{lines-concat, lines-filter}
+use Rattle.forms.proofs.Texts.{filter, lines-flatten, lines-filter}
 use Rattle.forms.proofs.Values.{and-false}
 
--- ---- where there are no remarks
+-- ---- the real lines of a text, and its remarks
+
+abbrev isReal : Form → List ℕ → Bool
+isReal form l = not (isRemark form l)
+
+abbrev pub realLines : Form → List ℕ → List (List ℕ)
+realLines form text = filter (isReal form) (lines text)
+
+abbrev remarks : Form → List ℕ → List (List ℕ)
+remarks form text = filter (isRemark form) (lines text)
+
+pub plain-real : (form : Form) (text : List ℕ) → plain form text ≡ flatten (realLines form text)
+unfolding plain flatMap flatten filter
+plain-real form text = go (lines text)
+  where
+    go : (ls : List (List ℕ)) → flatMap (λ l. cond (isRemark form l) [] l) ls ≡ flatten (filter (isReal form) ls)
+    go [] = refl
+    go (l ∷ ls) = turn (isRemark form l) (go ls)
+      where
+        turn : (b : Bool) → flatMap (λ l. cond (isRemark form l) [] l) ls ≡ flatten (filter (isReal form) ls)
+            → cond b [] l ++ flatMap (λ l. cond (isRemark form l) [] l) ls ≡ flatten (cond (not b) (l ∷ filter (isReal form) ls) (filter (isReal form) ls))
+        turn true h = h
+        turn false h = ap (λ (r : List ℕ). l ++ r) h
 
 pub lines-plain : (form : Form) (text : List ℕ) → lines (plain form text) ≡ realLines form text
-lines-plain form text = lines-filter (isReal form) text
+lines-plain form text = ap lines (plain-real form text) ∙ lines-filter (isReal form) text
+
+-- ---- where there are no remarks
 
 filter-none : (form : Form) (ls : List (List ℕ)) → filter (isRemark form) (filter (isReal form) ls) ≡ []
 unfolding filter
@@ -38,7 +63,7 @@ filter-none form (l ∷ ls) = go (isRemark form l) refl (filter-none form ls)
     go true e h = h
     go false e h = rw e h
 
-pub plain-unremarked : (form : Form) (text : List ℕ) → remarks form (plain form text) ≡ []
+plain-unremarked : (form : Form) (text : List ℕ) → remarks form (plain form text) ≡ []
 plain-unremarked form text = rw (lines-plain form text) (filter-none form (lines text))
 
 -- the first of some lines is no remark where none is
@@ -61,16 +86,42 @@ number-same form [] n e = refl
 number-same form (l ∷ ls) zero e = refl
 number-same form (l ∷ ls) (suc n) e = let p = none-first form l ls e in rw (p .0) (ap suc (number-same form ls n (p .1)))
 
-pub none-remarks : (form : Form) → hasRemarks form ≡ false → (text : List ℕ) → remarks form text ≡ []
+pub plain-same : (form : Form) (text : List ℕ) → remarks form text ≡ [] → plain form text ≡ text
+plain-same form text e = plain-real form text ∙ ap flatten (filter-all form (lines text) e) ∙ lines-flatten text
+
+pub none-remarks : (form : Form) → hasRemarks form ≡ false → (text : List ℕ) → plain form text ≡ text
 unfolding filter
-none-remarks form e text = go (lines text)
+none-remarks form e text = plain-same form text (go (lines text))
   where
     go : (ls : List (List ℕ)) → filter (isRemark form) ls ≡ []
     go [] = refl
     go (l ∷ ls) = rw e (go ls)
 
-pub plain-same : (form : Form) (text : List ℕ) → remarks form text ≡ [] → plain form text ≡ text
-plain-same form text e = ap concat (filter-all form (lines text) e) ∙ lines-concat text
+parts-length : (form : Form) (ls : List (List ℕ)) → length (flatten ls) ≡ length (flatten (filter (isReal form) ls)) + length (flatten (filter (isRemark form) ls))
+unfolding flatten filter
+parts-length form [] = refl
+parts-length form (l ∷ ls) = go (isRemark form l) (parts-length form ls)
+  where
+    go : (b : Bool) → length (flatten ls) ≡ length (flatten (filter (isReal form) ls)) + length (flatten (filter (isRemark form) ls))
+        → length (l ++ flatten ls) ≡ length (flatten (cond (not b) (l ∷ filter (isReal form) ls) (filter (isReal form) ls))) + length (flatten (cond b (l ∷ filter (isRemark form) ls) (filter (isRemark form) ls)))
+    go true h = simp length-append (omega arith)
+    go false h = simp length-append (omega arith)
+
+-- a text that is its own plain text has none
+none-left : (form : Form) (ls : List (List ℕ)) → length (flatten (filter (isRemark form) ls)) ≡ 0 → filter (isRemark form) ls ≡ []
+unfolding flatten filter
+none-left form [] e = refl
+none-left form (l ∷ ls) e = go l (isRemark form l) refl e (none-left form ls)
+  where
+    go : (x : List ℕ) (b : Bool) → isRemark form x ≡ b → length (flatten (cond b (x ∷ filter (isRemark form) ls) (filter (isRemark form) ls))) ≡ 0
+        → (length (flatten (filter (isRemark form) ls)) ≡ 0 → filter (isRemark form) ls ≡ []) → cond b (x ∷ filter (isRemark form) ls) (filter (isRemark form) ls) ≡ []
+    go x false r e ih = ih e
+    go [] true r e ih = let z : false ≡ true = sym (and-false (hasRemarks form)) ∙ r in let y : _≡_ {A = ℕ} 0 1 = cc in absurd (omega arith)
+    go (y ∷ x) true r e ih = absurd (omega (arith, e))
+
+same-none : (form : Form) (text : List ℕ) → plain form text ≡ text → remarks form text ≡ []
+same-none form text e =
+    none-left form (lines text) (omega (arith, parts-length form (lines text), ap length (plain-real form text), ap length e, ap length (lines-flatten text)))
 
 -- ---- the walk, line by line
 
@@ -102,18 +153,19 @@ from-end n done s (Line k r) = omega arith
 
 from-item : (form : Form) (n : ℕ) (done : List ℕ) (value : ℕ → Range → Option ℕ) (next : List ℕ → Outcome (List ℕ)) → ((more : List ℕ) → From (n + 1) (next more))
     → From n (atItem form n done value next)
+unfolding Option·elim
 from-item form n done value next on = by-field (fieldOf form done)
   where
     by-range : (v : ℕ) (b : Bool) → From n (cond b (next (done ++ (v ∷ []))) (refused outOfRange n (secondOf form)))
     by-range v true = from-later n (next (done ++ (v ∷ []))) (on (done ++ (v ∷ [])))
     by-range v false = omega arith
 
-    by-value : (r : Range) (x : Option ℕ) → From n (onValue x (refused malformed n (secondOf form)) (λ v. cond (admitsOf r v) (next (done ++ (v ∷ []))) (refused outOfRange n (secondOf form))))
+    by-value : (r : Range) (x : Option ℕ) → From n (Option·elim x (refused malformed n (secondOf form)) (λ v. cond (admitsOf r v) (next (done ++ (v ∷ []))) (refused outOfRange n (secondOf form))))
     by-value r none = omega arith
     by-value r (some v) = by-range v (admitsOf r v)
 
     by-field : (d : Field)
-        → From n (onField d (refused missing n (secondOf form)) (λ k r. onValue (value k r) (refused malformed n (secondOf form)) (λ v. cond (admitsOf r v) (next (done ++ (v ∷ []))) (refused outOfRange n (secondOf form)))))
+        → From n (onField d (refused missing n (secondOf form)) (λ k r. Option·elim (value k r) (refused malformed n (secondOf form)) (λ v. cond (admitsOf r v) (next (done ++ (v ∷ []))) (refused outOfRange n (secondOf form)))))
     by-field End = omega arith
     by-field (Line k r) = by-value r (value k r)
 
@@ -131,16 +183,15 @@ bad-later : (n : ℕ) (o : Option ℕ) → BadFrom (n + 1) o → BadFrom n o
 bad-later n none h = tt
 bad-later n (some b) h = omega arith
 
+bad-turn : (n : ℕ) (a b : Bool) (x y : Option ℕ) → BadFrom (n + 1) x → BadFrom (n + 1) y → BadFrom n (cond a (cond b x (some n)) y)
+bad-turn n true true x y p q = bad-later n x p
+bad-turn n true false x y p q = omega arith
+bad-turn n false b x y p q = bad-later n y q
+
 bad-from : (form : Form) (n c : ℕ) (ls : List (List ℕ)) → BadFrom n (firstBad form n c ls)
 unfolding firstBad
 bad-from form n c [] = tt
-bad-from form n c (l ∷ ls) = go (isRemark form l) (isPassed c l) (bad-from form (n + 1) (c + 1) ls) (bad-from form (n + 1) c ls)
-  where
-    go : (a b : Bool) → BadFrom (n + 1) (firstBad form (n + 1) (c + 1) ls) → BadFrom (n + 1) (firstBad form (n + 1) c ls)
-        → BadFrom n (cond a (cond b (firstBad form (n + 1) (c + 1) ls) (some n)) (firstBad form (n + 1) c ls))
-    go true true p q = bad-later n (firstBad form (n + 1) (c + 1) ls) p
-    go true false p q = omega arith
-    go false b p q = bad-later n (firstBad form (n + 1) c ls) q
+bad-from form n c (l ∷ ls) = bad-turn n (isRemark form l) (isPassed c l) _ _ (bad-from form (n + 1) _ ls) (bad-from form (n + 1) _ ls)
 
 -- a turn at the place n is one at m, seen through F
 module _ (form : Form) (n m : ℕ) (done : List ℕ) (F : Outcome (List ℕ) → Outcome (List ℕ)) (seen : (c : Cause) → F (refused c m (secondOf form)) ≡ refused c n (secondOf form)) where
@@ -154,6 +205,7 @@ module _ (form : Form) (n m : ℕ) (done : List ℕ) (F : Outcome (List ℕ) →
   pub item-seen : (value : ℕ → Range → Option ℕ) (next next′ : List ℕ → Outcome (List ℕ))
       → ((k : ℕ) (r : Range) (v : ℕ) → fieldOf form done ≡ Line k r → value k r ≡ some v → admitsOf r v ≡ true → next (done ++ (v ∷ [])) ≡ F (next′ (done ++ (v ∷ []))))
       → atItem form n done value next ≡ F (atItem form m done value next′)
+  unfolding Option·elim
   item-seen value next next′ on = by-field (fieldOf form done) refl
     where
       by-range : (k : ℕ) (r : Range) (v : ℕ) → fieldOf form done ≡ Line k r → value k r ≡ some v → (b : Bool) → admitsOf r v ≡ b
@@ -162,14 +214,14 @@ module _ (form : Form) (n m : ℕ) (done : List ℕ) (F : Outcome (List ℕ) →
       by-range k r v f x false a = sym (seen outOfRange)
 
       by-value : (k : ℕ) (r : Range) → fieldOf form done ≡ Line k r → (x : Option ℕ) → value k r ≡ x
-          → onValue x (refused malformed n (secondOf form)) (λ v. cond (admitsOf r v) (next (done ++ (v ∷ []))) (refused outOfRange n (secondOf form)))
-          ≡ F (onValue x (refused malformed m (secondOf form)) (λ v. cond (admitsOf r v) (next′ (done ++ (v ∷ []))) (refused outOfRange m (secondOf form))))
+          → Option·elim x (refused malformed n (secondOf form)) (λ v. cond (admitsOf r v) (next (done ++ (v ∷ []))) (refused outOfRange n (secondOf form)))
+          ≡ F (Option·elim x (refused malformed m (secondOf form)) (λ v. cond (admitsOf r v) (next′ (done ++ (v ∷ []))) (refused outOfRange m (secondOf form))))
       by-value k r f none x = sym (seen malformed)
       by-value k r f (some v) x = by-range k r v f x (admitsOf r v) refl
 
       by-field : (d : Field) → fieldOf form done ≡ d
-          → onField d (refused missing n (secondOf form)) (λ k r. onValue (value k r) (refused malformed n (secondOf form)) (λ v. cond (admitsOf r v) (next (done ++ (v ∷ []))) (refused outOfRange n (secondOf form))))
-          ≡ F (onField d (refused missing m (secondOf form)) (λ k r. onValue (value k r) (refused malformed m (secondOf form)) (λ v. cond (admitsOf r v) (next′ (done ++ (v ∷ []))) (refused outOfRange m (secondOf form)))))
+          → onField d (refused missing n (secondOf form)) (λ k r. Option·elim (value k r) (refused malformed n (secondOf form)) (λ v. cond (admitsOf r v) (next (done ++ (v ∷ []))) (refused outOfRange n (secondOf form))))
+          ≡ F (onField d (refused missing m (secondOf form)) (λ k r. Option·elim (value k r) (refused malformed m (secondOf form)) (λ v. cond (admitsOf r v) (next′ (done ++ (v ∷ []))) (refused outOfRange m (secondOf form)))))
       by-field End f = sym (seen missing)
       by-field (Line k r) f = by-value k r f (value k r) refl
 
@@ -243,36 +295,33 @@ by-turns form f n m c done (l ∷ ls) numbered = go (isRemark form l) refl (λ m
     go false e real remark = turn-real form f n m c done l ls numbered e real
 
 -- what a text is read as, by its real lines and the first remark that is not in order
-read-by-turns : (form : Form) (text : List ℕ)
+read-real-lines : (form : Form) (text : List ℕ)
     → readLines form text ≡ orEarlier (secondOf form) (firstBad form 1 0 (lines text)) (moved (numberIn form (lines text)) (walk lineValue form 1 [] (realLines form text)))
 unfolding readLines
-read-by-turns form text = by-turns form (numberIn form (lines text)) 1 1 0 [] (lines text) (λ j. rw (one j) (omega arith))
+read-real-lines form text = rw (lines-plain form text)
+
+-- and line by line
+pub read-by-turns : (form : Form) (text : List ℕ) → readLines form text ≡ walkLines form 1 0 [] (lines text)
+read-by-turns form text =
+    read-real-lines form text ∙ sym (by-turns form (numberIn form (lines text)) 1 1 0 [] (lines text) (λ j. rw (one j) (omega arith)))
   where
     one : (j : ℕ) → 1 + j ≡ suc j
     one j = omega arith
 
 -- ---- remarks in order
 
+none-bad : (form : Form) (n c : ℕ) (ls : List (List ℕ)) → filter (isRemark form) ls ≡ [] → firstBad form n c ls ≡ none
+unfolding firstBad
+none-bad form n c [] e = refl
+none-bad form n c (l ∷ ls) e = let p = none-first form l ls e in rw (p .0) (none-bad form (n + 1) c ls (p .1))
+
+abbrev allFit : List (List ℕ) → Bool
+allFit [] = true
+allFit (l ∷ ls) = fits l && allFit ls
+
 -- so many remarks were passed over, and these are left
 abbrev Ordered : ℕ → List (List ℕ) → Type 0
 Ordered c rs = (c + length rs ≤ mostRemarks) × T (allFit rs)
-
-is-true : (b : Bool) → T b → b ≡ true
-is-true true t = refl
-is-true false t = absurd t
-
-none-bad : (form : Form) (n c : ℕ) (ls : List (List ℕ)) → Ordered c (filter (isRemark form) ls) → firstBad form n c ls ≡ none
-unfolding filter firstBad
-none-bad form n c [] o = refl
-none-bad form n c (l ∷ ls) o = go (isRemark form l) o (none-bad form (n + 1) (c + 1) ls) (none-bad form (n + 1) c ls)
-  where
-    go : (b : Bool) → Ordered c (cond b (l ∷ filter (isRemark form) ls) (filter (isRemark form) ls)) → (Ordered (c + 1) (filter (isRemark form) ls) → firstBad form (n + 1) (c + 1) ls ≡ none)
-        → (Ordered c (filter (isRemark form) ls) → firstBad form (n + 1) c ls ≡ none)
-        → cond b (cond (isPassed c l) (firstBad form (n + 1) (c + 1) ls) (some n)) (firstBad form (n + 1) c ls) ≡ none
-    go true o remark real =
-        let q = both (fits l) (allFit (filter (isRemark form) ls)) (o .1) in
-        rw (lt-ltb c mostRemarks (omega (arith, o .0)), is-true (fits l) (q .0)) (remark (omega (arith, o .0), q .1))
-    go false o remark real = real o
 
 bad-none : (form : Form) (n c : ℕ) (ls : List (List ℕ)) → c ≤ mostRemarks → firstBad form n c ls ≡ none → Ordered c (filter (isRemark form) ls)
 unfolding filter firstBad
@@ -291,22 +340,16 @@ bad-none form n c (l ∷ ls) h e = go (isRemark form l) (ltb c mostRemarks) (fit
     go true false y u w e remark real = absurd (Option·some-ne-none n e)
     go false x y u w e remark real = real e
 
-module _ (form : Form) (text : List ℕ) where
-  order-none : InOrder form text → firstBad form 1 0 (lines text) ≡ none
-  order-none o = none-bad form 1 0 (lines text) (omega (arith, o .few), o .fit)
-
-  none-order : firstBad form 1 0 (lines text) ≡ none → InOrder form text
-  none-order e = let p = bad-none form 1 0 (lines text) (omega arith) e in record { few = omega (arith, p .0); fit = p .1 }
-
 -- the real lines of a text are read, and a refusal's place is moved
 pub read-passed : (form : Form) (text : List ℕ) → InOrder form text → readLines form text ≡ moved (numberIn form (lines text)) (walk lineValue form 1 [] (realLines form text))
-read-passed form text o = read-by-turns form text ∙ rw (order-none form text o)
+read-passed form text o = read-real-lines form text ∙ rw o
 
-pub read-unremarked : (form : Form) (text : List ℕ) → remarks form text ≡ [] → readLines form text ≡ walk lineValue form 1 [] (lines text)
+pub read-unremarked : (form : Form) (text : List ℕ) → plain form text ≡ text → readLines form text ≡ walk lineValue form 1 [] (lines text)
 read-unremarked form text e =
-    read-passed form text (record { few = rw e (omega arith); fit = rw e tt })
-    ∙ moved-same (numberIn form (lines text)) (λ n. number-same form (lines text) n e) _
-    ∙ ap (walk lineValue form 1 []) (filter-all form (lines text) e)
+    let r = same-none form text e in
+    read-passed form text (none-bad form 1 0 (lines text) r)
+    ∙ moved-same (numberIn form (lines text)) (λ n. number-same form (lines text) n r) _
+    ∙ ap (walk lineValue form 1 []) (filter-all form (lines text) r)
 
 -- a text that is read has its remarks in order, and its real lines are read
 or-good : (s : ℕ) (b : Option ℕ) (o : Outcome (List ℕ)) (g : List ℕ) → orEarlier s b o ≡ good g → (b ≡ none) × (o ≡ good g)
@@ -320,26 +363,27 @@ or-good s (some n) (refused c place second) g e = go (ltb place n) e
 
 module _ (form : Form) (text g : List ℕ) (e : readLines form text ≡ good g) where
   turns-good : (firstBad form 1 0 (lines text) ≡ none) × (moved (numberIn form (lines text)) (walk lineValue form 1 [] (realLines form text)) ≡ good g)
-  turns-good = or-good (secondOf form) (firstBad form 1 0 (lines text)) _ g (sym (read-by-turns form text) ∙ e)
+  turns-good = or-good (secondOf form) (firstBad form 1 0 (lines text)) _ g (sym (read-real-lines form text) ∙ e)
 
   pub read-ordered : InOrder form text
-  read-ordered = none-order form text (turns-good .0)
+  read-ordered = turns-good .0
 
   pub read-real : walk lineValue form 1 [] (realLines form text) ≡ good g
   read-real = moved-good (numberIn form (lines text)) _ g (turns-good .1)
 
+pub plain-again : (form : Form) (text : List ℕ) → plain form (plain form text) ≡ plain form text
+plain-again form text = plain-same form (plain form text) (plain-unremarked form text)
+
 plain-read : (form : Form) (text : List ℕ) → readLines form (plain form text) ≡ walk lineValue form 1 [] (realLines form text)
-plain-read form text = read-unremarked form (plain form text) (plain-unremarked form text) ∙ ap (walk lineValue form 1 []) (lines-plain form text)
+plain-read form text = read-unremarked form (plain form text) (plain-again form text) ∙ ap (walk lineValue form 1 []) (lines-plain form text)
 
 pub remarked : (form : Form) → Remarked form
 remarked form =
     record {
-      unremarked = λ text e. (plain-same form text e, read-unremarked form text e);
+      unremarked = read-unremarked form;
       none-remarks = none-remarks form;
-      plain-unremarked = plain-unremarked form;
+      plain-again = plain-again form;
       passed-over = λ text o. rw (plain-read form text) (read-passed form text o);
-      in-turn = λ text. rw (plain-read form text) (read-by-turns form text);
-      first-bad = λ text. (order-none form text, none-order form text);
     }
 
 -- a line that does not fit is no remark in order, however many there were before
@@ -359,24 +403,15 @@ fits-short l t = go (beforeFeed l) refl (decLt mostInRemark (length (beforeFeed 
         let n : length l ≡ length (x ∷ d) + 1 = ap length (last-feed l (x ∷ d) (omega arith) e) ∙ length-append (x ∷ d) (10 ∷ []) in
         omega (arith, ap length e)
 
-remarks-short : (rs : List (List ℕ)) → T (allFit rs) → length (concat rs) ≤ length rs * (mostInRemark + 1)
-unfolding concat
+remarks-short : (rs : List (List ℕ)) → T (allFit rs) → length (flatten rs) ≤ length rs * (mostInRemark + 1)
+unfolding flatten
 remarks-short [] t = omega arith
 remarks-short (l ∷ rs) t =
     let p = both (fits l) (allFit rs) t in
-    omega (arith, length-append l (concat rs), fits-short l (p .0), remarks-short rs (p .1))
-
-parts-length : (form : Form) (ls : List (List ℕ)) → length (concat ls) ≡ length (concat (filter (isReal form) ls)) + length (concat (filter (isRemark form) ls))
-unfolding concat filter
-parts-length form [] = refl
-parts-length form (l ∷ ls) = go (isRemark form l) (parts-length form ls)
-  where
-    go : (b : Bool) → length (concat ls) ≡ length (concat (filter (isReal form) ls)) + length (concat (filter (isRemark form) ls))
-        → length (l ++ concat ls) ≡ length (concat (cond (not b) (l ∷ filter (isReal form) ls) (filter (isReal form) ls))) + length (concat (cond b (l ∷ filter (isRemark form) ls) (filter (isRemark form) ls)))
-    go true h = simp length-append (omega arith)
-    go false h = simp length-append (omega arith)
+    omega (arith, length-append l (flatten rs), fits-short l (p .0), remarks-short rs (p .1))
 
 -- a text is longer than its plain text by so much at most
 pub plain-longer : (form : Form) (text : List ℕ) → InOrder form text → length text ≤ length (plain form text) + mostRemarks * (mostInRemark + 1)
 plain-longer form text o =
-    omega (arith, ap length (lines-concat text), parts-length form (lines text), remarks-short (remarks form text) (o .fit), o .few)
+    let p = bad-none form 1 0 (lines text) (omega arith) o in
+    omega (arith, ap length (lines-flatten text), ap length (plain-real form text), parts-length form (lines text), remarks-short (remarks form text) (p .1), p .0)

@@ -1,8 +1,8 @@
 -- The laws of reading, judging and writing: the round trips, and that a text is read exactly when it follows the file form.
 use mathlib.Core.Path.{_≡_, refl, sym, ap, _∙_}
 use mathlib.Core.Bool.{Bool, true, false, cond}
-use mathlib.Core.List.{List, [], _∷_, _++_, append-nil}
-use mathlib.Core.Option.{Option, none, some}
+use mathlib.Core.List.{List, [], _∷_, _++_, flatten, append-nil}
+use mathlib.Core.Option.{Option, none, some, Option·elim}
 use Prim.Native.Nat.{ℕ, _+_, _≤_}
 use native.Mathlib.Omega.{arith}
 use lib.Dec.{T}
@@ -10,11 +10,12 @@ use lib.ListN.{length}
 use lib.Seq.{append-snoc}
 use Rattle.model.specs.Outcome.{Outcome, good, refused, andThen, Cause, malformed, outOfRange, missing}
 use Rattle.lists.specs.Answers.{withRoom}
-use Rattle.forms.specs.Line.{lines, concat, isRemark, filter, realLines, plain, lineValue}
+use Rattle.forms.specs.Line.{lines, isRemark, plain, lineValue}
 use Rattle.forms.specs.Form.{fieldOf, admitsOf, allows, secondOf, Sound}
-use Rattle.forms.specs.Read.{walk, itself, readLines, judgeNumbers, readText, judgeList, addUp, onField, onValue}
+use Rattle.forms.specs.Read.{walk, numberIn, moved, readLines, judgeNumbers, readText, judgeList, addUp, onField}
+use Rattle.forms.specs.Turns.{itself}
 use Rattle.forms.specs.Write.{lineOf, renderFrom, render, writeText}
-use Rattle.forms.specs.Laws.{InOrder, numberIn, moved, Follows, FileForm, RoundTrip, mostBytes}
+use Rattle.forms.specs.Laws.{InOrder, Follows, FileForm, RoundTrip, mostBytes}
 use Rattle.forms.specs.declared.form.Form.{Form}
 use Rattle.forms.specs.declared.form.Range.{Range}
 use Rattle.forms.specs.declared.form.Field.{Field}
@@ -24,7 +25,8 @@ use Rattle.forms.proofs.Forms.{sound-none, sound-more, small, small-set
 use Rattle.forms.proofs.Rendering.{render-plain}
 use Rattle.forms.proofs.Values.{value-of-line, line-of-value, value-real-line, lines-written}
 use Rattle.forms.proofs.Cut.{first-bytes}
-use Rattle.forms.proofs.Remarks.{lines-plain, read-passed, read-unremarked, read-ordered, read-real, plain-longer}
+use Rattle.forms.proofs.Texts.{filter}
+use Rattle.forms.proofs.Remarks.{realLines, plain-real, plain-same, lines-plain, read-passed, read-unremarked, read-ordered, read-real, plain-longer}
 use Rattle.forms.proofs.Walks.{then-good, judged-good}
 
 -- ---- the first round trip
@@ -38,7 +40,7 @@ module _ (form : Form) (n v : ℕ) (done l g : List ℕ) (s : Sound form done) w
 
   again-line : (k : ℕ) (r : Range) → fieldOf form done ≡ Line k r → admitsOf r v ≡ true → Again → walk itself form (n + 1) more l ≡ good g
       → walk lineValue form n done (lines (renderFrom form done (v ∷ l))) ≡ good g
-  unfolding walk renderFrom
+  unfolding walk renderFrom Option·elim
   again-line k r e a ih w =
       let t : T (admitsOf r v) = rw a tt in
       let t′ : T (allows (fieldOf form done) v) = rw (e, a) tt in
@@ -51,8 +53,9 @@ module _ (form : Form) (n v : ℕ) (done l g : List ℕ) (s : Sound form done) w
   again-range k r e false a ih w = let z : _≡_ {A = ℕ} 0 1 = cc in absurd (omega arith)
 
   again-field : (f : Field) → fieldOf form done ≡ f → Again
-      → onField f (refused missing n (secondOf form)) (λ k r. onValue (itself k r v) (refused malformed n (secondOf form)) (λ u. cond (admitsOf r u) (walk itself form (n + 1) (done ++ (u ∷ [])) l) (refused outOfRange n (secondOf form)))) ≡ good g
+      → onField f (refused missing n (secondOf form)) (λ k r. Option·elim (itself k r v) (refused malformed n (secondOf form)) (λ u. cond (admitsOf r u) (walk itself form (n + 1) (done ++ (u ∷ [])) l) (refused outOfRange n (secondOf form)))) ≡ good g
       → walk lineValue form n done (lines (renderFrom form done (v ∷ l))) ≡ good g
+  unfolding Option·elim
   again-field End e ih w = let z : _≡_ {A = ℕ} 0 1 = cc in absurd (omega arith)
   again-field (Line k r) e ih w = again-range k r e (admitsOf r v) refl ih w
 
@@ -66,13 +69,13 @@ again form n done (v ∷ l) g s e = again-field form n v done l g s (fieldOf for
 record Reads (form : Form) (n : ℕ) (done : List ℕ) (ls : List (List ℕ)) (g : List ℕ) : Type 0 where
   list : List ℕ
   same : g ≡ done ++ list
-  written : renderFrom form done list ≡ concat ls
+  written : renderFrom form done list ≡ flatten ls
   real : filter (isRemark form) ls ≡ []
   accepted : walk itself form n done list ≡ good g
 
 module _ (form : Form) (n : ℕ) (done g : List ℕ) where
   reads-end : (f : Field) → fieldOf form done ≡ f → onField f (good done) (λ k r. refused missing n (secondOf form)) ≡ good g → Reads form n done [] g
-  unfolding walk renderFrom concat filter
+  unfolding walk renderFrom flatten filter
   reads-end End f e = record { list = []; same = rw append-nil (let k : g ≡ done = cc in k); written = refl; real = refl; accepted = rw f e }
   reads-end (Line k r) f e = let z : _≡_ {A = ℕ} 0 1 = cc in absurd (omega arith)
 
@@ -82,7 +85,7 @@ module _ (form : Form) (n : ℕ) (done g : List ℕ) where
 
     reads-range : (k : ℕ) (r : Range) (v : ℕ) → fieldOf form done ≡ Line k r → lineValue k r x ≡ some v → (b : Bool) → admitsOf r v ≡ b → Rest
         → cond b (walk lineValue form (n + 1) (done ++ (v ∷ [])) xs) (refused outOfRange n (secondOf form)) ≡ good g → Reads form n done (x ∷ xs) g
-    unfolding walk renderFrom concat filter
+    unfolding walk renderFrom flatten filter Option·elim
     reads-range k r v f w true a ih e =
         let p = ih v e in
         record {
@@ -95,13 +98,14 @@ module _ (form : Form) (n : ℕ) (done g : List ℕ) where
     reads-range k r v f w false a ih e = let z : _≡_ {A = ℕ} 0 1 = cc in absurd (omega arith)
 
     reads-value : (k : ℕ) (r : Range) → fieldOf form done ≡ Line k r → (y : Option ℕ) → lineValue k r x ≡ y → Rest
-        → onValue y (refused malformed n (secondOf form)) (λ v. cond (admitsOf r v) (walk lineValue form (n + 1) (done ++ (v ∷ [])) xs) (refused outOfRange n (secondOf form))) ≡ good g
+        → Option·elim y (refused malformed n (secondOf form)) (λ v. cond (admitsOf r v) (walk lineValue form (n + 1) (done ++ (v ∷ [])) xs) (refused outOfRange n (secondOf form))) ≡ good g
         → Reads form n done (x ∷ xs) g
+    unfolding Option·elim
     reads-value k r f none w ih e = let z : _≡_ {A = ℕ} 0 1 = cc in absurd (omega arith)
     reads-value k r f (some v) w ih e = reads-range k r v f w (admitsOf r v) refl ih e
 
     reads-field : (f : Field) → fieldOf form done ≡ f → Rest
-        → onField f (refused missing n (secondOf form)) (λ k r. onValue (lineValue k r x) (refused malformed n (secondOf form)) (λ v. cond (admitsOf r v) (walk lineValue form (n + 1) (done ++ (v ∷ [])) xs) (refused outOfRange n (secondOf form)))) ≡ good g
+        → onField f (refused missing n (secondOf form)) (λ k r. Option·elim (lineValue k r x) (refused malformed n (secondOf form)) (λ v. cond (admitsOf r v) (walk lineValue form (n + 1) (done ++ (v ∷ [])) xs) (refused outOfRange n (secondOf form)))) ≡ good g
         → Reads form n done (x ∷ xs) g
     reads-field End f ih e = let z : _≡_ {A = ℕ} 0 1 = cc in absurd (omega arith)
     reads-field (Line k r) f ih e = reads-value k r f (lineValue k r x) refl ih e
@@ -119,14 +123,14 @@ lines-rendered form l g e = again form 1 [] l g (sound-none form) e
 read-written : (form : Form) (l g : List ℕ) → judgeNumbers form l ≡ good g → readLines form (render form l) ≡ good g
 read-written form l g e =
     let w = lines-rendered form l g e in
-    read-unremarked form (render form l) (reads form 1 [] (lines (render form l)) g w .real) ∙ w
+    read-unremarked form (render form l) (plain-same form (render form l) (reads form 1 [] (lines (render form l)) g w .real)) ∙ w
 
 -- a text that is read is, without its remarks, what the numbers are written as, and they are accepted
 written-read : (form : Form) (t g : List ℕ) → readLines form t ≡ good g → (render form g ≡ plain form t) × (judgeNumbers form g ≡ good g)
 unfolding judgeNumbers render
 written-read form t g e =
     let p = reads form 1 [] (realLines form t) g (read-real form t g e) in
-    (rw (p .same) (p .written), ap (λ (l : List ℕ). walk itself form 1 [] l) (p .same) ∙ p .accepted)
+    (rw (p .same) (p .written ∙ sym (plain-real form t)), ap (λ (l : List ℕ). walk itself form 1 [] l) (p .same) ∙ p .accepted)
 
 -- a text whose remarks are in order and which is without them what some numbers are written as
 read-plain : (form : Form) (t l g : List ℕ) → InOrder form t → render form l ≡ plain form t → judgeNumbers form l ≡ good g → readLines form t ≡ good g
@@ -154,7 +158,7 @@ module _ (form : Form) (text l : List ℕ) (e : readText form text ≡ good l) w
   pub read-good : judgeList form l ≡ good l
   read-good = rw (sym same) at judged-again
 
-  rendered : render form l ≡ plain form text
+  pub rendered : render form l ≡ plain form text
   rendered = rw same (written-read form text (taken .0) (taken .1) .0)
 
   in-order : InOrder form text
@@ -176,11 +180,6 @@ verdict form text l e =
     let j : judgeNumbers form l ≡ good l = written-read form text l e .1 in
     (j, rw (e, j))
 
-else-refused : (form : Form) (text : List ℕ) (o : Outcome (List ℕ)) → readText form text ≡ o → (Follows form text → ⊥)
-    → (c : Cause) × (place : ℕ) × (second : ℕ) × (readText form text ≡ refused c place second)
-else-refused form text (good l) e f = absurd (f (read-follows form text l e))
-else-refused form text (refused c a b) e f = (c, a, b, e)
-
 follows-read : (form : Form) (text : List ℕ) (f : Follows form text) → readText form text ≡ good (f .list)
 follows-read form text f =
     let p = then-good (judgeNumbers form (f .list)) (addUp form) (f .list) (f .judged) in
@@ -190,10 +189,7 @@ follows-read form text f =
 pub file-form : (form : Form) → FileForm form
 file-form form =
     record {
-      read-rendered = good-read form;
-      render-read = rendered form;
       same-verdict = verdict form;
-      refused-else = λ text f. else-refused form text (readText form text) refl f;
       follows = read-follows form;
       read = follows-read form;
       short = short form;

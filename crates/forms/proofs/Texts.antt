@@ -2,26 +2,26 @@
 use mathlib.Core.Path.{_≡_, refl, ap, _∙_}
 use mathlib.Core.Logic.{_⊎_, inl, inr}
 use mathlib.Core.Bool.{Bool, true, false, cond, not, _&&_}
-use mathlib.Core.List.{List, [], _∷_, _++_, append-nil}
+use mathlib.Core.List.{List, [], _∷_, _++_, flatten, append-nil}
 use Prim.Native.Nat.{ℕ}
 use lib.Dec.{T, eqb}
 use borrow.Author.Tests.{eqb-true}
-use Rattle.forms.specs.Line.{lines, onFirst, concat, filter}
+use Rattle.forms.specs.Line.{lines, onFirst}
 use Rattle.forms.proofs.Keys.{no-feeds}
 
-concat-first : (b : ℕ) (ls : List (List ℕ)) → concat (onFirst b ls) ≡ b ∷ concat ls
-unfolding concat onFirst
-concat-first b [] = refl
-concat-first b (l ∷ ls) = refl
+flatten-first : (b : ℕ) (ls : List (List ℕ)) → flatten (onFirst b ls) ≡ b ∷ flatten ls
+unfolding flatten onFirst
+flatten-first b [] = refl
+flatten-first b (l ∷ ls) = refl
 
-pub lines-concat : (t : List ℕ) → concat (lines t) ≡ t
-unfolding lines concat
-lines-concat [] = refl
-lines-concat (b ∷ t) = go (eqb b 10) (lines-concat t)
+pub lines-flatten : (t : List ℕ) → flatten (lines t) ≡ t
+unfolding lines flatten
+lines-flatten [] = refl
+lines-flatten (b ∷ t) = go (eqb b 10) (lines-flatten t)
   where
-    go : (e : Bool) → concat (lines t) ≡ t → concat (cond e ((b ∷ []) ∷ lines t) (onFirst b (lines t))) ≡ b ∷ t
+    go : (e : Bool) → flatten (lines t) ≡ t → flatten (cond e ((b ∷ []) ∷ lines t) (onFirst b (lines t))) ≡ b ∷ t
     go true h = ap (λ (l : List ℕ). b ∷ l) h
-    go false h = concat-first b (lines t) ∙ ap (λ (l : List ℕ). b ∷ l) h
+    go false h = flatten-first b (lines t) ∙ ap (λ (l : List ℕ). b ∷ l) h
 
 pub lines-line : (x rest : List ℕ) → T (no-feeds x) → lines (x ++ (10 ∷ []) ++ rest) ≡ (x ++ (10 ∷ [])) ∷ lines rest
 unfolding lines onFirst
@@ -34,6 +34,10 @@ lines-line (b ∷ x) rest h = go (eqb b 10) h (lines-line x rest)
     go false h f = rw (f h)
 
 -- ---- the lines that pass a test are the lines of what they are together
+
+unfoldable pub filter : (List ℕ → Bool) → List (List ℕ) → List (List ℕ)
+filter p [] = []
+filter p (l ∷ ls) = cond (p l) (l ∷ filter p ls) (filter p ls)
 
 -- a line that ends with its only line feed
 record Fed (l : List ℕ) : Type 0 where
@@ -76,11 +80,11 @@ lined-filter p (l ∷ ls) (inr h) = go (p l)
     go true = inr (h .0, rw (h .1))
     go false = rw (h .1) tt
 
-lined-lines : (ls : List (List ℕ)) → Lined ls → lines (concat ls) ≡ ls
-unfolding concat lines
+lined-lines : (ls : List (List ℕ)) → Lined ls → lines (flatten ls) ≡ ls
+unfolding flatten lines
 lined-lines [] h = refl
-lined-lines (l ∷ ls) (inl h) = rw (h .0 .is, lines-line (h .0 .before) (concat ls) (h .0 .clean), lined-lines ls (h .1))
+lined-lines (l ∷ ls) (inl h) = rw (h .0 .is, lines-line (h .0 .before) (flatten ls) (h .0 .clean), lined-lines ls (h .1))
 lined-lines (l ∷ ls) (inr h) = rw (h .1, append-nil) (h .0)
 
-pub lines-filter : (p : List ℕ → Bool) (text : List ℕ) → lines (concat (filter p (lines text))) ≡ filter p (lines text)
+pub lines-filter : (p : List ℕ → Bool) (text : List ℕ) → lines (flatten (filter p (lines text))) ≡ filter p (lines text)
 lines-filter p text = lined-lines (filter p (lines text)) (lined-filter p (lines text) (lined text))

@@ -8,7 +8,8 @@ use native.Mathlib.Omega.{arith}
 use lib.Dec.{T, ltb, eqb}
 use borrow.Author.Tests.{ne-eqb}
 use Rattle.forms.specs.Keys.{prefixOf}
-use Rattle.forms.specs.Line.{lines, hashed, isRemark, valuePart, decimalOf, hexOf, lineValue}
+use Rattle.forms.specs.Line.{lines, isRemark, valuePart, decimalOf, hexOf, lineValue}
+use Rattle.forms.specs.Turns.{hashed}
 use Rattle.forms.specs.Form.{isHex, hasRemarks}
 use Rattle.forms.specs.Write.{digitChar, digitsIn, widthOf, valueDigits, lineOf}
 use Rattle.forms.specs.declared.form.Form.{Form}

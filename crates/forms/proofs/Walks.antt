@@ -2,7 +2,7 @@
 use mathlib.Core.Path.{_≡_, refl, ap, _∙_}
 use mathlib.Core.Bool.{Bool, true, false, cond}
 use mathlib.Core.List.{List, [], _∷_, _++_, append-nil}
-use mathlib.Core.Option.{Option, none, some}
+use mathlib.Core.Option.{Option, none, some, Option·elim}
 use Prim.Native.Nat.{ℕ, _+_, _≤_, _<_}
 use native.Mathlib.Numerals.{add-one}
 use native.Mathlib.Omega.{arith}
@@ -14,7 +14,8 @@ use Rattle.model.specs.Rule as rule
 use Rattle.lists.specs.Lists.{networkOf}
 use Rattle.forms.specs.Form.{fieldOf, admitsOf, allows, secondOf, Sound, Whole}
 use Rattle.model.specs.Outcome.{andThen}
-use Rattle.forms.specs.Read.{walk, onField, onValue, judgeNumbers, judgeList, addUp, itself}
+use Rattle.forms.specs.Read.{walk, onField, judgeNumbers, judgeList, addUp}
+use Rattle.forms.specs.Turns.{itself}
 use Rattle.forms.specs.declared.form.Form.{Form}
 use Rattle.forms.specs.declared.form.Form.the-variants.{Network, Plan, Rules}
 use Rattle.forms.specs.declared.form.Range.{Range}
@@ -43,12 +44,12 @@ module _ (form : Form) (n : ℕ) (done l : List ℕ) (i : ℕ) where
 
   pub judge-outside : (k : ℕ) (r : Range) → i < length l → fieldOf form done ≡ Line k r → admitsOf r (getD l i 0) ≡ false
       → walk itself form n done (drop i l) ≡ refused outOfRange n (secondOf form)
-  unfolding walk
+  unfolding walk Option·elim
   judge-outside k r h f a = rw (step l i h, f, a)
 
   pub judge-more : (k : ℕ) (r : Range) → i < length l → fieldOf form done ≡ Line k r → admitsOf r (getD l i 0) ≡ true
       → walk itself form n done (drop i l) ≡ walk itself form (n + 1) (done ++ (getD l i 0 ∷ [])) (drop (i + 1) l)
-  unfolding walk
+  unfolding walk Option·elim
   judge-more k r h f a = rw (step l i h, f, a)
 
 pub allows-line : (f : Field) (k : ℕ) (r : Range) (v : ℕ) → f ≡ Line k r → admitsOf r v ≡ true → T (allows f v)
@@ -69,12 +70,13 @@ judged-range form n g w true P f e = f tt e
 judged-range form n g w false P f e = let z : _≡_ {A = ℕ} 0 1 = cc in absurd (omega arith)
 
 judged-field : (form : Form) (n v : ℕ) (g : List ℕ) (w : Outcome (List ℕ)) (f : Field) (P : Type 0) → (T (allows f v) → w ≡ good g → P)
-    → onField f (refused missing n (secondOf form)) (λ k r. onValue (itself k r v) (refused malformed n (secondOf form)) (λ u. cond (admitsOf r u) w (refused outOfRange n (secondOf form)))) ≡ good g → P
+    → onField f (refused missing n (secondOf form)) (λ k r. Option·elim (itself k r v) (refused malformed n (secondOf form)) (λ u. cond (admitsOf r u) w (refused outOfRange n (secondOf form)))) ≡ good g → P
+unfolding Option·elim
 judged-field form n v g w End P f e = let z : _≡_ {A = ℕ} 0 1 = cc in absurd (omega arith)
 judged-field form n v g w (Line k r) P f e = judged-range form n g w (admitsOf r v) P f e
 
 judged : (form : Form) (n : ℕ) (done l g : List ℕ) → Sound form done → walk itself form n done l ≡ good g → Accepts form g (done ++ l)
-unfolding walk
+unfolding walk Option·elim
 judged form n done [] g s e =
     let p = judged-end form n done g (fieldOf form done) e in
     rw append-nil (p .0, record { sound = s; ends = p .1 })
@@ -89,7 +91,8 @@ judged-whole form l g e = judged form 1 [] l g (sound-none form) e
 -- ---- and a whole list is judged good
 
 by-field : (f : Field) (v : ℕ) (w o : Outcome (List ℕ)) (x y : Outcome (List ℕ)) → T (allows f v)
-    → onField f x (λ k r. onValue (itself k r v) y (λ u. cond (admitsOf r u) w o)) ≡ w
+    → onField f x (λ k r. Option·elim (itself k r v) y (λ u. cond (admitsOf r u) w o)) ≡ w
+unfolding Option·elim
 by-field End v w o x y t = absurd t
 by-field (Line k r) v w o x y t = go (admitsOf r v) t
   where
@@ -98,7 +101,7 @@ by-field (Line k r) v w o x y t = go (admitsOf r v) t
     go false t = absurd t
 
 accepted : (form : Form) (n : ℕ) (done l : List ℕ) → Whole form (done ++ l) → walk itself form n done l ≡ good (done ++ l)
-unfolding walk
+unfolding walk Option·elim
 accepted form n done [] w =
     let e : fieldOf form done ≡ End = rw append-nil at (w .ends) in
     rw (e, append-nil)

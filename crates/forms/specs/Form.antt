@@ -6,7 +6,7 @@ use mathlib.Core.List.{List, [], _∷_}
 use lib.ListN.{length, getD, take}
 use lib.Dec.{T, eqb, leb, ltb}
 use Rattle.model.specs.Limits.{mostLinks, mostFlows, mostTunnels, mostSteps, mostAmount, leastShare, mostShare, mostSwitches, mostRoom}
-use Rattle.lists.specs.Lists.{networkSizes, flowAt, tunnelAt, networkSize, planSizes, planSize, tableSizes, ruleAt, tablesSize, mostNetwork, mostPlan, mostTables}
+use Rattle.lists.specs.Lists.{networkSizes, flowAt, tunnelAt, planSizes, tableSizes, ruleAt, tablesSize, mostNetwork, mostPlan, mostTables, rowAt}
 use Rattle.lists.specs.declared.Network.{Network}
 use Rattle.lists.specs.declared.PlanSizes.{PlanSizes}
 use Rattle.lists.specs.declared.RuleTables.{RuleTables}
@@ -72,8 +72,8 @@ tunnelLines n =
 unfoldable pub networkBody : Network → ℕ → Field
 networkBody n i =
     cond (ltb i (flowAt n 0)) (line "cap=" (Between 0 mostAmount))
-    (cond (ltb i (tunnelAt n 0)) (getD flowLines ((i - flowAt n 0) % 2) End)
-    (cond (ltb i (networkSize n)) (getD (tunnelLines n) ((i - tunnelAt n 0) % 4) End) End))
+    (cond (ltb i (tunnelAt n 0)) (getD flowLines ((i - flowAt n 0) % length flowLines) End)
+    (cond (ltb i (tunnelAt n (n .tunnels))) (getD (tunnelLines n) ((i - tunnelAt n 0) % length (tunnelLines n)) End) End))
 
 -- "`plan` 1; `parts` 1..50; `steps` 1..50; `tunnels` 0..96"
 abbrev pub planLines : List Field
@@ -83,7 +83,7 @@ planLines =
 
 -- "then for each row 1 to steps-1, for each tunnel, `at` 0..10,000,000 × parts"
 abbrev pub planBody : PlanSizes → ℕ → Field
-planBody n i = cond (ltb i (planSize n)) (line "at=" (Between 0 (mostAmount * n .parts))) End
+planBody n i = cond (ltb i (rowAt n (n .steps))) (line "at=" (Between 0 (mostAmount * n .parts))) End
 
 -- "`rules` 1, `slack` 20..500, `switches` 1..64, `tunnels` 0..96"
 abbrev pub rulesLines : List Field
@@ -99,7 +99,7 @@ ruleLines n = line "via=" (Set (n .switches)) ∷ line "kind=" (Between 1 3) ∷
 unfoldable pub rulesBody : RuleTables → ℕ → Field
 rulesBody n i =
     cond (ltb i (ruleAt n 0)) (line "room=" (Between 0 mostRoom))
-    (cond (ltb i (tablesSize n)) (getD (ruleLines n) ((i - ruleAt n 0) % 2) End) End)
+    (cond (ltb i (tablesSize n)) (getD (ruleLines n) ((i - ruleAt n 0) % length (ruleLines n)) End) End)
 
 -- the line that stands after some numbers
 unfoldable pub fieldOf : Form → List ℕ → Field

@@ -4,6 +4,7 @@ pub mod Slots
 pub mod Form
 pub mod Line
 pub mod Read
+pub mod Turns
 pub mod Write
 pub mod Named
 pub mod Sums

@@ -1,7 +1,7 @@
 -- The lines of a text, remarks among them, the part of a line that is its value, and the number that the part is.
 use Prim.Native.Nat.{ℕ, _+_, _*_, _-_}
-use mathlib.Core.Bool.{Bool, cond, not, _&&_}
-use mathlib.Core.List.{List, [], _∷_, _++_}
+use mathlib.Core.Bool.{Bool, cond, not, _&&_, _||_}
+use mathlib.Core.List.{List, [], _∷_, flatMap}
 use mathlib.Core.Option.{Option, none, some}
 use lib.ListN.{length, getD, take}
 use lib.Dec.{eqb, leb, ltb}
@@ -21,11 +21,6 @@ unfolding onFirst
 lines [] = []
 lines (b ∷ t) = cond (eqb b 10) ((b ∷ []) ∷ lines t) (onFirst b (lines t))
 
--- lines put together again
-unfoldable pub concat : List (List ℕ) → List ℕ
-concat [] = []
-concat (l ∷ ls) = l ++ concat ls
-
 -- what stands before the line feed that ends a line; nothing where none does
 unfoldable pub beforeFeed : List ℕ → List ℕ
 beforeFeed l = cond (eqb (getD l (length l - 1) 0) 10) (take (length l - 1) l) []
@@ -33,14 +28,8 @@ beforeFeed l = cond (eqb (getD l (length l - 1) 0) 10) (take (length l - 1) l) [
 -- ---- remarks
 
 -- "A line of either text that begins with `#` is a remark": a comment line
-abbrev pub hashed : List ℕ → Bool
-hashed l = eqb (getD l 0 0) 35
-
 abbrev pub isRemark : Form → List ℕ → Bool
-isRemark form l = hasRemarks form && hashed l
-
-abbrev pub isReal : Form → List ℕ → Bool
-isReal form l = not (isRemark form l)
+isRemark form l = hasRemarks form && eqb (getD l 0 0) 35
 
 -- "up to 80 bytes before its line feed": at least its `#` stands there, unless the text's end cuts it
 abbrev pub mostInRemark : ℕ
@@ -57,20 +46,10 @@ mostRemarks = 32
 abbrev pub isPassed : ℕ → List ℕ → Bool
 isPassed before l = ltb before mostRemarks && fits l
 
--- the lines that pass a test: the remarks, and the real lines
-unfoldable pub filter : (List ℕ → Bool) → List (List ℕ) → List (List ℕ)
-filter p [] = []
-filter p (l ∷ ls) = cond (p l) (l ∷ filter p ls) (filter p ls)
-
-abbrev pub remarks : Form → List ℕ → List (List ℕ)
-remarks form text = filter (isRemark form) (lines text)
-
-abbrev pub realLines : Form → List ℕ → List (List ℕ)
-realLines form text = filter (isReal form) (lines text)
-
 -- a text without its remarks
-abbrev pub plain : Form → List ℕ → List ℕ
-plain form text = concat (realLines form text)
+unfoldable pub plain : Form → List ℕ → List ℕ
+unfolding lines flatMap
+plain form text = flatMap (λ l. cond (isRemark form l) [] l) (lines text)
 
 -- ---- values
 
@@ -94,10 +73,7 @@ numberFrom base v (b ∷ d) = cond (ltb (digitOf b) base) (numberFrom base (v * 
 -- "decimal, 1 to 10 digits, no leading zero except `0` itself"
 unfoldable pub decimalOf : List ℕ → Option ℕ
 unfolding numberFrom
-decimalOf d =
-    cond (eqb (length d) 0) none
-    (cond (ltb 10 (length d)) none
-    (cond (eqb (length d) 1) (numberFrom 10 0 d) (cond (eqb (getD d 0 0) 48) none (numberFrom 10 0 d))))
+decimalOf d = cond (leb 1 (length d) && (leb (length d) 10 && (eqb (length d) 1 || not (eqb (getD d 0 0) 48)))) (numberFrom 10 0 d) none
 
 -- "exactly 16 lower-case hexadecimal digits"
 unfoldable pub hexOf : List ℕ → Option ℕ

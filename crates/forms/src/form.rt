@@ -8,6 +8,7 @@ ghost use Rattle.lists.specs.Good.{Limited};
 ghost use Rattle.forms.specs.Keys.{prefixOf};
 ghost use Rattle.forms.specs.Slots.{keyBytes};
 ghost use Rattle.forms.specs.Form.{fieldOf, networkBody, rulesBody, admitsOf, isHex, secondOf, hasRemarks, Sound, networkLines, flowLines, tunnelLines, planLines, rulesLines, ruleLines};
+ghost use Rattle.forms.specs.Ranges.{headLines};
 use lists::Network;
 use lists::PlanSizes;
 use lists::Position;
@@ -122,7 +123,7 @@ pub fn has_remarks(form: Form) -> bool
     }
 }
 
-pub(crate) fn network_head(n: usize) -> Field
+fn network_head(n: usize) -> Field
     ensures { λ r. ⌜ r ≡ getD networkLines n Field.End ⌝ }
 {
     match n {
@@ -268,7 +269,18 @@ pub fn rules_field(done: &[u64]) -> Field
     rules_body(RuleTables::of(done), i)
 }
 
-// The same for any form. For the judges alone: with one caller the compiler puts it into their loop, and that is what it is fast by.
+// The line at place n of a form's head.
+pub(crate) fn head_line(form: Form, n: usize) -> Field
+    ensures { λ r. ⌜ r ≡ getD (headLines form) n Field.End ⌝ }
+{
+    match form {
+        Form::Network => network_head(n),
+        Form::Plan => plan_head(n),
+        Form::Rules => rules_head(n),
+    }
+}
+
+// What stands after some numbers of any form. For the judges alone: with one caller the compiler puts it into their loop, and that is what it is fast by.
 pub(crate) fn field_after(form: Form, done: &[u64]) -> Field
     requires { ⌜ Sound form (now done) ⌝ }
     ensures { λ r. ⌜ r ≡ fieldOf form (now (done .entry)) ⌝ }

@@ -48,8 +48,8 @@ fn judge_numbers(form: Form, list: &[u64]) -> Answer
     }
 }
 
-// Judges the list of a network. Done carries its length. Only a list that is not in the form is gone through number by
-// number, for the place of the refusal.
+// Judges the list of a network. Done carries its length. Here and below, only a list that is not in the form is gone through
+// number by number, for the place of the refusal.
 pub fn judge_network(list: &[u64]) -> Answer
     ensures { λ r. ⌜ r ≡ done (judgeNetwork (now (list .entry))) ⌝ }
 {
@@ -64,12 +64,20 @@ pub fn judge_network(list: &[u64]) -> Answer
 pub fn judge_plan(list: &[u64]) -> Answer
     ensures { λ r. ⌜ r ≡ done (judgePlan (now (list .entry))) ⌝ }
 {
-    judge_numbers(Form::Plan, list)
+    if ranges::is_plan(list) {
+        Answer::Done(list.len())
+    } else {
+        judge_numbers(Form::Plan, list)
+    }
 }
 
 // Judges the list of rule tables. Done carries its length.
 pub fn judge_rules(list: &[u64]) -> Answer
     ensures { λ r. ⌜ r ≡ done (judgeRules (now (list .entry))) ⌝ }
 {
-    judge_numbers(Form::Rules, list)
+    if ranges::is_rules(list) {
+        Answer::Done(list.len())
+    } else {
+        judge_numbers(Form::Rules, list)
+    }
 }

@@ -34,8 +34,8 @@ fn gather(list: &[u64], old: &mut [u64], new: &mut [u64])
     while t < sizes.tunnels {
         let at = sizes.tunnel_at(t);
         let flow = list[at] as usize;
-        add(old, flow, list[at + 2]);
-        add(new, flow, list[at + 3]);
+        add(old, flow, list[at + Network::OLD]);
+        add(new, flow, list[at + Network::NEW]);
         t += 1;
     }
 }
@@ -50,7 +50,7 @@ fn first_missed(list: &[u64], old: &[u64], new: &[u64]) -> Answer
     let sizes = Network::of(list);
     let mut f: usize = 0;
     while f < sizes.flows {
-        let rate = list[sizes.flow_at(f) + 1];
+        let rate = list[sizes.flow_at(f) + Network::RATE];
         if old[f] != rate {
             return Answer::Refused {
                 number: 4,

@@ -1,5 +1,6 @@
 // The types that all operations share: the network type, whose constants are the limits and whose value says where a
-// network's numbers stand in its list, the type of rule tables, which does the same for theirs, and the answers.
+// network's numbers stand in its list and, by `Position`, which of them stands where; the types that do the same for plans
+// and for rule tables; and the answers.
 ghost use mathlib.Core.Path.{_≡_};
 ghost use Prim.Native.Nat.{_≤_};
 ghost use lib.ListN.{length};
@@ -31,14 +32,30 @@ impl Network {
 
     pub const SHARE_HIGH: u64 = 500;
 
-    // How many numbers the head has, before those of the links.
+    // How many numbers the head has, before those of the links, and which of them is the overrun.
     pub const HEAD: usize = 6;
+
+    pub const OVERRUN: usize = 2;
+
+    // How many numbers a flow has, and which of them, after the class, is the rate.
+    pub const PER_FLOW: usize = 2;
+
+    pub const RATE: usize = 1;
+
+    // How many numbers a tunnel has, and which of them, after the flow, are the link set, the old and the new amount.
+    pub const PER_TUNNEL: usize = 4;
+
+    pub const VIA: usize = 1;
+
+    pub const OLD: usize = 2;
+
+    pub const NEW: usize = 3;
 
     // The most numbers that a network's list has.
     pub const NUMBERS: usize = Self::HEAD
         + Self::LINKS as usize
-        + 2 * Self::FLOWS as usize
-        + 4 * Self::TUNNELS as usize;
+        + Self::PER_FLOW * Self::FLOWS as usize
+        + Self::PER_TUNNEL * Self::TUNNELS as usize;
 
     // The sizes of the network that a list holds, which has a head.
     pub fn of(list: &[u64]) -> Network
@@ -65,7 +82,7 @@ impl Network {
         requires { ⌜ Limited self × (f ≤ self .flows) ⌝ }
         ensures { λ r. ⌜ r ≡ flowAt self f ⌝ }
     {
-        Self::HEAD + self.links + 2 * f
+        self.link_at(self.links) + Self::PER_FLOW * f
     }
 
     // Where the four lines of tunnel t begin; past the last tunnel, how many lines there are.
@@ -73,7 +90,7 @@ impl Network {
         requires { ⌜ Limited self × (t ≤ self .tunnels) ⌝ }
         ensures { λ r. ⌜ r ≡ tunnelAt self t ⌝ }
     {
-        Self::HEAD + self.links + 2 * self.flows + 4 * t
+        self.flow_at(self.flows) + Self::PER_TUNNEL * t
     }
 
     // Which number stands at position i, which is past the head.
@@ -86,12 +103,12 @@ impl Network {
             return Position::Link(n);
         }
         let m = n - self.links;
-        if m / 2 < self.flows {
-            return Position::Flow(m / 2, m % 2);
+        if m / Self::PER_FLOW < self.flows {
+            return Position::Flow(m / Self::PER_FLOW, m % Self::PER_FLOW);
         }
-        let k = m - 2 * self.flows;
-        if k / 4 < self.tunnels {
-            return Position::Tunnel(k / 4, k % 4);
+        let k = m - Self::PER_FLOW * self.flows;
+        if k / Self::PER_TUNNEL < self.tunnels {
+            return Position::Tunnel(k / Self::PER_TUNNEL, k % Self::PER_TUNNEL);
         }
         Position::Past
     }
@@ -166,10 +183,15 @@ impl RuleTables {
 
     pub const REMOVE: u64 = 3;
 
+    // How many numbers the head has, before those of the switches, and which of them is the slack.
     pub const HEAD: usize = 4;
 
-    // How far the lines of a tunnel are from those of the next, where a loop is the faster for going on by that.
+    pub const SLACK: usize = 1;
+
+    // How many numbers a tunnel has, and which of them, after the switch set, is the kind.
     pub const PER_TUNNEL: usize = 2;
+
+    pub const KIND: usize = 1;
 
     // The most numbers that a list of rule tables has.
     pub const NUMBERS: usize = Self::HEAD
@@ -200,7 +222,7 @@ impl RuleTables {
         requires { ⌜ (self .switches ≤ mostSwitches) × (t ≤ mostTunnels) ⌝ }
         ensures { λ r. ⌜ r ≡ ruleAt self t ⌝ }
     {
-        Self::HEAD + self.switches + Self::PER_TUNNEL * t
+        self.room_at(self.switches) + Self::PER_TUNNEL * t
     }
 }
 

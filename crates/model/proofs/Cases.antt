@@ -2,11 +2,11 @@
 use Prim.Native.Nat.{ℕ, zero, suc}
 use mathlib.Core.Path.{_≡_, refl}
 use mathlib.Core.Bool.{Bool, true, false}
-use mathlib.Core.Option.{Option, none, some}
+use mathlib.Core.Option.{Option, none, some, orElse}
 use mathlib.Core.List.{List, [], _∷_, _++_}
 use lib.ListN.{length, getD}
 use Rattle.model.specs.Sum.{sumOver}
-use Rattle.model.specs.Search.{onlyIf, isNone, orElse, first}
+use Rattle.model.specs.Search.{onlyIf, isNone, first}
 use Rattle.model.specs.Net.{Net, row}
 use Rattle.model.specs.Scan.{Bound, Overload, scan, testLink, test}
 use Rattle.model.specs.Rule.{crosses, onLink, counts, load, exceeds, flowSum, missedIn, missedRow, stepCount, worst, worstOver, firstOverload, accepted, mark}

@@ -1,11 +1,11 @@
 -- The rule for a step. The step from row i to row i + 1, which the paper numbers i + 1, is named here by i.
 use Prim.Native.Nat.{ℕ, suc, _+_, _*_, max}
 use mathlib.Core.Bool.{Bool, true, cond, not, _&&_}
-use mathlib.Core.Option.{Option}
+use mathlib.Core.Option.{Option, orElse}
 use lib.Dec.{leb, ltb, eqb}
 use Rattle.model.specs.Sum.{sumOver}
 use Rattle.model.specs.Sets.{inSet}
-use Rattle.model.specs.Search.{onlyIf, isNone, orElse, first}
+use Rattle.model.specs.Search.{onlyIf, isNone, first}
 use Rattle.model.specs.Outcome.{Place}
 use Rattle.model.specs.Net.{Net, Plan, row}
 use Rattle.model.specs.Scan.{Bound, protected, total, Overload, scan}

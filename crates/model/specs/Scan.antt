@@ -1,8 +1,8 @@
 -- The sequence in which overloads are looked for, whatever makes one. "Steps ascending, within a step links ascending, 7 before 8."
 use Prim.Native.Nat.{ℕ, suc}
 use mathlib.Core.Bool.{Bool}
-use mathlib.Core.Option.{Option}
-use Rattle.model.specs.Search.{onlyIf, orElse, first}
+use mathlib.Core.Option.{Option, orElse}
+use Rattle.model.specs.Search.{onlyIf, first}
 use Rattle.model.specs.Outcome.{Cause, overProtected, overTotal}
 
 -- the two bounds on a link's load: "the first bound belongs to refusal 7, the second to 8"

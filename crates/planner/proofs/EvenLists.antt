@@ -2,7 +2,7 @@
 use Prim.Native.Nat.{ℕ, zero, suc, _+_, _-_, _*_, _≤_, _<_}
 use mathlib.Core.Path.{_≡_, refl, sym, ap, ap₂, _∙_}
 use mathlib.Core.Logic.{⊎-elim}
-use mathlib.Core.List.{List, [], _∷_, _++_, append-assoc, append-nil}
+use mathlib.Core.List.{List, [], _∷_, _++_, flatten, append-assoc, append-nil}
 use native.Mathlib.Omega.{arith}
 use native.Mathlib.Nat.{add-assoc, mul-le-mul-right, eq-or-lt-of-le, le-of-suc-le-suc}
 use native.Mathlib.Numerals.{add-one}
@@ -13,7 +13,7 @@ use Rattle.model.specs.Even.{evenRow}
 use Rattle.model.proofs.Rows.{even-at}
 use Rattle.model.specs.Listed.{listed}
 use Rattle.lists.specs.Lists.{at, planOf}
-use Rattle.planner.specs.Planned.{evenRows, evenList}
+use Rattle.planner.specs.Planned.{evenList}
 use Rattle.model.proofs.Listed.{listed-length, listed-to, listed-at}
 
 -- ---- one row
@@ -28,6 +28,27 @@ even-number N q a t h = sym (even-at q a (N .old t) (N .new t) h)
 
 -- ---- the rows
 
+-- the rows 1 to n of the even plan of q steps, each tunnel by tunnel
+unfoldable pub evenRows : Net → ℕ → ℕ → List ℕ
+evenRows N q zero = []
+evenRows N q (suc n) = evenRows N q n ++ listed (N .tunnels) (evenRow N q (suc n))
+
+flatten-last : (xs : List (List ℕ)) (l : List ℕ) → flatten (xs ++ (l ∷ [])) ≡ flatten xs ++ l
+unfolding flatten
+flatten-last [] l = append-nil l
+flatten-last (x ∷ xs) l = ap (λ (r : List ℕ). x ++ r) (flatten-last xs l) ∙ sym (append-assoc x (flatten xs) l)
+
+rows-flat : (N : Net) (q n : ℕ) → flatten (listed n (λ i. listed (N .tunnels) (evenRow N q (suc i)))) ≡ evenRows N q n
+unfolding evenRows listed flatten
+rows-flat N q zero = refl
+rows-flat N q (suc n) =
+    flatten-last (listed n (λ i. listed (N .tunnels) (evenRow N q (suc i)))) (listed (N .tunnels) (evenRow N q (suc n)))
+    ∙ ap (λ (r : List ℕ). r ++ listed (N .tunnels) (evenRow N q (suc n))) (rows-flat N q n)
+
+list-rows : (N : Net) (q : ℕ) → evenList N q ≡ (1 ∷ q ∷ q ∷ N .tunnels ∷ []) ++ evenRows N q (q - 1)
+unfolding evenList
+list-rows N q = ap (λ (r : List ℕ). (1 ∷ q ∷ q ∷ N .tunnels ∷ []) ++ r) (rows-flat N q (q - 1))
+
 pub rows-length : (N : Net) (q n : ℕ) → length (evenRows N q n) ≡ n * N .tunnels
 unfolding evenRows
 rows-length N q zero = omega arith
@@ -35,8 +56,7 @@ rows-length N q (suc n) =
     omega (arith, length-append (evenRows N q n) (listed (N .tunnels) (evenRow N q (suc n))), rows-length N q n, listed-length (N .tunnels) (evenRow N q (suc n)))
 
 pub list-length : (N : Net) (q : ℕ) → length (evenList N q) ≡ 4 + (q - 1) * N .tunnels
-unfolding evenList
-list-length N q = length-append (1 ∷ q ∷ q ∷ N .tunnels ∷ []) (evenRows N q (q - 1)) ∙ ap (λ (n : ℕ). 4 + n) (rows-length N q (q - 1))
+list-length N q = ap length (list-rows N q) ∙ length-append (1 ∷ q ∷ q ∷ N .tunnels ∷ []) (evenRows N q (q - 1)) ∙ ap (λ (n : ℕ). 4 + n) (rows-length N q (q - 1))
 
 -- the first four numbers
 pub head-stored : (o : List ℕ) (q n : ℕ) → 4 ≤ length o → set (set (set (set o 0 1) 1 q) 2 q) 3 n ≡ (1 ∷ q ∷ q ∷ n ∷ []) ++ drop 4 o
@@ -95,10 +115,9 @@ module _ (N : Net) (q : ℕ) (s : List ℕ) where
       omega (arith, ap length e, length-append (start n) (drop (4 + n * N .tunnels) s), start-length n, length-drop (4 + n * N .tunnels) s)
 
   pub written-all : (n : ℕ) (r : List ℕ) → Written N q s n r → n ≡ q - 1 → r ≡ evenList N q ++ drop (length (evenList N q)) s
-  unfolding evenList
   written-all n r e h =
       e ∙ ap (λ (k : ℕ). ((1 ∷ q ∷ q ∷ N .tunnels ∷ []) ++ evenRows N q k) ++ drop (4 + k * N .tunnels) s) h
-      ∙ ap (λ (k : ℕ). evenList N q ++ drop k s) (sym (list-length N q))
+      ∙ ap₂ (λ (l : List ℕ) (k : ℕ). l ++ drop k s) (sym (list-rows N q)) (sym (list-length N q))
 
 -- ---- the numbers of the list, at their places
 
@@ -127,7 +146,7 @@ module _ (N : Net) (q : ℕ) where
   unfolding planOf evenList
   list-at a t one less k =
       let e : suc (a - 1) ≡ a = omega arith in
-      ap (λ (i : ℕ). at (evenList N q) i) (add-assoc 4 ((a - 1) * N .tunnels) t)
+      ap₂ at (list-rows N q) (add-assoc 4 ((a - 1) * N .tunnels) t)
       ∙ getD-append-add (1 ∷ q ∷ q ∷ N .tunnels ∷ []) (evenRows N q (q - 1)) ((a - 1) * N .tunnels + t) 0
       ∙ rows-at N q (q - 1) (a - 1) t (omega arith) k
       ∙ ap (λ (i : ℕ). evenRow N q i t) e
@@ -159,7 +178,6 @@ rows-most B N q (suc n) h =
     (rows-most B N q n (λ a t k. h a t (omega arith))) (listed-most B (N .tunnels) (evenRow N q (suc n)) (λ t k. h (suc n) t (omega arith) k))
 
 pub list-beyond : (N : Net) (q i : ℕ) → 4 ≤ i → at (evenList N q) i ≡ at (evenRows N q (q - 1)) (i - 4)
-unfolding evenList
 list-beyond N q i h =
     let e : i ≡ 4 + (i - 4) = omega arith in
-    ap (λ (j : ℕ). at (evenList N q) j) e ∙ getD-append-add (1 ∷ q ∷ q ∷ N .tunnels ∷ []) (evenRows N q (q - 1)) (i - 4) 0
+    ap₂ at (list-rows N q) e ∙ getD-append-add (1 ∷ q ∷ q ∷ N .tunnels ∷ []) (evenRows N q (q - 1)) (i - 4) 0

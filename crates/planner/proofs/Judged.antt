@@ -4,7 +4,7 @@ use mathlib.Core.Path.{_≡_, refl, sym, ap, _∙_}
 use mathlib.Core.Logic.{⊎-elim}
 use mathlib.Core.Bool.{Bool, true, false, cond}
 use mathlib.Core.List.{List, [], _∷_, _++_}
-use mathlib.Core.Option.{Option, none, some}
+use mathlib.Core.Option.{Option, none, some, Option·elim}
 use native.Mathlib.Omega.{arith}
 use Rattle.model.specs.Outcome.{Outcome, good, refused, number, noEvenPlan, Cause, unless, Place}
 use Rattle.model.specs.Outcome.{Place}
@@ -14,7 +14,8 @@ use Rattle.lists.specs.Lists.{networkOf}
 use Rattle.lists.specs.declared.Answer.{Answer}
 use Rattle.forms.specs.Form.{fieldOf, admitsOf}
 use Rattle.model.specs.Outcome.{andThen}
-use Rattle.forms.specs.Read.{onField, onValue, walk, itself, judgeNumbers, addUp}
+use Rattle.forms.specs.Read.{onField, walk, judgeNumbers, addUp}
+use Rattle.forms.specs.Turns.{itself}
 use Rattle.forms.specs.declared.form.Form.{Form}
 use Rattle.forms.specs.declared.form.Form.the-variants.{Network}
 use Rattle.forms.specs.declared.form.Range.{Range}
@@ -51,7 +52,8 @@ field-early : (f : Field) (a : Outcome (List ℕ)) (g : ℕ → Range → Outcom
 field-early End a g h k = h
 field-early (Line n r) a g h k = k n r
 
-value-early : (o : Option ℕ) (a : Outcome (List ℕ)) (g : ℕ → Outcome (List ℕ)) → Early a → ((v : ℕ) → Early (g v)) → Early (onValue o a g)
+value-early : (o : Option ℕ) (a : Outcome (List ℕ)) (g : ℕ → Outcome (List ℕ)) → Early a → ((v : ℕ) → Early (g v)) → Early (Option·elim o a g)
+unfolding Option·elim
 value-early none a g h k = h
 value-early (some v) a g h k = k v
 

@@ -4,7 +4,7 @@ use mathlib.Core.Path.{_≡_, refl, sym, ap, _∙_}
 use mathlib.Core.Logic.{⊎-elim}
 use mathlib.Core.Bool.{true, false, true≢false}
 use mathlib.Core.List.{List}
-use mathlib.Core.Option.{Option, none, some}
+use mathlib.Core.Option.{Option, none, some, Option·elim}
 use native.Mathlib.Omega.{arith}
 use native.Mathlib.Nat.{mul-le-mul-left}
 use lib.ListN.{length}
@@ -24,8 +24,9 @@ use Rattle.lists.specs.Good.{GoodNetwork}
 use Rattle.model.specs.Outcome.{andThen}
 use Rattle.lists.proofs.Rooms.{good-room}
 use Rattle.forms.proofs.Good.{good-network, good-valid, plan-good}
-use Rattle.planner.specs.Planned.{evenList, stuck, byFewest, evenPlan, planned}
+use Rattle.planner.specs.Planned.{evenList, stuck, evenPlan, planned}
 use Rattle.planner.specs.Claim.{FewestSteps, NoneBelow, Safe, Claim}
+use Rattle.planner.proofs.Planned.{byFewest}
 use Rattle.planner.proofs.EvenLists.{list-length, list-head, list-at, rows-most, list-beyond}
 use Rattle.planner.proofs.Judged.{planned-good, planned-nine}
 use Rattle.model.specs.Search.{onlyIf}
@@ -34,12 +35,12 @@ use Rattle.forms.specs.Named.{judgeNetwork, judgePlan}
 -- ---- the cases of the outcome
 
 stuck-no-plan : (o : Option Overload) (p : List ℕ) → stuck o ≡ good p → ⊥
-unfolding stuck
+unfolding stuck Option·elim
 stuck-no-plan none p e = let z : _≡_ {A = ℕ} 0 1 = cc in omega arith
 stuck-no-plan (some o) p e = let z : _≡_ {A = ℕ} 0 1 = cc in omega arith
 
 by-fewest : (N : Net) (o : Option ℕ) (p : List ℕ) → byFewest N o ≡ good p → (q : ℕ) × (o ≡ some q) × (p ≡ evenList N q)
-unfolding byFewest
+unfolding Option·elim
 by-fewest N none p e = absurd (stuck-no-plan (firstOverload N (even N mostSteps)) p e)
 by-fewest N (some q) p e = (q, refl, cc)
 
@@ -138,7 +139,7 @@ stuck-somewhere N r e =
 
 pub nine : (l : List ℕ) → judgeNetwork l ≡ good l → ((q : ℕ) → 1 ≤ q → q ≤ mostSteps → accepted (networkOf l) (even (networkOf l) q) ≡ false)
     → (o : Overload) × (firstOverload (networkOf l) (even (networkOf l) mostSteps) ≡ some o) × (planned l ≡ refused noEvenPlan (step o) (o .link))
-unfolding evenPlan byFewest stuck
+unfolding evenPlan Option·elim stuck
 nine l j h =
     let N = networkOf l in
     let e = accepted-none N h in
@@ -146,7 +147,7 @@ nine l j h =
     (s .0, s .1, planned-good l j ∙ ap (byFewest N) e ∙ ap stuck (s .1))
 
 nine-by-fewest : (N : Net) (o : Option ℕ) (p s : ℕ) → byFewest N o ≡ refused noEvenPlan p s → o ≡ none
-unfolding byFewest
+unfolding Option·elim
 nine-by-fewest N none p s e = refl
 nine-by-fewest N (some q) p s e = let z : _≡_ {A = ℕ} 0 1 = cc in absurd (omega arith)
 
@@ -162,7 +163,7 @@ nine-only l place second e =
 pub bounded : (l : List ℕ) → judgeNetwork l ≡ good l → keepsScratch (networkOf l) ≡ true
     → (p : List ℕ) × (planned l ≡ good p) × ((room : ℕ) → length p ≤ room → withRoom room (planned l) ≡ good p)
     × (planOf p .steps ≤ stepBound (networkOf l .scratch) (networkOf l .overrun))
-unfolding evenPlan byFewest planOf
+unfolding evenPlan Option·elim planOf
 bounded l j k =
     let N = networkOf l in
     let b = model.bounded N (good-valid l (good-network l l j .1)) k in

@@ -3,7 +3,7 @@ use Prim.Native.Nat.{ℕ, _-_, _≤_, _<_}
 use mathlib.Core.Path.{_≡_, refl, ap, _∙_}
 use mathlib.Core.Bool.{Bool, cond}
 use mathlib.Core.List.{List}
-use mathlib.Core.Option.{Option, none, some}
+use mathlib.Core.Option.{Option, none, some, Option·elim}
 use native.Mathlib.Omega.{arith}
 use lib.ListN.{length}
 use borrow.Author.Tests.{le-leb, lt-leb}
@@ -12,7 +12,7 @@ use Rattle.model.specs.Net.{Net}
 use Rattle.model.specs.Scan.{Overload}
 use Rattle.model.specs.Even.{fewest, even}
 use Rattle.lists.specs.Answers.{withRoom, plan, lent}
-use Rattle.planner.specs.Planned.{evenList, stuck, byFewest, evenPlan}
+use Rattle.planner.specs.Planned.{evenList, stuck, evenPlan}
 use Rattle.planner.specs.Search.{answered}
 use Rattle.planner.specs.declared.steps.Fewest.the-variants.{Steps, NoPlan}
 use Rattle.model.specs.Rule.{firstOverload}
@@ -30,6 +30,9 @@ answered-none (some p) e = let z : _≡_ {A = ℕ} 0 1 = cc in absurd (omega ari
 
 -- ---- the outcome, with the room that is lent
 
+abbrev pub byFewest : Net → Option ℕ → Outcome (List ℕ)
+byFewest N o = Option·elim o (stuck (firstOverload N (even N mostSteps))) (λ q. good (evenList N q))
+
 module _ (N : Net) (out : List ℕ) where
   -- the outcome's answer and output, at once
   abbrev pub Comes : Outcome (List ℕ) → Type 0
@@ -39,12 +42,12 @@ module _ (N : Net) (out : List ℕ) where
   comes o e = (ap plan e, ap (λ p. lent p out) e)
 
   stuck-lent : (o : Option Overload) → (withRoom (length out) (stuck o) ≡ stuck o) × (lent (stuck o) out ≡ out)
-  unfolding stuck
+  unfolding stuck Option·elim
   stuck-lent none = (refl, refl)
   stuck-lent (some o) = (refl, refl)
 
   pub no-plan : fewest N ≡ none → (plan (withRoom (length out) (evenPlan N)) ≡ plan (stuck (firstOverload N (even N mostSteps)))) × (lent (withRoom (length out) (evenPlan N)) out ≡ out)
-  unfolding evenPlan byFewest
+  unfolding evenPlan Option·elim
   no-plan e =
       let s = stuck-lent (firstOverload N (even N mostSteps)) in
       let k = comes _ (ap (λ o. withRoom (length out) (byFewest N o)) e ∙ s .0) in
@@ -52,13 +55,13 @@ module _ (N : Net) (out : List ℕ) where
 
   module _ (q : ℕ) (e : fewest N ≡ some q) where
     pub room-short : length out < length (evenList N q) → Comes (refused noRoom (length (evenList N q)) 0)
-    unfolding evenPlan byFewest
+    unfolding evenPlan Option·elim
     room-short h =
         comes _ (ap (λ o. withRoom (length out) (byFewest N o)) e
         ∙ ap (λ (b : Bool). cond b (good (evenList N q)) (refused noRoom (length (evenList N q)) 0)) (lt-leb _ _ h))
 
     pub room-enough : length (evenList N q) ≤ length out → Comes (good (evenList N q))
-    unfolding evenPlan byFewest
+    unfolding evenPlan Option·elim
     room-enough h =
         comes _ (ap (λ o. withRoom (length out) (byFewest N o)) e
         ∙ ap (λ (b : Bool). cond b (good (evenList N q)) (refused noRoom (length (evenList N q)) 0)) (le-leb _ _ h))

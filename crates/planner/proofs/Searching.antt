@@ -3,7 +3,7 @@ use Prim.Native.Nat.{ℕ, suc, _+_, _-_, _*_, _≤_, _<_, max}
 use mathlib.Core.Path.{_≡_, refl, sym, ap, ap₂, _∙_}
 use mathlib.Core.Logic.{⊎-elim}
 use mathlib.Core.Bool.{Bool, true, false, _||_, true≢false}
-use mathlib.Core.Option.{none, some}
+use mathlib.Core.Option.{none, some, Option·elim}
 use mathlib.Core.List.{List}
 use native.Mathlib.Omega.{arith}
 use native.Mathlib.Nat.{le-refl, mul-le-mul}
@@ -179,12 +179,12 @@ module _ (N : Net) where
       (bool-cases (bad i l Bound.protected))
 
   pub stuck-here : (i l : ℕ) → stepsKept i → linksKept i l → isOver N i l ≡ true → i < mostSteps → l < N .links → Refused 9 (i + 1) l ≡ plan (stuck (firstOverload N (even N mostSteps)))
-  unfolding firstOverload stepCount even stuck bad
+  unfolding firstOverload stepCount even stuck bad Option·elim
   stuck-here i l ei el h hi hl =
       let f = found-at i l h in
       ap (λ (n : ℕ). Refused 9 n l) (add-one i)
       ∙ sym (ap (λ o. plan (stuck o)) (scan-at mostSteps (N .links) bad i l _ ei el (f .1) hi hl))
 
   pub stuck-nowhere : stepsKept mostSteps → Refused 9 0 0 ≡ plan (stuck (firstOverload N (even N mostSteps)))
-  unfolding firstOverload stepCount even stuck
+  unfolding firstOverload stepCount even stuck Option·elim
   stuck-nowhere e = sym (ap (λ o. plan (stuck o)) (scan-end mostSteps (N .links) (worstOver N (even N mostSteps)) e))

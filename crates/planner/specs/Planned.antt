@@ -1,7 +1,7 @@
 -- What the planner comes to, for every list.
-use Prim.Native.Nat.{ℕ, zero, suc, _-_}
-use mathlib.Core.List.{List, [], _∷_, _++_}
-use mathlib.Core.Option.{Option, none, some}
+use Prim.Native.Nat.{ℕ, suc, _-_}
+use mathlib.Core.List.{List, [], _∷_, _++_, flatten}
+use mathlib.Core.Option.{Option, Option·elim}
 use Rattle.model.specs.Outcome.{Outcome, good, refused, noEvenPlan}
 use Rattle.model.specs.Net.{Net}
 use Rattle.model.specs.Scan.{Overload, step}
@@ -14,27 +14,17 @@ use Rattle.model.specs.Rule.{firstOverload}
 use Rattle.forms.specs.Read.{judgeList}
 use Rattle.forms.specs.declared.form.Form.the-variants as forms
 
--- the rows 1 to n of the even plan of q steps, each tunnel by tunnel
-unfoldable pub evenRows : Net → ℕ → ℕ → List ℕ
-evenRows N q zero = []
-evenRows N q (suc n) = evenRows N q n ++ listed (N .tunnels) (evenRow N q (suc n))
-
 -- "`plan` 1; `parts` 1..50; `steps` 1..50; `tunnels` 0..96; then for each row 1 to steps-1, for each tunnel, `at`", where "the even plan of q steps has parts = q"
 unfoldable pub evenList : Net → ℕ → List ℕ
-evenList N q = (1 ∷ q ∷ q ∷ N .tunnels ∷ []) ++ evenRows N q (q - 1)
+evenList N q = (1 ∷ q ∷ q ∷ N .tunnels ∷ []) ++ flatten (listed (q - 1) (λ i. listed (N .tunnels) (evenRow N q (suc i))))
 
 -- "no even plan of 1 to 50 steps is accepted | 9 | where the 50-step plan first overloads: step; link". It overloads somewhere: `nine` of Claim.antt
 unfoldable pub stuck : Option Overload → Outcome (List ℕ)
-stuck none = refused noEvenPlan 0 0
-stuck (some o) = refused noEvenPlan (step o) (o .link)
+stuck o = Option·elim o (refused noEvenPlan 0 0) (λ o. refused noEvenPlan (step o) (o .link))
 
 -- "The planner fills a plan list": the even plan of fewest steps, or refusal 9
-unfoldable pub byFewest : Net → Option ℕ → Outcome (List ℕ)
-byFewest N none = stuck (firstOverload N (even N mostSteps))
-byFewest N (some q) = good (evenList N q)
-
 unfoldable pub evenPlan : Net → Outcome (List ℕ)
-evenPlan N = byFewest N (fewest N)
+evenPlan N = Option·elim (fewest N) (stuck (firstOverload N (even N mostSteps))) (λ q. good (evenList N q))
 
 -- the planner's whole outcome. "Writers, planner and checker take lists and judge them by the same rules": the judge's refusal is passed on
 unfoldable pub planned : List ℕ → Outcome (List ℕ)

@@ -37,7 +37,7 @@ fn write_row(network: &[u64], q: u64, a: u64, row: &mut [u64])
     let mut t: usize = 0;
     while t < row.len() {
         let at = sizes.tunnel_at(t);
-        row[t] = rest * network[at + 2] + a * network[at + 3];
+        row[t] = rest * network[at + Network::OLD] + a * network[at + Network::NEW];
         t += 1;
     }
 }

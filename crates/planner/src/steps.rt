@@ -47,7 +47,7 @@ fn fits(network: &[u64], protected: &[u64], all: &[u64], q: u64) -> bool
     requires { ⌜ (1 ≤ q) × (q ≤ mostSteps) ⌝ }
     ensures { λ r. ⌜ r ≡ accepted (networkOf (now (network .entry))) (even (networkOf (now (network .entry))) q) ⌝ }
 {
-    let overrun = network[2];
+    let overrun = network[Network::OVERRUN];
     let sizes = Network::of(network);
     let mut link: usize = 0;
     while link < sizes.links {
@@ -89,7 +89,7 @@ fn is_over(network: &[u64], protected: &[u64], all: &[u64], row: u64, link: usiz
     if room < step_load(protected, row, link) {
         return true;
     }
-    (1000 + network[2]) * room < 1000 * step_load(all, row, link)
+    (1000 + network[Network::OVERRUN]) * room < 1000 * step_load(all, row, link)
 }
 
 // Where the plan of 50 steps first overloads: steps ascending, within a step links ascending.

@@ -67,9 +67,9 @@ fn split(network: &[u64], protected: &mut [u64], others: &mut [u64])
     while t < sizes.tunnels {
         let at = sizes.tunnel_at(t);
         let flow = network[at] as usize;
-        let via = network[at + 1];
-        let old = network[at + 2];
-        let new = network[at + 3];
+        let via = network[at + Network::VIA];
+        let old = network[at + Network::OLD];
+        let new = network[at + Network::NEW];
         let class = network[sizes.flow_at(flow)];
         if class <= 1 {
             add_tunnel(protected, via, old, new);

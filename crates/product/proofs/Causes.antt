@@ -4,7 +4,7 @@ use mathlib.Core.Path.{_≡_, refl}
 use mathlib.Core.Logic.{_⊎_, inl, inr, ⊎-elim}
 use mathlib.Core.Bool.{Bool, true, false, cond}
 use mathlib.Core.List.{List, [], _∷_, _++_}
-use mathlib.Core.Option.{Option, none, some}
+use mathlib.Core.Option.{Option, none, some, Option·elim}
 use native.Mathlib.Omega.{arith}
 use lib.Dec.{eqb, leb}
 use Rattle.model.specs.Outcome.{Outcome, good, refused, andThen, Cause, number, unless, Place}
@@ -12,7 +12,8 @@ use Rattle.model.specs.Scan.{Bound, cause}
 use Rattle.model.specs.Rule as rule
 use Rattle.lists.specs.Lists.{networkOf, planSizes, planOf}
 use Rattle.forms.specs.Form.{fieldOf, admitsOf, secondOf}
-use Rattle.forms.specs.Read.{walk, onField, onValue, itself, judgeNumbers, addUp}
+use Rattle.forms.specs.Read.{walk, onField, judgeNumbers, addUp}
+use Rattle.forms.specs.Turns.{itself}
 use Rattle.forms.specs.declared.form.Form.{Form}
 use Rattle.forms.specs.declared.form.Form.the-variants.{Network, Plan}
 use Rattle.forms.specs.declared.form.Range.{Range}
@@ -31,7 +32,8 @@ field-all : {A : Type 0} (f : Field) (o : Outcome A) (g : ℕ → Range → Outc
 field-all End o g h k = h
 field-all (Line key r) o g h k = k key r
 
-value-all : {A : Type 0} (v : Option ℕ) (o : Outcome A) (g : ℕ → Outcome A) → NotOver o → ((k : ℕ) → NotOver (g k)) → NotOver (onValue v o g)
+value-all : {A : Type 0} (v : Option ℕ) (o : Outcome A) (g : ℕ → Outcome A) → NotOver o → ((k : ℕ) → NotOver (g k)) → NotOver (Option·elim v o g)
+unfolding Option·elim
 value-all none o g h k = h
 value-all (some v) o g h k = k v
 
@@ -44,7 +46,7 @@ then-all (good a) next h k = k a
 then-all (refused c place second) next h k = h
 
 walk-all : (form : Form) (n : ℕ) (done xs : List ℕ) → NotOver (walk itself form n done xs)
-unfolding walk
+unfolding walk Option·elim
 walk-all form n done [] = field-all (fieldOf form done) (good done) (λ k r. refused Cause.missing n (secondOf form)) tt (λ k r. inl (omega arith))
 walk-all form n done (x ∷ xs) =
     field-all (fieldOf form done) (refused Cause.missing n (secondOf form))

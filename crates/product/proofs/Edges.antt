@@ -1,8 +1,10 @@
 -- The edges P1 to P12 hold: they are computed.
 use mathlib.Core.Path.{_≡_, refl}
 use mathlib.Core.Bool.{true}
+use mathlib.Core.List.{flatten}
+use mathlib.Core.Option.{orElse, Option·elim}
 use Rattle.model.specs.Sum.{sumOver}
-use Rattle.model.specs.Search.{onlyIf, isNone, orElse, first}
+use Rattle.model.specs.Search.{onlyIf, isNone, first}
 use Rattle.model.specs.Net.{row}
 use Rattle.model.specs.Scan.{scan, testLink, test}
 use Rattle.model.specs.Rule.{crosses, onLink, counts, load, exceeds, flowSum, missedBy, missedRate, missedIn, missedRow, stepCount, worst, worstOver, firstOverload, accepted, mark}
@@ -12,9 +14,9 @@ use Rattle.lists.specs.Lists.{networkSizes, linkAt, flowAt, tunnelAt, networkOf
 use Rattle.bound.specs.Bound.{boundOf}
 use Rattle.forms.specs.Form.{networkBody, fieldOf}
 use Rattle.forms.specs.Read.{walk, judgeNumbers, addUp}
-use Rattle.planner.specs.Planned.{evenRows, evenList, stuck, byFewest, evenPlan, planned}
+use Rattle.planner.specs.Planned.{evenList, stuck, evenPlan, planned}
 use Rattle.product.specs.Edges.{edges, same, hold}
 
 pub edges-hold : hold edges ≡ true
-unfolding edges same hold boundOf stepBound ceilDiv planned evenPlan byFewest stuck evenList evenRows listed judgeNumbers walk fieldOf networkBody addUp networkSizes linkAt flowAt tunnelAt networkOf planOf missedRate missedBy missedRow missedIn flowSum fewest accepted even evenRow firstOverload stepCount scan testLink test worstOver exceeds load counts worst onLink crosses mark row sumOver onlyIf isNone orElse first
+unfolding edges same hold boundOf stepBound ceilDiv planned evenPlan Option·elim flatten stuck evenList listed judgeNumbers walk fieldOf networkBody addUp networkSizes linkAt flowAt tunnelAt networkOf planOf missedRate missedBy missedRow missedIn flowSum fewest accepted even evenRow firstOverload stepCount scan testLink test worstOver exceeds load counts worst onLink crosses mark row sumOver onlyIf isNone orElse first
 edges-hold = refl

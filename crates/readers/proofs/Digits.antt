@@ -1,7 +1,7 @@
 -- Laws of the digits after a key: what the digits so far come to, and what the line's value is, by the byte after them.
 use mathlib.Core.Path.{_≡_, refl, sym, ap, _∙_}
 use mathlib.Core.Logic.{_⊎_, ⊎-elim}
-use mathlib.Core.Bool.{Bool, true, false, cond}
+use mathlib.Core.Bool.{Bool, true, false, cond, not, _&&_, _||_}
 use mathlib.Core.List.{List, [], _∷_, _++_}
 use mathlib.Core.Option.{Option, none, some}
 use Prim.Native.Nat.{ℕ, zero, suc, _+_, _*_, _-_, _%_, _^_, _≤_, _<_}
@@ -207,18 +207,15 @@ closed base text from v i d h e =
 
 decimal-bad : (d : List ℕ) → numberFrom 10 0 d ≡ none → decimalOf d ≡ none
 unfolding decimalOf
-decimal-bad d e = go (eqb (length d) 0) (ltb 10 (length d)) (eqb (length d) 1) (eqb (getD d 0 0) 48)
+decimal-bad d e = rw e (go (leb 1 (length d) && (leb (length d) 10 && (eqb (length d) 1 || not (eqb (getD d 0 0) 48)))))
   where
-    go : (a b c z : Bool) → cond a none (cond b none (cond c (numberFrom 10 0 d) (cond z none (numberFrom 10 0 d)))) ≡ none
-    go true b c z = refl
-    go false true c z = refl
-    go false false true z = e
-    go false false false true = refl
-    go false false false false = e
+    go : (b : Bool) → _≡_ {A = Option ℕ} (cond b none none) none
+    go true = refl
+    go false = refl
 
 decimal-long : (d : List ℕ) → 10 < length d → decimalOf d ≡ none
 unfolding decimalOf
-decimal-long d h = rw (ne-eqb (length d) 0 (λ e. omega arith), lt-ltb 10 (length d) h)
+decimal-long d h = rw (le-leb 1 (length d) (omega arith), lt-leb (length d) 10 h)
 
 module _ (text : List ℕ) (from v to : ℕ) (r : Leading text from v to) where
   -- the text stops, or another byte follows than a line feed
@@ -240,21 +237,21 @@ module _ (text : List ℕ) (from v to : ℕ) (r : Leading text from v to) where
 
     pub decimal-empty : to ≡ from → decimalOf (valueAt text from) ≡ none
     unfolding decimalOf
-    decimal-empty s = rw (shut .part, shut .count, eq-eqb (to - from) 0 (omega arith))
+    decimal-empty s = rw (shut .part, shut .count, lt-leb 1 (to - from) (omega arith))
 
     pub decimal-one : to ≡ from + 1 → decimalOf (valueAt text from) ≡ some v
     unfolding decimalOf
     decimal-one s =
-        rw (shut .part, shut .count, ne-eqb (to - from) 0 (λ z. omega arith), le-ltb 10 (to - from) (omega arith), eq-eqb (to - from) 1 (omega arith)) (shut .number)
+        rw (shut .part, shut .count, le-leb 1 (to - from) (omega arith), le-leb (to - from) 10 (omega arith), eq-eqb (to - from) 1 (omega arith)) (shut .number)
 
     module _ (some′ : to ≡ from → ⊥) (many : to ≡ from + 1 → ⊥) where
       first : getD (unfed (drop from text)) 0 0 ≡ getD text from 0
       first = getD-take (bytesBefore (drop from text)) (drop from text) 0 0 (omega (arith, r .digits .begins, shut .count)) ∙ rw (getD-drop, add-zero)
 
-      by-first : decimalOf (valueAt text from) ≡ cond (eqb (getD text from 0) 48) none (some v)
+      by-first : decimalOf (valueAt text from) ≡ cond (not (eqb (getD text from 0) 48)) (some v) none
       unfolding decimalOf
       by-first =
-          rw (shut .part, shut .count, ne-eqb (to - from) 0 (λ w. omega (arith, r .digits .begins)), le-ltb 10 (to - from) (omega (arith, r .few)), ne-eqb (to - from) 1 (λ w. omega arith), first, shut .number)
+          rw (shut .part, shut .count, le-leb 1 (to - from) (omega (arith, r .digits .begins)), le-leb (to - from) 10 (omega (arith, r .few)), ne-eqb (to - from) 1 (λ w. omega arith), first, shut .number)
 
       pub decimal-zero : getD text from 0 ≡ 48 → decimalOf (valueAt text from) ≡ none
       decimal-zero z = by-first ∙ rw (eq-eqb (getD text from 0) 48 z)

@@ -3,7 +3,7 @@ use mathlib.Core.Path.{_≡_, refl, sym, ap, _∙_}
 use mathlib.Core.Logic.{_⊎_, ⊎-elim}
 use mathlib.Core.Bool.{Bool, true, false, cond, _&&_}
 use mathlib.Core.List.{List, [], _∷_, _++_}
-use mathlib.Core.Option.{Option, none, some}
+use mathlib.Core.Option.{Option, none, some, Option·elim}
 use Prim.Native.Nat.{ℕ, _+_, _-_, _≤_, _<_}
 use native.Mathlib.Decide.{ℕ-discrete}
 use native.Mathlib.Omega.{arith}
@@ -18,7 +18,7 @@ use Rattle.lists.specs.Answers.{done}
 use Rattle.lists.specs.declared.Answer.the-variants.{Done, Refused}
 use Rattle.forms.specs.Line.{lines, isRemark, fits, mostRemarks, isPassed, lineValue}
 use Rattle.forms.specs.Form.{fieldOf, admitsOf, allows, secondOf}
-use Rattle.forms.specs.Read.{walkLines, atEnd, atItem, onValue}
+use Rattle.forms.specs.Turns.{walkLines, atEnd, atItem}
 use Rattle.forms.specs.declared.form.Form.{Form}
 use Rattle.forms.specs.declared.form.Range.{Range}
 use Rattle.forms.specs.declared.form.Field.{Field}
@@ -41,15 +41,15 @@ module _ (k : ℕ) (r : Range) (text : List ℕ) (at : ℕ) where
 
   module _ (more : at ≡ length text → ⊥) where
     pub taken-malformed : lineValue k r (firstLine (drop at text)) ≡ none → takenOf k r text at ≡ Stop 1
-    unfolding takenOf
+    unfolding takenOf Option·elim
     taken-malformed m = rw (ne-eqb at (length text) more, m)
 
     pub taken-number : (v : ℕ) → lineValue k r (firstLine (drop at text)) ≡ some v → admitsOf r v ≡ true → takenOf k r text at ≡ Number v (at + lineLen (drop at text))
-    unfolding takenOf
+    unfolding takenOf Option·elim
     taken-number v m a = rw (ne-eqb at (length text) more, m, a)
 
     pub taken-outside : (v : ℕ) → lineValue k r (firstLine (drop at text)) ≡ some v → admitsOf r v ≡ false → takenOf k r text at ≡ Stop 2
-    unfolding takenOf
+    unfolding takenOf Option·elim
     taken-outside v m a = rw (ne-eqb at (length text) more, m, a)
 
 -- where the form ends
@@ -144,8 +144,9 @@ module _ (form : Form) (n c : ℕ) (done′ text : List ℕ) where
   by-range next v false = refl
 
   by-value : (next : ℕ) (r : Range) (x : Option ℕ)
-      → goOn (onValue x (Stop 1) (λ v. cond (admitsOf r v) (Number v next) (Stop 2)))
-      (onValue x (refused malformed n (secondOf form)) (λ v. cond (admitsOf r v) (walkLines form (n + 1) c (done′ ++ (v ∷ [])) (lines (drop next text))) (refused outOfRange n (secondOf form))))
+      → goOn (Option·elim x (Stop 1) (λ v. cond (admitsOf r v) (Number v next) (Stop 2)))
+      (Option·elim x (refused malformed n (secondOf form)) (λ v. cond (admitsOf r v) (walkLines form (n + 1) c (done′ ++ (v ∷ [])) (lines (drop next text))) (refused outOfRange n (secondOf form))))
+  unfolding Option·elim
   by-value next r none = refl
   by-value next r (some v) = by-range next v (admitsOf r v)
 
@@ -182,7 +183,8 @@ Facts d text at (Stop m) = Unit {0}
 Facts d text at Ended = Unit {0}
 
 line-facts : (k : ℕ) (r : Range) (text : List ℕ) (at : ℕ) → at < length text → (x : Option ℕ) → lineValue k r (firstLine (drop at text)) ≡ x
-    → Facts (Line k r) text at (onValue x (Stop 1) (λ v. cond (admitsOf r v) (Number v (at + lineLen (drop at text))) (Stop 2)))
+    → Facts (Line k r) text at (Option·elim x (Stop 1) (λ v. cond (admitsOf r v) (Number v (at + lineLen (drop at text))) (Stop 2)))
+unfolding Option·elim
 line-facts k r text at h none x = tt
 line-facts k r text at h (some v) x = go (admitsOf r v) refl
   where

@@ -3,12 +3,13 @@ use Prim.Native.Nat.{ℕ, _+_, _≤_}
 use mathlib.Core.Path.{_≡_}
 use mathlib.Core.Bool.{cond}
 use mathlib.Core.List.{List}
+use mathlib.Core.Option.{Option·elim}
 use lib.Dec.{eqb}
 use lib.ListN.{length, take, drop}
 use Rattle.model.specs.Outcome.{Outcome, good, refused, number, malformed, outOfRange, missing}
 use Rattle.forms.specs.Line.{lines, lineValue}
 use Rattle.forms.specs.Form.{fieldOf, admitsOf, mostOf, Sound}
-use Rattle.forms.specs.Read.{walkLines, onValue}
+use Rattle.forms.specs.Turns.{walkLines}
 use Rattle.forms.specs.declared.form.Form.{Form}
 use Rattle.forms.specs.declared.form.Range.{Range}
 use Rattle.forms.specs.declared.form.Field.{Field}
@@ -24,7 +25,7 @@ use Rattle.readers.specs.declared.read.Stopped.{Stopped}
 unfoldable pub takenOf : ℕ → Range → List ℕ → ℕ → Taken
 takenOf k r text at =
     cond (eqb at (length text)) (Stop (number missing))
-    (onValue (lineValue k r (firstLine (drop at text))) (Stop (number malformed)) (λ v.
+    (Option·elim (lineValue k r (firstLine (drop at text))) (Stop (number malformed)) (λ v.
     cond (admitsOf r v) (Number v (at + lineLen (drop at text))) (Stop (number outOfRange))))
 
 -- the same by what the form has there: where it ends, the text ends too, or a line is too many

@@ -2,11 +2,12 @@
 use Prim.Native.Nat.{ℕ}
 use mathlib.Core.Path.{_≡_, refl}
 use mathlib.Core.List.{List, [], _∷_}
+use mathlib.Core.Option.{orElse}
 use lib.ListN.{length, getD}
 use Rattle.model.specs.Even.{ceilDiv}
 use Rattle.model.specs.Listed.{listed}
 use Rattle.model.specs.Outcome.{good, refused, unfit}
-use Rattle.model.specs.Search.{onlyIf, orElse, first}
+use Rattle.model.specs.Search.{onlyIf, first}
 use Rattle.model.specs.Sum.{sumOver}
 use Rattle.rules.specs.Rules.{Rules, isKind, rule, count, lastStage, usable, spare}
 use Rattle.rules.specs.Stage.{moved, waits, every, within, goes, given, turn, pass, stage, stages, tooMany, unfitAt, staged}

@@ -1,11 +1,12 @@
 -- What holds of the stages, whenever a list of them is given.
-use Prim.Native.Nat.{ℕ, _*_, _≤_, _<_}
+use Prim.Native.Nat.{ℕ, _+_, _*_, _≤_, _<_}
 use mathlib.Core.Path.{_≡_}
 use mathlib.Core.Logic.{_≢_}
 use mathlib.Core.Bool.{Bool, true, false, cond, not, _&&_, _||_}
 use mathlib.Core.List.{List}
 use lib.Dec.{leb, ltb}
 use lib.ListN.{length}
+use Rattle.model.specs.Limits.{mostSwitches, mostTunnels}
 use Rattle.model.specs.Outcome.{good}
 use Rattle.lists.specs.Lists.{at}
 use Rattle.forms.specs.Read.{readText, judgeList}
@@ -56,9 +57,9 @@ pub record Fit (R : Rules) : Type 0 where
   pub old : (s : ℕ) → s < R .switches → tooMany R remove s ≡ false
   pub new : (s : ℕ) → s < R .switches → tooMany R add s ≡ false
 
--- the longest text: 4 lines with 41 bytes, 64 of 11, and 96 times 21 and 7
+-- the longest text: 4 lines with 41 bytes, for each switch one of 11, and for each tunnel one of 21 and one of 7
 abbrev pub mostRuleBytes : ℕ
-mostRuleBytes = 3433
+mostRuleBytes = 41 + 11 * mostSwitches + 28 * mostTunnels
 
 pub record Claim : Type 0 where
   -- the stages that are given, whatever the list

@@ -2,10 +2,10 @@
 use Prim.Native.Nat.{ℕ, zero, suc, _+_, _-_, _*_}
 use mathlib.Core.Bool.{Bool, true, cond, not, _&&_, _||_}
 use mathlib.Core.List.{List}
-use mathlib.Core.Option.{Option}
+use mathlib.Core.Option.{Option, orElse}
 use lib.Dec.{leb, ltb, eqb}
 use Rattle.model.specs.Sets.{inSet}
-use Rattle.model.specs.Search.{onlyIf, orElse, first}
+use Rattle.model.specs.Search.{onlyIf, first}
 use Rattle.model.specs.Listed.{listed}
 use Rattle.model.specs.Outcome.{Outcome, good, Place, unless, unfit}
 use Rattle.rules.specs.Rules.{Rules, keep, add, remove, isKind, count, lastStage, usable, spare}

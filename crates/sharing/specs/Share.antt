@@ -3,12 +3,12 @@
 use Prim.Native.Nat.{ℕ, zero, suc, _-_, _+_, min}
 use mathlib.Core.Bool.{Bool, true, cond, not, _&&_}
 use mathlib.Core.List.{List}
-use mathlib.Core.Option.{Option}
+use mathlib.Core.Option.{Option, orElse}
 use lib.Dec.{leb, ltb}
 use lib.ListN.{length}
 use Rattle.model.specs.Limits.{mostAmount}
 use Rattle.model.specs.Sum.{sumOver}
-use Rattle.model.specs.Search.{onlyIf, orElse, first}
+use Rattle.model.specs.Search.{onlyIf, first}
 use Rattle.model.specs.Listed.{listed}
 use Rattle.model.specs.Outcome.{Outcome, good, Place, unless, unshareable}
 use Rattle.lists.specs.Lists.{at}

@@ -39,7 +39,7 @@ fn turn(
     ensures { λ _. ⌜ Reached (now (list .entry)) (moveOf (p .kind)) (model.turn (rulesOf (now (list .entry))) (moveOf (p .kind)) (p .stage) (at (now (stages .entry))) t) (now (counts .exit)) (now (stages .exit)) ⌝ }
 {
     let kind = p.kind;
-    if list[from + 1] != kind {
+    if list[from + RuleTables::KIND] != kind {
         return;
     }
     if stages[t] != 0 {
@@ -77,7 +77,7 @@ fn run(list: &[u64], spares: &[u64], added: &mut [u64], remaining: &mut [u64], s
     requires { ⌜ StagedTo (now list) 0 (now added) (now remaining) (now stages) ⌝ }
     ensures { λ _. ⌜ StagedTo (now (list .entry)) (lastStage (rulesOf (now (list .entry)))) (now (added .exit)) (now (remaining .exit)) (now (stages .exit)) ⌝ }
 {
-    let last = bound::last_step(list[1]);
+    let last = bound::last_step(list[RuleTables::SLACK]);
     let unit = 1000 * last;
     let mut i: u64 = 0;
     while i < last {

@@ -37,7 +37,7 @@ fn by_counts(
     requires { ⌜ now spares ≡ replicate mostSwitches 0 ⌝ }
     ensures { λ r. ⌜ Judged (now (list .entry)) r (now (spares .exit)) ⌝ }
 {
-    let free = 1000 - list[1];
+    let free = 1000 - list[RuleTables::SLACK];
     let sizes = RuleTables::of(list);
     let mut s: usize = 0;
     while s < sizes.switches {

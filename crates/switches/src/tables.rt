@@ -49,7 +49,7 @@ pub fn count(list: &[u64], kind: u64, counts: &mut [u64])
     let mut t: usize = 0;
     while t < sizes.tunnels {
         let at = sizes.rule_at(t);
-        if list[at + 1] == kind {
+        if list[at + RuleTables::KIND] == kind {
             shift(counts, list[at], 1, 0);
         }
         t += 1;

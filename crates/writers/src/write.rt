@@ -88,8 +88,8 @@ fn tunnel_widths(list: &[u64], sizes: Network) -> usize
     while t < sizes.tunnels {
         let at = sizes.tunnel_at(t);
         let flow = width(list[at]);
-        let old = width(list[at + 2]);
-        let new = width(list[at + 3]);
+        let old = width(list[at + Network::OLD]);
+        let new = width(list[at + Network::NEW]);
         sum += flow + old + new;
         t += 1;
     }
@@ -358,7 +358,7 @@ fn put_flows(out: &mut [u8], at: usize, list: &[u64]) -> usize
     while f < sizes.flows {
         let i = sizes.flow_at(f);
         let rate = put_line(out, p, b"class=", list[i]);
-        p = put_line(out, rate, b"rate=", list[i + 1]);
+        p = put_line(out, rate, b"rate=", list[i + Network::RATE]);
         f += 1;
     }
     p
@@ -376,9 +376,9 @@ fn put_tunnels(out: &mut [u8], at: usize, list: &[u64]) -> usize
     while t < sizes.tunnels {
         let i = sizes.tunnel_at(t);
         let via = put_line(out, p, b"flow=", list[i]);
-        let old = put_set_line(out, via, b"via=", list[i + 1]);
-        let new = put_line(out, old, b"old=", list[i + 2]);
-        p = put_line(out, new, b"new=", list[i + 3]);
+        let old = put_set_line(out, via, b"via=", list[i + Network::VIA]);
+        let new = put_line(out, old, b"old=", list[i + Network::OLD]);
+        p = put_line(out, new, b"new=", list[i + Network::NEW]);
         t += 1;
     }
     p

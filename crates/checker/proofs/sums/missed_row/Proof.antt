@@ -14,17 +14,17 @@ use Rattle.lists.specs.declared.PlanSizes as lengths
 use Rattle.lists.proofs.Positions.{head-in}
 use Rattle.checker.specs.Inner.{missedOf}
 use Rattle.checker.proofs.Good.{row-column-small}
-use Rattle.checker.proofs.Totals.{row-met, row-missed, missed-at}
+use Rattle.checker.proofs.Totals.{row-met, row-missed, missed-at, first-row-met, last-row-met}
 use native.Mathlib.Omega.{arith}
 use borrow.Author.Needs.{needs}
 use Rattle.checker.proofs.sums.missed_row.Statement.{statement}
 use Rattle.checker.proofs.sums.missed_row.Tie as tie
 
 abbrev Inv-loop : tie.InvT-loop
-Inv-loop network plan flows parts steps row₀ a₀ row a = (a ≤ steps + 1) × (length row ≡ mostTunnels) × (first a (λ b. first (networkOf network .flows) (missedIn (networkOf network) (planOf plan) b)) ≡ none)
+Inv-loop network plan flows parts steps row₀ a₀ row a = (a ≤ steps) × (length row ≡ mostTunnels) × (first a (λ b. first (networkOf network .flows) (missedIn (networkOf network) (planOf plan) b)) ≡ none)
 
 abbrev μ-loop : tie.MeasureT-loop
-μ-loop network plan flows parts steps row₀ a₀ row a = steps + 1 - a
+μ-loop network plan flows parts steps row₀ a₀ row a = steps - a
 
 -- the network's own flows, the plan's own parts and steps
 module _ (c : tie.After-of2 Inv-loop μ-loop) where
@@ -48,6 +48,10 @@ module _ (c : tie.After-of2 Inv-loop μ-loop) where
   steps : c .of2 .result .steps ≡ P .steps
   unfolding planOf
   steps = ap (λ (n : lengths.PlanSizes). n .steps) (c .of2 .ensures)
+
+  some-steps : 0 < P .steps
+  unfolding planOf
+  some-steps = omega (arith, start .pre .plan .steps)
 
 -- what a turn finds of its row
 module _ (c : tie.After-missed-flow Inv-loop μ-loop) where
@@ -81,7 +85,8 @@ of-requires-2 : tie.Need-of-requires-2 Inv-loop μ-loop
 of-requires-2 c κs = search needs
 
 loop-holds : tie.Need-loop-holds Inv-loop μ-loop
-loop-holds c = (omega arith, refl, first-zero _)
+unfolding planOf
+loop-holds c = (omega (arith, steps c, start c .pre .plan .steps), refl, first-on _ _ (first-zero _) (first-row-met (N c) (P c) (start c .pre .network .sums)))
 
 slice-aggregate-row : tie.Need-slice-aggregate-row Inv-loop μ-loop
 slice-aggregate-row c = search needs
@@ -134,8 +139,11 @@ unfolding missedRow
 returns-2 c =
     let k = c .before in
     let s = c .before .before in
-    let e : k .loop .a ≡ suc (P s .steps) = omega (arith, c .loop-test .left, k .loop .inv .0, steps s) in
-    sym (ap missedOf (subst (λ (n : ℕ). first n (λ b. first (N s .flows) (missedIn (N s) (P s) b)) ≡ none) e (k .loop .inv .2)))
+    let e : k .loop .a ≡ P s .steps = omega (arith, c .loop-test .left, k .loop .inv .0, steps s) in
+    let before = subst (λ (n : ℕ). first n (λ b. first (N s .flows) (missedIn (N s) (P s) b)) ≡ none) e (k .loop .inv .2) in
+    let last : P s .steps + 1 ≡ suc (P s .steps) = omega arith in
+    sym (ap missedOf (subst (λ (n : ℕ). first n (λ b. first (N s .flows) (missedIn (N s) (P s) b)) ≡ none) last
+    (first-on _ _ before (last-row-met (N s) (P s) (start s .pre .network .sums) (some-steps s)))))
 
 pub missed-row-spec : {M : Type 1} → statement M
 missed-row-spec =

@@ -10,7 +10,8 @@ use lib.Seq.{length-take-le, take-suc}
 use Rattle.lists.specs.Answers.{done}
 use Rattle.lists.specs.Lists.{mostNumbers}
 use Rattle.forms.specs.Form.{Sound, fieldOf}
-use Rattle.forms.specs.Read.{walk, itself, judgeNumbers}
+use Rattle.forms.specs.Read.{walk, judgeNumbers}
+use Rattle.forms.specs.Turns.{itself}
 use Rattle.forms.specs.declared.form.Field.the-variants.{Line, End}
 use Rattle.lists.specs.declared.Answer.the-variants.{Done}
 use Rattle.forms.proofs.Forms.{room-in-all, sound-more, sound-none}

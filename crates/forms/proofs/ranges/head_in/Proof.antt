@@ -1,25 +1,25 @@
 -- `forms::ranges::head_in` meets its contract.
 use Prim.Native.Nat.{_≤_, _-_}
+use mathlib.Core.Path.{_≡_, sym, _∙_}
 use Rattle.forms.specs.Ranges.{HeadIn}
+use Rattle.forms.proofs.InRange.{head-none, head-more, decides-yes, decides-no, no-line, not-allowed}
+use Rattle.forms.proofs.Walks.{allows-line}
+use native.Mathlib.Omega.{arith}
 use borrow.Author.Needs.{needs}
 use Rattle.forms.proofs.ranges.head_in.Statement.{statement}
 use Rattle.forms.proofs.ranges.head_in.Tie as tie
-use Rattle.forms.proofs.InRange.{head-none, head-more, decides-yes, decides-no, no-line, not-allowed}
-use native.Mathlib.Omega.{arith}
-use mathlib.Core.Path.{_≡_, sym, _∙_}
-use Rattle.forms.proofs.Walks.{allows-line}
 
 abbrev Inv-loop : tie.InvT-loop
-Inv-loop list i₀ i = (i ≤ 6) × HeadIn list i
+Inv-loop form list count i₀ i = (i ≤ count) × HeadIn form list i
 
 abbrev μ-loop : tie.MeasureT-loop
-μ-loop list i₀ i = 6 - i
+μ-loop form list count i₀ i = count - i
 
 loop-holds : tie.Need-loop-holds Inv-loop μ-loop
-loop-holds c = (omega arith, head-none _)
+loop-holds c = (omega arith, head-none _ _)
 
-network-head-requires : tie.Need-network-head-requires Inv-loop μ-loop
-network-head-requires c κs = search needs
+head-line-requires : tie.Need-head-line-requires Inv-loop μ-loop
+head-line-requires c κs = search needs
 
 enum-known-range : tie.Need-enum-known-range Inv-loop μ-loop
 enum-known-range c = search needs
@@ -28,9 +28,7 @@ enum-told : tie.Need-enum-told Inv-loop μ-loop
 enum-told c = search needs
 
 returns : tie.Need-returns Inv-loop μ-loop
-returns c =
-    let n = c .before .before in
-    decides-no (λ h. no-line _ _ (sym (n .network-head .ensures) ∙ c .enum-told .given .1) (h .each (n .before .before .loop .i) (omega arith)))
+returns c = decides-no (λ h. no-line _ _ (sym (c .before .before .head-line .ensures) ∙ c .enum-told .given .1) (h .each (c .before .before .before .before .loop .i) (omega arith)))
 
 mul-admits : tie.Need-mul-admits Inv-loop μ-loop
 mul-admits c = search needs
@@ -41,12 +39,6 @@ shared-slice-read-admits c = search needs
 admits-requires : tie.Need-admits-requires Inv-loop μ-loop
 admits-requires c κs = search needs
 
-returns-2 : tie.Need-returns-2 Inv-loop μ-loop
-returns-2 c =
-    let r = c .before .before .before .before in
-    let n = r .before .before in
-    decides-no (λ h. not-allowed _ _ _ _ (sym (n .network-head .ensures) ∙ r .range .given .1) (sym (c .before .admits .ensures) ∙ c .if1 .left) (h .each (n .before .before .loop .i) (omega arith)))
-
 add-i : tie.Need-add-i Inv-loop μ-loop
 add-i c = search needs
 
@@ -54,14 +46,13 @@ loop-less : tie.Need-loop-less Inv-loop μ-loop
 loop-less c = search needs
 
 loop-again : tie.Need-loop-again Inv-loop μ-loop
-loop-again c =
-    let r = c .before .before .before .before in
-    let n = r .before .before in
-    let i = n .before .before .loop in
-    (omega arith, head-more _ _ (i .inv .1) (allows-line _ _ _ _ (sym (n .network-head .ensures) ∙ r .range .given .1) (sym (c .before .admits .ensures) ∙ c .if1 .taken)))
+loop-again c = (omega arith, head-more _ _ _ (c .before .before .before .before .before .before .before .before .loop .inv .1) (allows-line _ _ _ _ (sym (c .before .before .before .before .before .before .head-line .ensures) ∙ c .before .before .before .before .range .given .1) (sym (c .before .admits .ensures) ∙ c .if1 .taken)))
+
+returns-2 : tie.Need-returns-2 Inv-loop μ-loop
+returns-2 c = decides-no (λ h. not-allowed _ _ _ _ (sym (c .before .before .before .before .before .before .head-line .ensures) ∙ c .before .before .before .before .range .given .1) (sym (c .before .admits .ensures) ∙ c .if1 .left) (h .each (c .before .before .before .before .before .before .before .before .loop .i) (omega arith)))
 
 returns-3 : tie.Need-returns-3 Inv-loop μ-loop
-returns-3 c = let e : c .before .loop .i ≡ 6 = omega arith in decides-yes (rw (← e) (c .before .loop .inv .1))
+returns-3 c = let e : c .before .loop .i ≡ c .before .before .before .args .count = omega arith in decides-yes (rw (← e) (c .before .loop .inv .1))
 
 pub head-in-spec : {M : Type 1} → statement M
 head-in-spec =
@@ -70,7 +61,7 @@ head-in-spec =
     Inv-loop
     μ-loop
     loop-holds
-    network-head-requires
+    head-line-requires
     enum-known-range
     enum-told
     returns

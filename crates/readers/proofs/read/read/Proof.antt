@@ -9,9 +9,11 @@ use lib.Seq.{length-take-le}
 use Rattle.model.proofs.Searches.{and-true}
 use Rattle.lists.specs.Answers.{done}
 use Rattle.forms.specs.Form.{hasRemarks}
-use Rattle.forms.specs.Line.{hashed, isRemark, mostRemarks}
+use Rattle.forms.specs.Line.{isRemark, mostRemarks}
+use Rattle.forms.specs.Turns.{hashed}
 use Rattle.forms.specs.Read.{readLines}
 use Rattle.forms.proofs.Forms.{sound-none, most-numbers}
+use Rattle.forms.proofs.Remarks.{read-by-turns}
 use Rattle.readers.specs.Line.{firstLine, afterRemark}
 use Rattle.readers.specs.declared.line.Remark.the-variants.{Ends}
 use Rattle.readers.specs.Read.{Begun, onward, ReadOn}
@@ -89,8 +91,7 @@ module _ (c : tie.After-past Inv-loop μ-loop) where
   passed-over = past-facts _ _ _ past ends (below from)
 
 loop-holds : tie.Need-loop-holds Inv-loop μ-loop
-unfolding readLines
-loop-holds c = record { length-kept = refl; begun = record { within = search needs; few = search needs; sound = sound-none _ }; passed = search needs; rest = refl }
+loop-holds c = record { length-kept = refl; begun = record { within = search needs; few = search needs; sound = sound-none _ }; passed = search needs; rest = read-by-turns _ _ }
 
 read-on-requires : tie.Need-read-on-requires Inv-loop μ-loop
 read-on-requires c κs = let h = c .before in let s = h .before .before .before .before in (s .pre .0, (h .loop .inv .length-kept ∙ s .pre .1, h .loop .inv .begun))
