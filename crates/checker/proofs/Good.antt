@@ -32,10 +32,10 @@ module _ (l p : List ℕ) (k : Checkable l p) where
 
   -- the first row and the last are lines of the network, in parts
   pub old-line : Line l 2 (planSizes p .parts)
-  old-line = record { number = omega arith; fits = λ t h. amount-fits _ (k .network .ranges .old t h) }
+  old-line = record { number = omega arith; fits = λ t h. amount-fits _ (k .network .ranges .tunnels .old t h) }
 
   pub new-line : Line l 3 (planSizes p .parts)
-  new-line = record { number = omega arith; fits = λ t h. amount-fits _ (k .network .ranges .new t h) }
+  new-line = record { number = omega arith; fits = λ t h. amount-fits _ (k .network .ranges .tunnels .new t h) }
 
   module _ (a : ℕ) (xs : List ℕ) where
     pub old-row : a ≡ 0 → Holds xs (networkSizes l .tunnels) (lineOf l 2 (planSizes p .parts)) → Holds xs (networkSizes l .tunnels) (row (networkOf l) (planOf p) a)
@@ -57,8 +57,8 @@ module _ (l p : List ℕ) (k : Checkable l p) where
   unfolding networkOf planOf
   row-small a t h ht =
       row-cases (networkOf l) (planOf p) a t h
-      (λ e. rw (row-first (networkOf l) (planOf p) a t e) (in-parts _ _ (k .plan .parts .1) (k .network .ranges .old t ht)))
-      (λ e z. rw (row-last (networkOf l) (planOf p) a t e z) (in-parts _ _ (k .plan .parts .1) (k .network .ranges .new t ht)))
+      (λ e. rw (row-first (networkOf l) (planOf p) a t e) (in-parts _ _ (k .plan .parts .1) (k .network .ranges .tunnels .old t ht)))
+      (λ e z. rw (row-last (networkOf l) (planOf p) a t e z) (in-parts _ _ (k .plan .parts .1) (k .network .ranges .tunnels .new t ht)))
       (λ z m.
       let i : rowAt (planSizes p) 1 ≤ rowAt (planSizes p) a + t = omega arith in
       let j : rowAt (planSizes p) a + t < length p = omega (arith, row-in p (k .plan) a z m, k .tunnels) in
@@ -76,7 +76,7 @@ module _ (l : List ℕ) (g : GoodNetwork l) where
   module _ (k parts cap : ℕ) (h : k < networkSizes l .links) (e : cap ≡ networkOf l .cap k) (hp : parts ≤ mostSteps) where
     pub room-small : parts * cap ≤ mostAmount * mostSteps
     unfolding networkOf
-    room-small = in-parts parts cap hp (omega (arith, e, g .ranges .cap k h))
+    room-small = in-parts parts cap hp (omega (arith, e, g .ranges .links .cap k h))
 
     pub most-small : (1000 + networkOf l .overrun) * (parts * cap) ≤ (1000 + mostShare) * (mostAmount * mostSteps)
     most-small = let o : 1000 + networkOf l .overrun ≤ 1000 + mostShare = omega (arith, overrun-small) in mul-le-mul o room-small

@@ -16,7 +16,7 @@ use Rattle.model.specs.Rule.{flowSum, missedRate, missedIn}
 use Rattle.model.proofs.Sums.{sum-cong, sum-mul}
 use Rattle.model.proofs.Searches.{only-true, only-false, none-first, first-at}
 use Rattle.model.proofs.Rows.{row-first, row-last, rate-met}
-use Rattle.forms.specs.Sums.{Gathered}
+use Rattle.judges.specs.Sums.{Gathered}
 use Rattle.checker.specs.Columns.{Holds}
 use Rattle.checker.specs.Inner.{FirstMissed}
 

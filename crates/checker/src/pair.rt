@@ -5,7 +5,7 @@ ghost use Rattle.lists.specs.Good.{GoodNetwork, GoodPlan};
 ghost use Rattle.checker.specs.Check.{judgeRows, judgePair};
 use crate::sums;
 use crate::sums::Missed;
-use forms::judge;
+use judges::judge;
 use lists::Answer;
 use lists::Network;
 use lists::PlanSizes;

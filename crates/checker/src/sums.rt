@@ -4,7 +4,7 @@ ghost use Prim.Native.Nat.{_≤_};
 ghost use lib.ListN.{length, getD, replicate};
 ghost use Rattle.model.specs.Limits.{mostFlows, mostTunnels, mostSteps};
 ghost use Rattle.model.specs.Rule.{missedRow};
-ghost use Rattle.forms.specs.Sums.{Gathered};
+ghost use Rattle.judges.specs.Sums.{Gathered};
 ghost use Rattle.lists.specs.Lists.{networkSizes, networkOf, planOf};
 ghost use Rattle.lists.specs.Good.{GoodNetwork};
 ghost use Rattle.checker.specs.Columns.{Small};

@@ -10,7 +10,7 @@ use native.Mathlib.Decide.{decLt}
 use native.Mathlib.Omega.{arith}
 use lib.Dec.{T, eqb, leb, ltb, ltb→lt, eqb·suc-zero}
 use lib.ListN.{length, getD, take}
-use borrow.Author.Tests.{lt-ltb, le-ltb}
+use borrow.Author.Tests.{lt-ltb, le-ltb, ne-eqb}
 use Rattle.model.specs.Limits.{mostTunnels, mostSteps, mostAmount, leastShare, mostShare}
 use Rattle.model.specs.Outcome.{good, Cause, unless, Place}
 use Rattle.model.specs.Rule as rule
@@ -55,6 +55,9 @@ lines-no-end (f ∷ fs) (suc n) p h e = lines-no-end fs n (p .1) (omega arith) e
 pub set-in : (n v : ℕ) → T (not (eqb v 0) && ltb v (2 ^ n)) → (1 ≤ v) × (v < 2 ^ n)
 set-in n zero t = absurd t
 set-in n (suc v) t = (omega arith, ltb→lt (suc v) (2 ^ n) (both (not (eqb (suc v) 0)) (ltb (suc v) (2 ^ n)) t .1))
+
+pub in-set : (n v : ℕ) → (1 ≤ v) × (v < 2 ^ n) → T (not (eqb v 0) && ltb v (2 ^ n))
+in-set n v p = rw (ne-eqb v 0 (λ e. omega (arith, p .0)), lt-ltb v (2 ^ n) (p .1)) tt
 
 zero-or-in : (low high v : ℕ) → T (eqb v 0 || (leb low v && leb v high)) → (v ≡ 0) ⊎ ((low ≤ v) × (v ≤ high))
 zero-or-in low high zero t = inl refl
@@ -113,7 +116,7 @@ module _ (l : List ℕ) (w : Whole Network l) where
   flow-line f j h k =
       rw (body-flow sizes f j h k) at (body-line (flowAt sizes f + j) (omega (arith, flow-after sizes f)) (omega (arith, flow-in l network-size f h)))
 
-  pub tunnel-line : (t j : ℕ) → t < sizes .tunnels → j < 4 → T (allows (getD (tunnelLines sizes) j End) (at l (tunnelAt sizes t + j)))
+  tunnel-line : (t j : ℕ) → t < sizes .tunnels → j < 4 → T (allows (getD (tunnelLines sizes) j End) (at l (tunnelAt sizes t + j)))
   tunnel-line t j h k =
       rw (body-tunnel sizes t j h k) at (body-line (tunnelAt sizes t + j) (omega (arith, tunnel-after sizes t)) (omega (arith, tunnel-in l network-size t h)))
 
@@ -125,13 +128,17 @@ module _ (l : List ℕ) (w : Whole Network l) where
         overrun = zero-or-in leastShare mostShare (at l 2) (head-line 2 (omega arith));
         sized = record { counts = limited l head-line .1; size = network-size };
         some = limited l head-line .0;
-        cap = λ k h. between 0 mostAmount _ (cap-line k h) .1;
-        class = λ f h. let e : flowAt sizes f + 0 ≡ flowAt sizes f = omega arith in between 0 2 _ (rw e at (flow-line f 0 h (omega arith))) .1;
-        rate = λ f h. between 0 mostAmount _ (flow-line f 1 h (omega arith)) .1;
-        flow = λ t h. let e : tunnelAt sizes t + 0 ≡ tunnelAt sizes t = omega arith in ltb→lt _ _ (rw e at (tunnel-line t 0 h (omega arith)));
-        via = λ t h. set-in (sizes .links) _ (tunnel-line t 1 h (omega arith));
-        old = λ t h. between 0 mostAmount _ (tunnel-line t 2 h (omega arith)) .1;
-        new = λ t h. between 0 mostAmount _ (tunnel-line t 3 h (omega arith)) .1;
+        links = record { cap = λ k h. between 0 mostAmount _ (cap-line k h) .1 };
+        flows = record {
+          class = λ f h. let e : flowAt sizes f + 0 ≡ flowAt sizes f = omega arith in between 0 2 _ (rw e at (flow-line f 0 h (omega arith))) .1;
+          rate = λ f h. between 0 mostAmount _ (flow-line f 1 h (omega arith)) .1;
+        };
+        tunnels = record {
+          flow = λ t h. let e : tunnelAt sizes t + 0 ≡ tunnelAt sizes t = omega arith in ltb→lt _ _ (rw e at (tunnel-line t 0 h (omega arith)));
+          via = λ t h. set-in (sizes .links) _ (tunnel-line t 1 h (omega arith));
+          old = λ t h. between 0 mostAmount _ (tunnel-line t 2 h (omega arith)) .1;
+          new = λ t h. between 0 mostAmount _ (tunnel-line t 3 h (omega arith)) .1;
+        };
       }
 
 sums-good : (l g : List ℕ) (o : Option Place) → unless Cause.missedRate o (good l) ≡ good g → o ≡ none

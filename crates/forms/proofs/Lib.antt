@@ -5,10 +5,6 @@ pub mod Keys
 pub mod Answers
 pub mod Walks
 pub mod Good
-pub mod InRange
-pub mod PlanInRange
-pub mod RulesInRange
-pub mod Gathering
 pub mod Lines
 pub mod Rendering
 pub mod Texts

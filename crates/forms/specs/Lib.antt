@@ -7,6 +7,4 @@ pub mod Read
 pub mod Turns
 pub mod Write
 pub mod Named
-pub mod Sums
-pub mod Ranges
 pub mod Laws

@@ -8,7 +8,6 @@ ghost use Rattle.lists.specs.Good.{Limited};
 ghost use Rattle.forms.specs.Keys.{prefixOf};
 ghost use Rattle.forms.specs.Slots.{keyBytes};
 ghost use Rattle.forms.specs.Form.{fieldOf, networkBody, rulesBody, admitsOf, isHex, secondOf, hasRemarks, Sound, networkLines, flowLines, tunnelLines, planLines, rulesLines, ruleLines};
-ghost use Rattle.forms.specs.Ranges.{headLines};
 use lists::Network;
 use lists::PlanSizes;
 use lists::Position;
@@ -123,7 +122,8 @@ pub fn has_remarks(form: Form) -> bool
     }
 }
 
-fn network_head(n: usize) -> Field
+// The line at place n of the head.
+pub fn network_head(n: usize) -> Field
     ensures { λ r. ⌜ r ≡ getD networkLines n Field.End ⌝ }
 {
     match n {
@@ -189,7 +189,8 @@ pub fn network_field(done: &[u64]) -> Field
     network_body(Network::of(done), i)
 }
 
-fn plan_head(n: usize) -> Field
+// The line at place n of the head.
+pub fn plan_head(n: usize) -> Field
     ensures { λ r. ⌜ r ≡ getD planLines n Field.End ⌝ }
 {
     match n {
@@ -218,7 +219,8 @@ pub fn plan_field(done: &[u64]) -> Field
     Field::End
 }
 
-fn rules_head(n: usize) -> Field
+// The line at place n of the head.
+pub fn rules_head(n: usize) -> Field
     ensures { λ r. ⌜ r ≡ getD rulesLines n Field.End ⌝ }
 {
     match n {
@@ -252,7 +254,7 @@ fn rules_body(sizes: RuleTables, i: usize) -> Field
         return Field::Line(ROOM, Range::Between(0, RuleTables::ROOM));
     }
     if i < sizes.rule_at(sizes.tunnels) {
-        return rule_group(sizes, (i - rules_at) % 2);
+        return rule_group(sizes, (i - rules_at) % RuleTables::PER_TUNNEL);
     }
     Field::End
 }
@@ -269,31 +271,8 @@ pub fn rules_field(done: &[u64]) -> Field
     rules_body(RuleTables::of(done), i)
 }
 
-// The line at place n of a form's head.
-pub(crate) fn head_line(form: Form, n: usize) -> Field
-    ensures { λ r. ⌜ r ≡ getD (headLines form) n Field.End ⌝ }
-{
-    match form {
-        Form::Network => network_head(n),
-        Form::Plan => plan_head(n),
-        Form::Rules => rules_head(n),
-    }
-}
-
-// What stands after some numbers of any form. For the judges alone: with one caller the compiler puts it into their loop, and that is what it is fast by.
-pub(crate) fn field_after(form: Form, done: &[u64]) -> Field
-    requires { ⌜ Sound form (now done) ⌝ }
-    ensures { λ r. ⌜ r ≡ fieldOf form (now (done .entry)) ⌝ }
-{
-    match form {
-        Form::Network => network_field(done),
-        Form::Plan => plan_field(done),
-        Form::Rules => rules_field(done),
-    }
-}
-
 // Whether v is a set, not empty, of numbers less than n. A shift by 64, a number's bits, is not defined, and every v is a set of numbers less than 64.
-pub(crate) fn is_set(v: u64, n: u64) -> bool
+pub fn is_set(v: u64, n: u64) -> bool
     ensures { λ r. ⌜ r ≡ admitsOf (Range.Set n) v ⌝ }
 {
     if v == 0 {

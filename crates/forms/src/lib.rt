@@ -1,5 +1,2 @@
-// The three forms: which line stands where and which numbers it may have, the keys, and the judges of lists.
+// The three forms: which line stands where and which numbers it may have, and the keys.
 pub mod form;
-pub mod judge;
-mod ranges;
-pub mod sums;

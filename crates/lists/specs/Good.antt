@@ -30,20 +30,30 @@ pub record Sized (l : List ℕ) : Type 0 where
   pub counts : Limited (networkSizes l)
   pub size : length l ≡ networkSize (networkSizes l)
 
--- the numbers of a network are in their ranges
+-- the numbers of the first so many links, flows or tunnels are in their ranges
+pub record LinksIn (l : List ℕ) (count : ℕ) : Type 0 where
+  pub cap : (k : ℕ) → k < count → at l (linkAt (networkSizes l) k) ≤ mostAmount
+
+pub record FlowsIn (l : List ℕ) (count : ℕ) : Type 0 where
+  pub class : (f : ℕ) → f < count → at l (flowAt (networkSizes l) f) ≤ 2
+  pub rate : (f : ℕ) → f < count → at l (flowAt (networkSizes l) f + 1) ≤ mostAmount
+
+pub record TunnelsIn (l : List ℕ) (count : ℕ) : Type 0 where
+  pub flow : (t : ℕ) → t < count → at l (tunnelAt (networkSizes l) t) < networkSizes l .flows
+  pub via : (t : ℕ) → t < count → (1 ≤ at l (tunnelAt (networkSizes l) t + 1)) × (at l (tunnelAt (networkSizes l) t + 1) < 2 ^ networkSizes l .links)
+  pub old : (t : ℕ) → t < count → at l (tunnelAt (networkSizes l) t + 2) ≤ mostAmount
+  pub new : (t : ℕ) → t < count → at l (tunnelAt (networkSizes l) t + 3) ≤ mostAmount
+
+-- all numbers of a network are
 pub record NetworkRanges (l : List ℕ) : Type 0 where
   pub edition : at l 0 ≡ 1
   pub scratch : (leastShare ≤ at l 1) × (at l 1 ≤ mostShare)
   pub overrun : (at l 2 ≡ 0) ⊎ ((leastShare ≤ at l 2) × (at l 2 ≤ mostShare))
   pub sized : Sized l
   pub some : 1 ≤ networkSizes l .links
-  pub cap : (k : ℕ) → k < networkSizes l .links → at l (linkAt (networkSizes l) k) ≤ mostAmount
-  pub class : (f : ℕ) → f < networkSizes l .flows → at l (flowAt (networkSizes l) f) ≤ 2
-  pub rate : (f : ℕ) → f < networkSizes l .flows → at l (flowAt (networkSizes l) f + 1) ≤ mostAmount
-  pub flow : (t : ℕ) → t < networkSizes l .tunnels → at l (tunnelAt (networkSizes l) t) < networkSizes l .flows
-  pub via : (t : ℕ) → t < networkSizes l .tunnels → (1 ≤ at l (tunnelAt (networkSizes l) t + 1)) × (at l (tunnelAt (networkSizes l) t + 1) < 2 ^ networkSizes l .links)
-  pub old : (t : ℕ) → t < networkSizes l .tunnels → at l (tunnelAt (networkSizes l) t + 2) ≤ mostAmount
-  pub new : (t : ℕ) → t < networkSizes l .tunnels → at l (tunnelAt (networkSizes l) t + 3) ≤ mostAmount
+  pub links : LinksIn l (networkSizes l .links)
+  pub flows : FlowsIn l (networkSizes l .flows)
+  pub tunnels : TunnelsIn l (networkSizes l .tunnels)
 
 -- and each flow's amounts add up
 pub record GoodNetwork (l : List ℕ) : Type 0 where

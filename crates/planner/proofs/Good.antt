@@ -13,7 +13,7 @@ use Rattle.planner.proofs.Tables.{InRange}
 
 pub good-range : (l : List ℕ) → GoodNetwork l → InRange (networkOf l)
 unfolding networkOf
-good-range l g = (g .ranges .sized .counts .tunnels, λ t h. (g .ranges .old t h, g .ranges .new t h))
+good-range l g = (g .ranges .sized .counts .tunnels, λ t h. (g .ranges .tunnels .old t h, g .ranges .tunnels .new t h))
 
 pub is-protected : (N : Net) (t : ℕ) → N .class (N .flow t) ≤ 1 → counts N Bound.protected t ≡ true
 unfolding counts

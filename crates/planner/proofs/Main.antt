@@ -102,7 +102,7 @@ module _ (l : List ℕ) (g : GoodNetwork l) (q : ℕ) (one : 1 ≤ q) (most : q 
     tunnels = g .ranges .sized .counts .tunnels;
     size = list-length (networkOf l) q;
     amounts = λ i four _. rw (list-beyond (networkOf l) q i (omega arith))
-        (rows-most (mostAmount * q) (networkOf l) q (q - 1) (λ a t ha ht. even-most q a _ _ (omega arith) (g .ranges .old t ht) (g .ranges .new t ht)) (i - 4));
+        (rows-most (mostAmount * q) (networkOf l) q (q - 1) (λ a t ha ht. even-most q a _ _ (omega arith) (g .ranges .tunnels .old t ht) (g .ranges .tunnels .new t ht)) (i - 4));
   })
 
   even-same : Same (networkOf l) (planOf (evenList (networkOf l) q)) (even (networkOf l) q)

@@ -74,7 +74,7 @@ module _ {l p a : List ℕ} {q k cap : ℕ} (h : AtLink l p a q k cap) where
 
   cap-most : cap ≤ mostAmount
   unfolding networkOf
-  cap-most = omega (arith, h .same, h .ready .good .ranges .cap k (h .link))
+  cap-most = omega (arith, h .same, h .ready .good .ranges .links .cap k (h .link))
 
   pub cap-room : q * cap ≤ mostSteps * mostAmount
   cap-room = mul-le-mul (h .most) cap-most

@@ -6,7 +6,7 @@ ghost use Rattle.lists.specs.Lists.{networkOf};
 ghost use Rattle.lists.specs.Good.{GoodNetwork};
 ghost use Rattle.planner.specs.Planned.{evenPlan, planned};
 use crate::steps::Fewest;
-use forms::judge;
+use judges::judge;
 use lists::Answer;
 
 mod rows;

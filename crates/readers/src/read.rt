@@ -16,7 +16,7 @@ use forms::form;
 use forms::form::Field;
 use forms::form::Form;
 use forms::form::Range;
-use forms::sums;
+use judges::sums;
 use lists::Answer;
 use lists::Network;
 use lists::PlanSizes;

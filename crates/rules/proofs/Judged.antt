@@ -14,7 +14,7 @@ use Rattle.forms.specs.declared.form.Form.the-variants.{Rules}
 use Rattle.forms.proofs.Forms.{between}
 use Rattle.forms.proofs.Answers.{done-good}
 use Rattle.forms.proofs.Good.{set-in}
-use Rattle.forms.proofs.RulesInRange.{head-counts, whole-tables}
+use Rattle.judges.proofs.RulesInRange.{head-counts, whole-tables}
 use Rattle.forms.proofs.Walks.{judged-good}
 use Rattle.rules.specs.Lists.{GoodRules}
 

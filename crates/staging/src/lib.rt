@@ -8,7 +8,7 @@ ghost use Rattle.forms.specs.Read.{readText};
 ghost use Rattle.forms.specs.Write.{writeText};
 ghost use Rattle.rules.specs.Stage.{staged};
 ghost use Rattle.rules.specs.Lists.{rulesOf, stagedList, GoodRules};
-use forms::judge;
+use judges::judge;
 use lists::Answer;
 use lists::RuleTables;
 use switches::room;

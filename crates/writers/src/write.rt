@@ -13,7 +13,7 @@ ghost use Rattle.forms.specs.Named.{writeNetwork, writePlan, writeRules};
 use forms::form;
 use forms::form::Field;
 use forms::form::Form;
-use forms::judge;
+use judges::judge;
 use lists::Answer;
 use lists::Network;
 use lists::PlanSizes;

@@ -34,7 +34,7 @@ module _ (c : tie.After-tunnel-at Inv-loop μ-loop) where
   place = tunnel-place list (begin .pre .0 .ranges .sized) _ (c .before .before .before .before .of .ensures) t _ (c .before .if1 .taken) (c .tunnel-at .ensures)
 
   flow-low : getD list (c .tunnel-at .result) 0 < networkSizes list .flows
-  flow-low = subst (λ (i : ℕ). at list i < networkSizes list .flows) (sym (place .here)) (begin .pre .0 .ranges .flow t (place .there))
+  flow-low = subst (λ (i : ℕ). at list i < networkSizes list .flows) (sym (place .here)) (begin .pre .0 .ranges .tunnels .flow t (place .there))
 
   room : t < length (c .before .before .before .loop .out)
   room = omega (arith, c .before .before .before .loop .inv .size, place .there, begin .pre .0 .ranges .sized .counts, begin .pre .1)

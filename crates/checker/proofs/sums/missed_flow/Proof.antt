@@ -44,7 +44,7 @@ module _ (c : tie.After-flow-at Inv-loop μ-loop) where
 
   rate-small : begin .args .parts * N .rate f ≤ mostSteps * mostAmount
   unfolding networkOf
-  rate-small = mul-le-mul (begin .pre .1) (begin .pre .0 .ranges .rate f (place .there))
+  rate-small = mul-le-mul (begin .pre .1) (begin .pre .0 .ranges .flows .rate f (place .there))
 
 -- the flow is one of those that a network can have
 low : (c : tie.Then1 Inv-loop μ-loop) → c .before .before .loop .f < mostFlows

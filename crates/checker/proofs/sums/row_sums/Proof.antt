@@ -9,8 +9,8 @@ use Rattle.model.specs.Net.{Net}
 use Rattle.lists.specs.Lists.{at, networkSizes, networkOf}
 use Rattle.lists.specs.declared.Network as counts
 use Rattle.lists.proofs.Positions.{TunnelPlace, tunnel-place, limited, head-in}
-use Rattle.forms.specs.Sums.{Gathered}
-use Rattle.forms.proofs.Gathering.{gathered-none, gathered-more, gathered-fits}
+use Rattle.judges.specs.Sums.{Gathered}
+use Rattle.judges.proofs.Gathering.{gathered-none, gathered-more, gathered-fits}
 use Rattle.checker.proofs.Totals.{gathered-at}
 use native.Mathlib.Omega.{arith}
 use borrow.Author.Needs.{needs}
@@ -46,7 +46,7 @@ module _ (c : tie.After-tunnel-at Inv-loop μ-loop) where
 
   flow-low : N .flow t < mostFlows
   unfolding networkOf
-  flow-low = lt-of-lt-of-le (begin .pre .0 .ranges .flow t (place .there)) (begin .pre .0 .ranges .sized .counts .flows)
+  flow-low = lt-of-lt-of-le (begin .pre .0 .ranges .tunnels .flow t (place .there)) (begin .pre .0 .ranges .sized .counts .flows)
 
   flow-room : getD list (c .tunnel-at .result) 0 < length (c .before .before .before .loop .sums)
   flow-room = rw (flow-at, c .before .before .before .loop .inv .gathered .size) flow-low

@@ -59,11 +59,11 @@ module _ (c : tie.After-tunnel-at Inv-loop μ-loop) where
 
   old-part : (begin .args .q - begin .args .a) * getD list (c .tunnel-at .result + 2) 0 ≤ mostSteps * mostAmount
   unfolding networkOf
-  old-part = rw old-at (let k : begin .args .q - begin .args .a ≤ mostSteps = omega (arith, begin .pre .1) in mul-le-mul k (begin .pre .0 .ranges .old t there))
+  old-part = rw old-at (let k : begin .args .q - begin .args .a ≤ mostSteps = omega (arith, begin .pre .1) in mul-le-mul k (begin .pre .0 .ranges .tunnels .old t there))
 
   new-part : begin .args .a * getD list (c .tunnel-at .result + 3) 0 ≤ mostSteps * mostAmount
   unfolding networkOf
-  new-part = rw new-at (let k : begin .args .a ≤ mostSteps = omega (arith, begin .pre .1) in mul-le-mul k (begin .pre .0 .ranges .new t there))
+  new-part = rw new-at (let k : begin .args .a ≤ mostSteps = omega (arith, begin .pre .1) in mul-le-mul k (begin .pre .0 .ranges .tunnels .new t there))
 
 of-requires : tie.Need-of-requires Inv-loop μ-loop
 of-requires c κs = head-in _ (c .before .before .pre .0 .ranges .sized .size)

@@ -78,16 +78,16 @@ module _ (c : tie.After-tunnel-at Inv-loop μ-loop) where
 
   old-most : getD list (c .tunnel-at .result + 2) 0 ≤ mostAmount
   unfolding networkOf
-  old-most = omega (arith, old-at, ranges .old t (place .there))
+  old-most = omega (arith, old-at, ranges .tunnels .old t (place .there))
 
   new-most : getD list (c .tunnel-at .result + 3) 0 ≤ mostAmount
   unfolding networkOf
-  new-most = omega (arith, new-at, ranges .new t (place .there))
+  new-most = omega (arith, new-at, ranges .tunnels .new t (place .there))
 
   -- the tunnel's flow is one of the network's
   flow-low : getD list (c .tunnel-at .result) 0 < c .before .before .before .before .of .result .flows
   unfolding networkOf
-  flow-low = omega (arith, flow-at, ranges .flow t (place .there), ap (λ (n : sizes.Network). n .flows) (c .before .before .before .before .of .ensures))
+  flow-low = omega (arith, flow-at, ranges .tunnels .flow t (place .there), ap (λ (n : sizes.Network). n .flows) (c .before .before .before .before .of .ensures))
 
   -- what a table becomes by the amounts that are added
   added : {s s′ : List ℕ} → Added (inSet (getD list (c .tunnel-at .result + 1) 0)) (getD list (c .tunnel-at .result + 2) 0) (getD list (c .tunnel-at .result + 3) 0) s s′ → Added (inSet (N .via t)) (N .old t) (N .new t) s s′

@@ -1,0 +1,4 @@
+pub mod InRange
+pub mod PlanInRange
+pub mod RulesInRange
+pub mod Gathering

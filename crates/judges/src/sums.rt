@@ -1,0 +1,82 @@
+// The sums of a network: whether each flow's old amounts, and its new ones, add up to its rate.
+ghost use mathlib.Core.Path.{_≡_};
+ghost use Prim.Native.Nat.{_+_, _<_, _^_};
+ghost use lib.ListN.{length, getD, set, replicate};
+ghost use Rattle.model.specs.Limits.{mostFlows};
+ghost use Rattle.lists.specs.Answers.{done};
+ghost use Rattle.lists.specs.Lists.{networkOf};
+ghost use Rattle.lists.specs.Good.{NetworkRanges};
+ghost use Rattle.forms.specs.Read.{addUp};
+ghost use Rattle.judges.specs.Sums.{Gathered};
+use forms::form::Form;
+use lists::Answer;
+use lists::Network;
+
+const FLOWS: usize = Network::FLOWS as usize;
+
+// Adds an amount to a flow's sum.
+fn add(sums: &mut [u64], flow: usize, amount: u64)
+    requires { ⌜ (flow < length (now sums)) × (getD (now sums) flow 0 + amount < 2 ^ 64) ⌝ }
+    ensures { λ _. ⌜ now (sums .exit) ≡ set (now (sums .entry)) flow (getD (now (sums .entry)) flow 0 + amount) ⌝ }
+{
+    sums[flow] += amount;
+}
+
+// The sums of each flow's old and new amounts, gathered in one pass over the tunnels.
+fn gather(list: &[u64], old: &mut [u64], new: &mut [u64])
+    requires { ⌜ NetworkRanges (now list) ⌝ }
+    requires { ⌜ (now old ≡ replicate mostFlows 0) × (now new ≡ replicate mostFlows 0) ⌝ }
+    ensures { λ _. ⌜ Gathered (networkOf (now (list .entry))) (networkOf (now (list .entry)) .old) (networkOf (now (list .entry)) .tunnels) (now (old .exit)) ⌝ }
+    ensures { λ _. ⌜ Gathered (networkOf (now (list .entry))) (networkOf (now (list .entry)) .new) (networkOf (now (list .entry)) .tunnels) (now (new .exit)) ⌝ }
+{
+    let sizes = Network::of(list);
+    let mut t: usize = 0;
+    while t < sizes.tunnels {
+        let at = sizes.tunnel_at(t);
+        let flow = list[at] as usize;
+        add(old, flow, list[at + Network::OLD]);
+        add(new, flow, list[at + Network::NEW]);
+        t += 1;
+    }
+}
+
+// The first sum that misses its flow's rate: lowest flow, old before new.
+fn first_missed(list: &[u64], old: &[u64], new: &[u64]) -> Answer
+    requires { ⌜ NetworkRanges (now list) ⌝ }
+    requires { ⌜ Gathered (networkOf (now list)) (networkOf (now list) .old) (networkOf (now list) .tunnels) (now old) ⌝ }
+    requires { ⌜ Gathered (networkOf (now list)) (networkOf (now list) .new) (networkOf (now list) .tunnels) (now new) ⌝ }
+    ensures { λ r. ⌜ r ≡ done (addUp Form.Network (now (list .entry))) ⌝ }
+{
+    let sizes = Network::of(list);
+    let mut f: usize = 0;
+    while f < sizes.flows {
+        let rate = list[sizes.flow_at(f) + Network::RATE];
+        if old[f] != rate {
+            return Answer::Refused {
+                number: 4,
+                place: f as u64,
+                second: 0,
+            };
+        }
+        if new[f] != rate {
+            return Answer::Refused {
+                number: 4,
+                place: f as u64,
+                second: 1,
+            };
+        }
+        f += 1;
+    }
+    Answer::Done(list.len())
+}
+
+// Judges the sums of a network's list whose numbers are judged already.
+pub fn add_up(list: &[u64]) -> Answer
+    requires { ⌜ NetworkRanges (now list) ⌝ }
+    ensures { λ r. ⌜ r ≡ done (addUp Form.Network (now (list .entry))) ⌝ }
+{
+    let mut old = [0u64; FLOWS];
+    let mut new = [0u64; FLOWS];
+    gather(list, &mut old, &mut new);
+    first_missed(list, &old, &new)
+}
