@@ -23,7 +23,7 @@ mul-if1 : tie.Need-mul-if1
 mul-if1 c = search needs
 
 returns : tie.Need-returns
-returns c = number-7 _ _ _ _ (c .if1 .taken)
+returns c = let a = c .before .args in number-7 (a .room) (a .overrun) (a .protected) (a .all) (omega (arith, c .if1 .taken))
 
 mul-if2 : tie.Need-mul-if2
 mul-if2 c = search needs

@@ -51,7 +51,8 @@ mul-result c = record { fits = omega (arith, most-product (c .before)) }
 add-result : tie.Need-add-result
 add-result c =
     let a = c .before .before .before .before .before in
-    record { fits = omega (arith, most-product (c .before), a .pre .0 .most Part.peak (a .args .link) (a .pre .3)) }
+    let low = a .pre .0 .most in
+    record { fits = omega (arith, most-product (c .before), c .before .larger .ensures, low Part.old (a .args .link) (a .pre .3), low Part.new (a .args .link) (a .pre .3), low Part.peak (a .args .link) (a .pre .3)) }
 
 returns : tie.Need-returns
 returns c =
