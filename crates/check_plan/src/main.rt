@@ -1,11 +1,15 @@
 // Reads `network.txt` and `plan.txt` in the current folder and prints whether the plan is accepted, or why it is not.
+ghost use Prim.Native.Nat.{_≤_};
 ghost use mathlib.Core.Path.{_≡_};
+ghost use lib.ListN.{length, take};
 ghost use Rattle.io.specs.Counts.{Counts};
-ghost use Rattle.check_plan.specs.Printed.{checkTexts};
+ghost use Rattle.report.specs.Printed.{checkTexts, printedCheck};
+use libc::STDERR_FILENO;
 use libc::STDOUT_FILENO;
 use lists::Answer;
 use lists::Network;
 use lists::PlanSizes;
+use writers::write;
 
 // The marks are lent since the check asks for them; only the answer is printed.
 const MARKS: usize = Network::TUNNELS as usize;
@@ -41,19 +45,36 @@ fn check_texts(network: &[u8], plan: &[u8]) -> Answer
     product::check_plan(&network_list[..length], &plan_list[..size], &mut marks)
 }
 
+// Puts what is printed: that the plan is accepted, or the lines of a refusal. Answers how many bytes that is.
+fn put_answer(network: &[u8], plan: &[u8], out: &mut [u8]) -> usize
+    requires { ⌜ 84 ≤ length (now out) ⌝ }
+    ensures { λ r. ⌜ Counts r (now (out .exit)) ⌝ }
+    ensures { λ r. ⌜ take r (now (out .exit)) ≡ printedCheck (checkTexts (now (network .entry)) (now (plan .entry))) ⌝ }
+{
+    let answer = check_texts(network, plan);
+    match answer {
+        Answer::Done(_) => write::put(out, 0, b"accepted=1\n"),
+        // a check gives no plan
+        Answer::Plan(_) => write::put(out, 0, b"accepted=1\n"),
+        Answer::Refused {
+            number,
+            place,
+            second,
+        } => report::put_refusal(out, number, place, second),
+    }
+}
+
 fn main() {
     let mut network = io::large_buffer();
     let network_length = read_file(b"network.txt", &mut network);
     let mut plan = io::large_buffer();
     let plan_length = read_file(b"plan.txt", &mut plan);
-    let answer = check_texts(&network[..network_length], &plan[..plan_length]);
-    if let Answer::Refused {
-        number,
-        place,
-        second,
-    } = answer {
-        report::print_refusal(number, place, second);
-    } else {
-        io::write_all(STDOUT_FILENO, b"accepted=1\n");
+    let mut out = io::buffer();
+    let length = put_answer(&network[..network_length], &plan[..plan_length], &mut out);
+    if !io::write_all(STDOUT_FILENO, &out[..length]) {
+        io::write_all(
+            STDERR_FILENO,
+            b"check_plan: the answer could not be written\n",
+        );
     }
 }

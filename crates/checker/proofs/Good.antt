@@ -77,6 +77,3 @@ module _ (l : List ℕ) (g : GoodNetwork l) where
     pub room-small : parts * cap ≤ mostAmount * mostSteps
     unfolding networkOf
     room-small = in-parts parts cap hp (omega (arith, e, g .ranges .links .cap k h))
-
-    pub most-small : (1000 + networkOf l .overrun) * (parts * cap) ≤ (1000 + mostShare) * (mostAmount * mostSteps)
-    most-small = let o : 1000 + networkOf l .overrun ≤ 1000 + mostShare = omega (arith, overrun-small) in mul-le-mul o room-small

@@ -28,7 +28,7 @@ reached n p room x e =
     )
 
 -- and what reaches the steps gets their verdict
-weighed : (n p : List ℕ) (room : ℕ) → Reaches n p room → verdict n p room ≡ good (firstOverload (networkOf n) (planOf p))
+pub weighed : (n p : List ℕ) (room : ℕ) → Reaches n p room → verdict n p room ≡ good (firstOverload (networkOf n) (planOf p))
 weighed n p room r = simp (r .network, r .plan, eq-eqb (planSizes p .tunnels) (networkOf n .tunnels) (r .tunnels), r .rows, le-leb (networkOf n .tunnels) room (r .room))
 
 pub checker : Checker

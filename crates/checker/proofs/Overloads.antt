@@ -7,6 +7,7 @@ use mathlib.Core.List.{List}
 use mathlib.Core.Option.{none, some, orElse}
 use native.Mathlib.Omega.{arith}
 use native.Mathlib.Nat.{max-le}
+use lib.Dec.{ltb}
 use borrow.Author.Tests.{lt-ltb, le-ltb}
 use Rattle.model.specs.Limits.{mostSteps, mostAmount}
 use Rattle.model.specs.Sets.{inSet}
@@ -72,18 +73,21 @@ module _ (N : Net) (P : Plan) (i l : ℕ) where
 
 -- ---- the tests of the two bounds
 
-module _ (N : Net) (parts l p a : ℕ) where
-  pub over-7 : (r : ℕ) → r ≡ p → parts * N .cap l < r → 7 ≡ overBy N parts l p a
-  unfolding overBy exceeds
-  over-7 r e h = simp (lt-ltb (parts * N .cap l) p (rw (← e) h))
+-- the refusal that two loads of a link meet, by their bounds in thousandths
+module _ (room overrun p a : ℕ) where
+  pub number-7 : 1000 * room < 1000 * p → 7 ≡ overNumber (ltb room p) (ltb ((1000 + overrun) * room) (1000 * a))
+  number-7 h = simp (lt-ltb room p (omega (arith, h)))
 
-  pub over-8 : (r s : ℕ) → r ≡ p → s ≡ a → r ≤ parts * N .cap l → (1000 + N .overrun) * (parts * N .cap l) < 1000 * s → 8 ≡ overBy N parts l p a
-  unfolding overBy exceeds
-  over-8 r s e f h k = simp (le-ltb (parts * N .cap l) p (rw (← e) h), lt-ltb ((1000 + N .overrun) * (parts * N .cap l)) (1000 * a) (rw (← f) k))
+  pub number-8 : 1000 * p ≤ 1000 * room → (1000 + overrun) * room < 1000 * a → 8 ≡ overNumber (ltb room p) (ltb ((1000 + overrun) * room) (1000 * a))
+  number-8 h k = simp (le-ltb room p (omega (arith, h)), lt-ltb ((1000 + overrun) * room) (1000 * a) k)
 
-  pub over-0 : (r s : ℕ) → r ≡ p → s ≡ a → r ≤ parts * N .cap l → 1000 * s ≤ (1000 + N .overrun) * (parts * N .cap l) → 0 ≡ overBy N parts l p a
-  unfolding overBy exceeds
-  over-0 r s e f h k = simp (le-ltb (parts * N .cap l) p (rw (← e) h), le-ltb ((1000 + N .overrun) * (parts * N .cap l)) (1000 * a) (rw (← f) k))
+  pub number-0 : 1000 * p ≤ 1000 * room → 1000 * a ≤ (1000 + overrun) * room → 0 ≡ overNumber (ltb room p) (ltb ((1000 + overrun) * room) (1000 * a))
+  number-0 h k = simp (le-ltb room p (omega (arith, h)), le-ltb ((1000 + overrun) * room) (1000 * a) k)
+
+pub over-same : (N : Net) (parts l room p q a b : ℕ) → room ≡ parts * N .cap l → p ≡ q → a ≡ b
+    → overNumber (ltb room p) (ltb ((1000 + N .overrun) * room) (1000 * a)) ≡ overBy N parts l q b
+unfolding overBy exceeds
+over-same N parts l room p q a b e f g = rw (e, f, g)
 
 -- the amounts of a step are small
 pub counted-small : (l p : List ℕ) → Checkable l p → (i : ℕ) (b : Bound) (xs : List ℕ) → i < planSizes p .steps

@@ -1,13 +1,14 @@
 // The worst-load rule, step by step and link by link.
 ghost use mathlib.Core.Path.{_≡_};
-ghost use Prim.Native.Nat.{_≤_, _<_};
+ghost use Prim.Native.Nat.{_+_, _*_, _≤_, _<_};
+ghost use lib.Dec.{ltb};
 ghost use lib.ListN.{length};
-ghost use Rattle.model.specs.Limits.{mostTunnels, mostSteps};
+ghost use Rattle.model.specs.Limits.{mostTunnels, mostSteps, mostAmount, mostShare};
 ghost use Rattle.model.specs.Rule.{firstOverload};
 ghost use Rattle.lists.specs.Lists.{networkSizes, networkOf, planOf};
 ghost use Rattle.lists.specs.Good.{GoodNetwork};
 ghost use Rattle.checker.specs.Columns.{Small, linkSum};
-ghost use Rattle.checker.specs.Inner.{Checkable, overBy, foundOf};
+ghost use Rattle.checker.specs.Inner.{Checkable, overNumber, overBy, foundOf};
 use crate::columns;
 use crate::columns::TUNNELS;
 use crate::rows;
@@ -18,6 +19,22 @@ use lists::PlanSizes;
 pub enum Found {
     Nothing,
     At(u64, usize, usize),
+}
+
+// The number of the refusal that a link's loads meet, or 0. Both bounds in thousandths.
+fn refusal_number(room: u64, overrun: u64, protected: u64, all: u64) -> u64
+    requires { ⌜ (room ≤ mostSteps * mostAmount) × (overrun ≤ mostShare) × (protected ≤ mostTunnels * (mostAmount * mostSteps)) × (all ≤ mostTunnels * (mostAmount * mostSteps)) ⌝ }
+    ensures { λ r. ⌜ r ≡ overNumber (ltb room protected) (ltb ((1000 + overrun) * room) (1000 * all)) ⌝ }
+{
+    let capacity = 1000 * room;
+    let raised = (1000 + overrun) * room;
+    if capacity < 1000 * protected {
+        return 7;
+    }
+    if raised < 1000 * all {
+        return 8;
+    }
+    0
 }
 
 // The number of the refusal that the amounts meet on link l, or 0.
@@ -31,13 +48,9 @@ fn over(network: &[u64], parts: u64, vias: &[u64], all: &[u64], protected: &[u64
     let overrun = network[Network::OVERRUN];
     let link = l as u64;
     let room = parts * network[sizes.link_at(l)];
-    if room < columns::load(vias, protected, n, link) {
-        return 7;
-    }
-    if (1000 + overrun) * room < 1000 * columns::load(vias, all, n, link) {
-        return 8;
-    }
-    0
+    let protected_load = columns::load(vias, protected, n, link);
+    let all_load = columns::load(vias, all, n, link);
+    refusal_number(room, overrun, protected_load, all_load)
 }
 
 // Steps ascending, links ascending; the first overload ends the check.

@@ -1,7 +1,7 @@
 -- Laws of a run in numbers.
 use Prim.Native.Nat.{ℕ, suc, _+_, _*_, _%_, _≤_}
 use mathlib.Core.Path.{_≡_, refl, sym, ap, ap₂, _∙_}
-use mathlib.Core.List.{List, [], _∷_, _++_, append-nil}
+use mathlib.Core.List.{List, [], _∷_, _++_, append-nil, flatMap}
 use native.Mathlib.Numerals.{add-one}
 use native.Mathlib.Omega.{arith}
 use borrow.Author.Tests.{eq-eqb, ne-eqb}
@@ -11,9 +11,9 @@ use Rattle.model.specs.Outcome.{good, refused}
 use Rattle.model.specs.Listed.{listed}
 use Rattle.model.proofs.Listed.{listed-length}
 use Rattle.desks.specs.State.{State, empty}
-use Rattle.desks.specs.Run.{Call, submit, handOut, Event, submission, hand, event, next, log, after, all}
+use Rattle.desks.specs.Run.{Call, submit, handOut, Event, submission, hand, event, next, log, after}
 use Rattle.desk_calls.specs.Numbers.{callIn, callsOf, fourOf, answersOf}
-use Rattle.desks.proofs.Runs.{log-append, after-append, all-append}
+use Rattle.desks.proofs.Runs.{log-append, after-append, flatMap-append}
 
 -- ---- the answers of a log
 four-numbers : (e : Event) → _≡_ {A = ℕ} (length (fourOf e)) 4
@@ -23,7 +23,7 @@ four-numbers (hand (good h)) = refl
 four-numbers (hand (refused c place second)) = refl
 
 answers-length : (s : State) (calls : List Call) → length (answersOf (log s calls)) ≡ 4 * length calls
-unfolding all log
+unfolding flatMap log
 answers-length s [] = refl
 answers-length s (c ∷ calls) =
     length-append (fourOf (event c s)) (answersOf (log (next c s) calls)) ∙ omega (arith, four-numbers (event c s), answers-length (next c s) calls)
@@ -53,16 +53,16 @@ unfolding listed after
 after-more calls i = ap (λ n. after empty (callsOf n calls)) (add-one i) ∙ after-append empty (callsOf i calls) (callIn calls (3 * i) ∷ [])
 
 told-more : (calls : List ℕ) (i : ℕ) → toldBy calls (i + 1) ≡ toldBy calls i ++ fourOf (event (callIn calls (3 * i)) (after empty (callsOf i calls)))
-unfolding listed log all
+unfolding listed log flatMap
 told-more calls i =
     ap (toldBy calls) (add-one i)
     ∙ ap answersOf (log-append empty (callsOf i calls) (callIn calls (3 * i) ∷ []))
-    ∙ all-append fourOf (log empty (callsOf i calls)) (event (callIn calls (3 * i)) (after empty (callsOf i calls)) ∷ [])
+    ∙ flatMap-append fourOf (log empty (callsOf i calls)) (event (callIn calls (3 * i)) (after empty (callsOf i calls)) ∷ [])
     ∙ ap (λ (l : List ℕ). toldBy calls i ++ l) (append-nil _)
 
 -- at first, and with four numbers more in their place
 pub told-none : (calls answers : List ℕ) → answers ≡ toldBy calls 0 ++ drop (4 * 0) answers
-unfolding listed log all
+unfolding listed log flatMap
 told-none calls answers = refl
 
 pub told-on : (calls first answers four : List ℕ) (i : ℕ) → answers ≡ toldBy calls i ++ drop (4 * i) first

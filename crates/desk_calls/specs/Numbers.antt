@@ -1,11 +1,11 @@
 -- A run in numbers: each call three, each answer four.
 use Prim.Native.Nat.{ℕ, _+_, _*_, _/_, _%_, min}
 use mathlib.Core.Bool.{cond}
-use mathlib.Core.List.{List}
+use mathlib.Core.List.{List, flatMap}
 use lib.Dec.{eqb}
 use lib.ListN.{length, getD}
 use Rattle.model.specs.Listed.{listed}
-use Rattle.desks.specs.Run.{Call, submit, handOut, Event, submission, hand, all}
+use Rattle.desks.specs.Run.{Call, submit, handOut, Event, submission, hand}
 use Rattle.desks.specs.Seen.{toldAcceptance, toldJob}
 use Rattle.desks.specs.Four.{fourOfAcceptance, fourOfJob}
 
@@ -23,7 +23,7 @@ fourOf (hand answer) = fourOfJob (toldJob answer)
 
 -- the answers of a log
 abbrev pub answersOf : List Event → List ℕ
-answersOf = all fourOf
+answersOf = flatMap fourOf
 
 -- the answers and the calls that there is room for
 abbrev pub roomFor : List ℕ → List ℕ → ℕ

@@ -2,11 +2,11 @@
 use Prim.Native.Nat.{ℕ, suc, _+_, _%_}
 use mathlib.Core.Path.{_≡_, refl, sym, ap, _∙_}
 use mathlib.Core.Bool.{cond}
-use mathlib.Core.List.{List, [], _∷_, _++_}
+use mathlib.Core.List.{List, [], _∷_, _++_, flatMap}
 use native.Mathlib.Omega.{arith}
 use lib.ListN.{length, length-append}
 use Rattle.desks.specs.State.{Job, State, nextNumber, replaced, joined, nextJob, handOf}
-use Rattle.desks.specs.Run.{Call, submit, handOut, submission, event, next, log, acceptedIn, Attempt, taken, declined, attemptIn, all, accepted, attempts}
+use Rattle.desks.specs.Run.{Call, submit, handOut, submission, event, next, log, acceptedIn, Attempt, taken, declined, attemptIn, accepted, attempts}
 use Rattle.desks.proofs.States.{by-submit, by-hand-out, by-desk, by-less}
 
 -- ---- the jobs that a desk's calls come to, from its counter on
@@ -30,7 +30,7 @@ given-in (submit desk tag) s d more =
 given-in handOut s d more = by-hand-out s (λ r. given (r .state .counter d) more ≡ given (s .counter d) more) (λ n. refl) (λ w f. refl)
 
 pub accepted-given : (calls : List Call) (s : State) (d : ℕ) → accepted d (log s calls) ≡ given (s .counter d) (attempts d (log s calls))
-unfolding log all given
+unfolding log flatMap given
 accepted-given [] s d = refl
 accepted-given (c ∷ calls) s d =
     ap (λ (l : List Job). acceptedIn d (event c s) ++ l) (accepted-given calls (next c s) d) ∙ given-in c s d (attempts d (log (next c s) calls))

@@ -3,7 +3,7 @@ use Prim.Native.Nat.{ℕ, zero, suc, _+_, _≤_, _<_, min}
 use mathlib.Core.Path.{_≡_, refl, sym, ap, ap₂, _∙_, subst}
 use mathlib.Core.Logic.{_≢_}
 use mathlib.Core.Bool.{cond, not}
-use mathlib.Core.List.{List, [], _∷_, _++_}
+use mathlib.Core.List.{List, [], _∷_, _++_, flatMap}
 use native.Mathlib.Omega.{arith}
 use borrow.Author.Tests.{eq-eqb, ne-eqb}
 use lib.Dec.{T}
@@ -12,7 +12,7 @@ use Rattle.model.specs.Sum.{sumOver}
 use Rattle.model.proofs.Sums.{sum-cong, sum-more, sum-bound}
 use Rattle.desks.specs.Round.{placeInRound, turns, otherThan, jobsBefore}
 use Rattle.desks.specs.State.{Job, State, Handed, Work, replaced, joined, served, before}
-use Rattle.desks.specs.Run.{handOut, event, next, log, handedIn, outIn, all, handed, out}
+use Rattle.desks.specs.Run.{handOut, event, next, log, handedIn, outIn, handed, out}
 use Rattle.desks.specs.Claim.{Exactly}
 use Rattle.desks.proofs.Rounds.{place-below, place-served, place-after, place-other, turns-earlier, turns-later}
 use Rattle.desks.proofs.States.{IsFirst, by-less}
@@ -100,7 +100,7 @@ own-counted s d p = omega arith
 -- the figure is 0: the job is its desk's oldest, and it is its desk's turn
 exactly-zero : (s : State) (d : ℕ) (older : List Job) (job : Job) (younger : List Job) → d < 8 → s .queue d ≡ older ++ job ∷ younger
     → before s d (length older) ≡ 0 → Exactly 0 s d older job
-unfolding log all
+unfolding log flatMap
 exactly-zero s d [] job younger h e f = record {
   jobs = refl;
   own = refl;
@@ -125,7 +125,7 @@ Then n d older job given own t =
 exactly-suc : (n : ℕ) (s : State) (d : ℕ) (older : List Job) (job : Job) (younger : List Job) → d < 8 → s .queue d ≡ older ++ job ∷ younger
     → before s d (length older) ≡ suc n
     → ((t : State) (jobs : List Job) → t .queue d ≡ jobs ++ job ∷ younger → before t d (length jobs) ≡ n → Exactly n t d jobs job) → Exactly (suc n) s d older job
-unfolding log all
+unfolding log flatMap
 exactly-suc n s d older job younger h e f on =
     let r : Then n d older job (outIn (event handOut s)) (handedIn d (event handOut s)) (next handOut s) =
     by-turn s d h (omega (arith, ap length e, length-append older (job ∷ younger))) (λ given own queue t. t .queue d ≡ queue → Then n d older job given own t)

@@ -14,7 +14,7 @@ use Rattle.desks.specs.Run.{Call, log, after, handedIn, accepted, handed
 use Rattle.desks.specs.Claim.{Exactly, AtMost, Claim}
 use Rattle.desks.proofs.States.{by-submit}
 use Rattle.desks.proofs.Rounds.{place-below}
-use Rattle.desks.proofs.Runs.{log-append, all-append, four-wait, conserved, out-most, waits}
+use Rattle.desks.proofs.Runs.{log-append, flatMap-append, four-wait, conserved, out-most, waits}
 use Rattle.desks.proofs.Exact.{exactly-joined}
 use Rattle.desks.proofs.Counters.{given, accepted-given, given-number}
 
@@ -74,7 +74,7 @@ served before calls d h o =
     let a = all-served s calls d h (four before d) o in (
       a .0,
       ap (handed d) (log-append empty before calls)
-          ∙ all-append (handedIn d) (log empty before) (log s calls)
+          ∙ flatMap-append (handedIn d) (log empty before) (log s calls)
           ∙ ap (λ (l : List Job). handed d (log empty before) ++ l) (a .1)
           ∙ sym (append-assoc (handed d (log empty before)) (s .queue d) (a .0))
           ∙ ap (λ (l : List Job). l ++ a .0) (sym (order before d)),

@@ -2,13 +2,13 @@
 use Prim.Native.Nat.{ℕ, suc, _+_, _-_, _*_, _≤_, _<_}
 use mathlib.Core.Path.{_≡_, refl, sym, ap, _∙_}
 use mathlib.Core.Bool.{cond}
-use mathlib.Core.List.{List, [], _∷_, _++_, append-assoc, append-nil}
+use mathlib.Core.List.{List, [], _∷_, _++_, append-assoc, append-nil, flatMap}
 use native.Mathlib.Omega.{arith}
 use lib.ListN.{length, length-append}
 use Rattle.desks.specs.State.{Job, State, Handed, Work, replaced, joined, nextJob, served, handOf, submitted}
 use Rattle.model.proofs.Searches.{le-of-not-lt}
 use Rattle.desks.specs.Round.{placeInRound}
-use Rattle.desks.specs.Run.{Call, submit, handOut, Event, submission, hand, event, next, log, after, acceptedIn, handedIn, outIn, all, accepted, handed, out, handOuts}
+use Rattle.desks.specs.Run.{Call, submit, handOut, Event, submission, hand, event, next, log, after, acceptedIn, handedIn, outIn, accepted, handed, out, handOuts}
 use Rattle.desks.proofs.States.{by-submit, by-hand-out, IsFirst, first-work, no-work, by-desk}
 use Rattle.desks.proofs.Rounds.{place-served, place-after, place-other}
 
@@ -23,10 +23,10 @@ unfolding log after
 log-append s [] ys = refl
 log-append s (x ∷ xs) ys = ap (λ (l : List Event). event x s ∷ l) (log-append (next x s) xs ys)
 
-pub all-append : {A : Type 0} (f : Event → List A) (xs ys : List Event) → all f (xs ++ ys) ≡ all f xs ++ all f ys
-unfolding all
-all-append f [] ys = refl
-all-append {A} f (x ∷ xs) ys = ap (λ (l : List A). f x ++ l) (all-append f xs ys) ∙ sym (append-assoc (f x) (all f xs) (all f ys))
+pub flatMap-append : {A : Type 0} (f : Event → List A) (xs ys : List Event) → flatMap f (xs ++ ys) ≡ flatMap f xs ++ flatMap f ys
+unfolding flatMap
+flatMap-append f [] ys = refl
+flatMap-append {A} f (x ∷ xs) ys = ap (λ (l : List A). f x ++ l) (flatMap-append f xs ys) ∙ sym (append-assoc (f x) (flatMap f xs) (flatMap f ys))
 
 -- ---- at most four wait
 four-in : (c : Call) (s : State) (d : ℕ) → length (s .queue d) ≤ 4 → length (next c s .queue d) ≤ 4
@@ -64,7 +64,7 @@ conserved-in handOut s d =
     (λ e. append-nil (s .queue d)))
 
 pub conserved : (calls : List Call) (s : State) (d : ℕ) → s .queue d ++ accepted d (log s calls) ≡ handed d (log s calls) ++ after s calls .queue d
-unfolding log after all
+unfolding log after flatMap
 conserved [] s d = append-nil (s .queue d)
 conserved (c ∷ calls) s d =
     sym (append-assoc (s .queue d) (acceptedIn d (event c s)) _)
@@ -79,7 +79,7 @@ unfolding handOf
 out-in s = by-hand-out s (λ r. length (outIn (hand (r .answer))) ≤ 1) (λ n. omega arith) (λ w f. omega arith)
 
 pub out-most : (calls : List Call) (s : State) → length (out (log s calls)) ≤ handOuts calls
-unfolding log all handOuts
+unfolding log flatMap handOuts
 out-most [] s = omega arith
 out-most (submit desk tag ∷ calls) s = out-most calls (next (submit desk tag) s)
 out-most (handOut ∷ calls) s =
@@ -124,7 +124,7 @@ by-turn s d h q P own earlier =
 -- A job with p older ones of its desk: while it waits, the hand-outs called are at most 8p and its desk's place in the round.
 pub waits : (calls : List Call) (s : State) (d p : ℕ) → d < 8 → p < length (s .queue d) → length (handed d (log s calls)) ≤ p
     → handOuts calls ≤ 8 * p + placeInRound (s .last) d
-unfolding log all handOuts
+unfolding log flatMap handOuts
 waits [] s d p h q l = omega arith
 waits (submit desk tag ∷ calls) s d p h q l =
     let u = submit-keeps desk tag s d in

@@ -1,7 +1,7 @@
 -- Runs: any calls, one after the other.
 use Prim.Native.Nat.{ℕ, suc}
 use mathlib.Core.Bool.{cond}
-use mathlib.Core.List.{List, [], _∷_, _++_}
+use mathlib.Core.List.{List, [], _∷_, flatMap}
 use lib.Dec.{eqb}
 use Rattle.model.specs.Outcome.{Outcome, good, refused}
 use Rattle.desks.specs.State.{Job, State, Acceptance, Handed, submitted, handedOut}
@@ -58,22 +58,18 @@ outIn (submission desk tag answer) = []
 outIn (hand (good h)) = h ∷ []
 outIn (hand (refused c place second)) = []
 
--- what each event of a log gives, in its order
-unfoldable pub all : {A : Type 0} → (Event → List A) → List Event → List A
-all f [] = []
-all f (e ∷ events) = f e ++ all f events
-
+-- what the events of a log give, in their order
 abbrev pub accepted : ℕ → List Event → List Job
-accepted d = all (acceptedIn d)
+accepted d = flatMap (acceptedIn d)
 
 abbrev pub handed : ℕ → List Event → List Job
-handed d = all (handedIn d)
+handed d = flatMap (handedIn d)
 
 abbrev pub attempts : ℕ → List Event → List Attempt
-attempts d = all (attemptIn d)
+attempts d = flatMap (attemptIn d)
 
 abbrev pub out : List Event → List Handed
-out = all outIn
+out = flatMap outIn
 
 -- how many hand-outs are called
 unfoldable pub handOuts : List Call → ℕ

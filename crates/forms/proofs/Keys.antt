@@ -7,12 +7,8 @@ use lib.ListN.{length, getD}
 use Prim.Native.String.{String}
 use Rattle.forms.specs.Bytes.{bytes}
 use Rattle.forms.specs.Keys.{keys, prefixOf}
-use Rattle.forms.specs.Turns.{hashed}
+use Rattle.forms.specs.Turns.{hashed, no-feeds}
 use Rattle.model.proofs.Searches.{both}
-
-abbrev pub no-feeds : List ℕ → Bool
-no-feeds [] = true
-no-feeds (b ∷ l) = not (eqb b 10) && no-feeds l
 
 abbrev plain : List ℕ → Bool
 plain k = leb (length k) 9 && (no-feeds k && not (hashed k))

@@ -183,7 +183,7 @@ width-of : (v : ℕ) → v < 10000000000 → Wide v (widthOf v)
 unfolding widthOf
 width-of v h = width-wide 9 1 v (lit≤ tt) h (inl refl)
 
-width-from : (f m v : ℕ) → widthFrom f m v ≤ m + f
+pub width-from : (f m v : ℕ) → widthFrom f m v ≤ m + f
 unfolding widthFrom
 width-from zero m v = omega arith
 width-from (suc f) m v = go (ltb v (10 ^ m)) (width-from f (suc m) v)
@@ -191,6 +191,10 @@ width-from (suc f) m v = go (ltb v (10 ^ m)) (width-from f (suc m) v)
     go : (b : Bool) → widthFrom f (suc m) v ≤ suc m + f → cond b m (widthFrom f (suc m) v) ≤ m + suc f
     go true h = omega arith
     go false h = omega arith
+
+-- and where the number has at most f + 1 digits, so many it has
+pub width-same : (f v n : ℕ) → v < 10 ^ (1 + f) → 1 ≤ n → v < 10 ^ n → (n ≡ 1) ⊎ (10 ^ (n - 1) ≤ v) → widthFrom f 1 v ≡ n
+width-same f v n h one below above = wide-unique v (widthFrom f 1 v) n (width-wide f 1 v (lit≤ tt) h (inl refl)) (record { least = one; below = below; above = above })
 
 -- no number is written with more than 10 digits
 pub width-ten : (v : ℕ) → widthOf v ≤ 10

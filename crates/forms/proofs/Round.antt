@@ -170,7 +170,7 @@ module _ (form : Form) (text l : List ℕ) (e : readText form text ≡ good l) w
   read-follows : Follows form text
   read-follows = record { ordered = in-order; list = l; judged = read-good; written = rendered }
 
-good-read : (form : Form) (l : List ℕ) → judgeList form l ≡ good l → readText form (render form l) ≡ good l
+pub good-read : (form : Form) (l : List ℕ) → judgeList form l ≡ good l → readText form (render form l) ≡ good l
 good-read form l e =
     let p = then-good (judgeNumbers form l) (addUp form) l e in
     read-judged form l (p .0) (p .1) ∙ e

@@ -7,7 +7,7 @@ use Prim.Native.Nat.{ℕ}
 use lib.Dec.{T, eqb}
 use borrow.Author.Tests.{eqb-true}
 use Rattle.forms.specs.Line.{lines, onFirst}
-use Rattle.forms.proofs.Keys.{no-feeds}
+use Rattle.forms.specs.Turns.{no-feeds}
 
 flatten-first : (b : ℕ) (ls : List (List ℕ)) → flatten (onFirst b ls) ≡ b ∷ flatten ls
 unfolding flatten onFirst

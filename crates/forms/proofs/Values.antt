@@ -9,13 +9,13 @@ use lib.Dec.{T, ltb, eqb}
 use borrow.Author.Tests.{ne-eqb}
 use Rattle.forms.specs.Keys.{prefixOf}
 use Rattle.forms.specs.Line.{lines, isRemark, valuePart, decimalOf, hexOf, lineValue}
-use Rattle.forms.specs.Turns.{hashed}
+use Rattle.forms.specs.Turns.{hashed, no-feeds}
 use Rattle.forms.specs.Form.{isHex, hasRemarks}
 use Rattle.forms.specs.Write.{digitChar, digitsIn, widthOf, valueDigits, lineOf}
 use Rattle.forms.specs.declared.form.Form.{Form}
 use Rattle.forms.specs.declared.form.Range.{Range}
 use Rattle.forms.specs.declared.form.Field.the-variants.{Line}
-use Rattle.forms.proofs.Keys.{no-feeds, key-no-feed, key-real}
+use Rattle.forms.proofs.Keys.{key-no-feed, key-real}
 use Rattle.forms.proofs.Lines.{own-part, part-line}
 use Rattle.forms.proofs.Numbers.{some-digits, decimal-digits, hex-digits, digits-decimal, digits-hex}
 use Rattle.forms.proofs.Texts.{lines-line}

@@ -1,7 +1,7 @@
 -- Reading line by line, as the readers' loop does, remarks passed over on the way. What a text is read as is defined in Read.antt;
 -- that both come to the same is `read-by-turns` in proofs/Remarks.antt.
 use Prim.Native.Nat.{ℕ, _+_}
-use mathlib.Core.Bool.{Bool, cond}
+use mathlib.Core.Bool.{Bool, true, cond, not, _&&_}
 use mathlib.Core.List.{List, [], _∷_, _++_}
 use mathlib.Core.Option.{Option, some, Option·elim}
 use lib.Dec.{eqb}
@@ -16,6 +16,11 @@ use Rattle.forms.specs.declared.form.Range.{Range}
 -- the value of a number in a list
 abbrev pub itself : ℕ → Range → ℕ → Option ℕ
 itself k r v = some v
+
+-- no byte is a line feed
+abbrev pub no-feeds : List ℕ → Bool
+no-feeds [] = true
+no-feeds (b ∷ l) = not (eqb b 10) && no-feeds l
 
 -- a line begins with `#`
 abbrev pub hashed : List ℕ → Bool

@@ -12,14 +12,14 @@ use Rattle.model.specs.Limits.{mostSteps, mostAmount}
 use Rattle.model.specs.Outcome.{Outcome, good, refused, noEvenPlan}
 use Rattle.model.specs.Net.{Net}
 use Rattle.model.specs.Scan.{Overload, step}
-use Rattle.model.specs.Rule.{missedRate, firstOverload, accepted}
+use Rattle.model.specs.Rule.{missedRate, missedRow, firstOverload, accepted}
 use Rattle.model.specs.Even.{evenRow, even, fewest, keepsScratch, stepBound}
 use Rattle.model.proofs.Searches.{option-cases, only-some, only-none, first-some, first-none, none-first, only-false}
 use Rattle.model.proofs.Choices as choices
 use Rattle.model.proofs.Rows.{Same, row-missed-same, overload-same, accepted-both, even-at, even-adds-up}
 use Rattle.model.proofs.Bounded as model
 use Rattle.lists.specs.Answers.{withRoom}
-use Rattle.lists.specs.Lists.{networkOf, planOf}
+use Rattle.lists.specs.Lists.{networkOf, planSizes, planOf}
 use Rattle.lists.specs.Good.{GoodNetwork}
 use Rattle.model.specs.Outcome.{andThen}
 use Rattle.lists.proofs.Rooms.{good-room}
@@ -109,20 +109,37 @@ module _ (l : List ℕ) (g : GoodNetwork l) (q : ℕ) (one : 1 ≤ q) (most : q 
   unfolding planOf even evenList
   even-same = record { parts = refl; steps = refl; at = λ a t ha hq ht. list-at (networkOf l) q a t ha hq ht }
 
-pub safe : (l p : List ℕ) → planned l ≡ good p → Safe l p
+-- it reaches the checker's steps, and overloads where the even plan does
+pub record EvenListed (l : List ℕ) (q : ℕ) : Type 0 where
+  pub judged : judgePlan (evenList (networkOf l) q) ≡ good (evenList (networkOf l) q)
+  pub tunnels : planSizes (evenList (networkOf l) q) .tunnels ≡ networkOf l .tunnels
+  pub rows : missedRow (networkOf l) (planOf (evenList (networkOf l) q)) ≡ none
+  pub overload : firstOverload (networkOf l) (planOf (evenList (networkOf l) q)) ≡ firstOverload (networkOf l) (even (networkOf l) q)
+
+pub even-listed : (l : List ℕ) → judgeNetwork l ≡ good l → (q : ℕ) → 1 ≤ q → q ≤ mostSteps → EvenListed l q
 unfolding networkOf
+even-listed l j q one most =
+    let g = good-network l l j .1 in
+    let s = even-same l g q one most in
+    record {
+      judged = even-judged l g q one most;
+      tunnels = list-head (networkOf l) q .3;
+      rows = row-missed-same (networkOf l) _ _ s ∙ even-adds-up (networkOf l) q (g .sums);
+      overload = overload-same (networkOf l) _ _ s;
+    }
+
+pub safe : (l p : List ℕ) → planned l ≡ good p → Safe l p
 safe l p e =
     let m = made l p e in
     let N = networkOf l in
     let f = model.fewest-some N (m .steps) (m .fewest) in
-    let a = accepted-both N (even N (m .steps)) .0 (f .2) in
-    let s = even-same l (m .network) (m .steps) (f .0) (f .1) in
-    let none-over = overload-same N _ _ s ∙ a .1 in
+    let s = even-listed l (m .judged) (m .steps) (f .0) (f .1) in
+    let none-over = s .overload ∙ accepted-both N (even N (m .steps)) .0 (f .2) .1 in
     rw (m .list) (record {
       network = m .judged;
-      judged = even-judged l (m .network) (m .steps) (f .0) (f .1);
-      tunnels = list-head N (m .steps) .3;
-      rows = row-missed-same N _ _ s ∙ a .0;
+      judged = s .judged;
+      tunnels = s .tunnels;
+      rows = s .rows;
       overload = none-over;
       choices = choices.safe N _ none-over;
     })

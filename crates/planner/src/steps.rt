@@ -38,7 +38,8 @@ fn end_load(table: &[u64], q: u64, link: usize) -> u64
     let old = table[link];
     let new = table[sums::NEW_AT + link];
     let most = sums::larger(old, new);
-    (q - 1) * most + table[sums::PEAK_AT + link]
+    let peak = table[sums::PEAK_AT + link];
+    (q - 1) * most + peak
 }
 
 // Is the even plan of q steps accepted?

@@ -15,8 +15,8 @@ use Rattle.bound.specs.Bound.{boundOf}
 use Rattle.forms.specs.Form.{networkBody, fieldOf}
 use Rattle.forms.specs.Read.{walk, judgeNumbers, addUp}
 use Rattle.planner.specs.Planned.{evenList, stuck, evenPlan, planned}
-use Rattle.product.specs.Edges.{edges, same, hold}
+use Rattle.product.specs.Edges.{edges, same, numbers, hold}
 
 pub edges-hold : hold edges ≡ true
-unfolding edges same hold boundOf stepBound ceilDiv planned evenPlan Option·elim flatten stuck evenList listed judgeNumbers walk fieldOf networkBody addUp networkSizes linkAt flowAt tunnelAt networkOf planOf missedRate missedBy missedRow missedIn flowSum fewest accepted even evenRow firstOverload stepCount scan testLink test worstOver exceeds load counts worst onLink crosses mark row sumOver onlyIf isNone orElse first
+unfolding edges same numbers hold boundOf stepBound ceilDiv planned evenPlan Option·elim flatten stuck evenList listed judgeNumbers walk fieldOf networkBody addUp networkSizes linkAt flowAt tunnelAt networkOf planOf missedRate missedBy missedRow missedIn flowSum fewest accepted even evenRow firstOverload stepCount scan testLink test worstOver exceeds load counts worst onLink crosses mark row sumOver onlyIf isNone orElse first
 edges-hold = refl

@@ -1,3 +1,4 @@
 pub mod Causes
 pub mod Main
+pub mod Plans
 pub mod Edges

@@ -47,7 +47,7 @@ room-planned (refused c place second) room k e = let z : _≡_ {A = ℕ} 0 1 = c
 same-front : (p q : List ℕ) (out : List ℕ) → length q ≡ length p → q ++ drop (length q) out ≡ p ++ drop (length p) out → q ≡ p
 same-front p q out e h = sym (take-append-seam q (drop (length q) out)) ∙ ap₂ (λ (n : ℕ) (l : List ℕ). take n l) e h ∙ take-append-seam p (drop (length p) out)
 
-done-none : (n : List ℕ) (o : Outcome (Option Overload)) (k : ℕ) → checked n o ≡ Done k → o ≡ good none
+pub done-none : (n : List ℕ) (o : Outcome (Option Overload)) (k : ℕ) → checked n o ≡ Done k → o ≡ good none
 done-none n (good none) k e = refl
 done-none n (good (some w)) k e = let z : _≡_ {A = ℕ} 0 1 = cc in absurd (omega arith)
 done-none n (refused c place second) k e = let z : _≡_ {A = ℕ} 0 1 = cc in absurd (omega arith)
@@ -116,13 +116,17 @@ bounded : (n : List ℕ) → Valid Form.Network n → keepsScratch (networkOf n)
     → (p : List ℕ) × (planOf p .steps ≤ stepBound (networkOf n .scratch) (networkOf n .overrun)) × ((out : List ℕ) → length p ≤ length out → Returns n p out)
 bounded n v k = let b = planner.claim .bounded n (valid Form.Network n v) k in (b .0, b .3, λ out h. returned n (b .0) out (b .1) h)
 
+-- and what the planner returns is what it comes to
+pub returns-planned : (n p out : List ℕ) → Returns n p out → planned n ≡ good p
+returns-planned n p out r =
+    let w = room-planned (planned n) (length out) (length p) (r .0) in
+    let q : w .0 ≡ p = same-front p (w .0) out (w .3) (sym (ap (λ (o : Outcome (List ℕ)). lent o out) (w .2)) ∙ r .1) in
+    w .1 ∙ ap good q
+
 pub demand3 : Demand3
 unfolding stepBound
 demand3 = record {
-  planner = λ n out p r.
-      let w = room-planned (planned n) (length out) (length p) (r .0) in
-      let q : w .0 ≡ p = same-front p (w .0) out (w .3) (sym (ap (λ (o : Outcome (List ℕ)). lent o out) (w .2)) ∙ r .1) in
-      planner.claim .safe n p (w .1 ∙ ap good q) .choices;
+  planner = λ n out p r. planner.claim .safe n p (returns-planned n p out r) .choices;
   checker = λ n p marks k e. checker .safe n p (length marks) (done-none n (verdict n p (length marks)) k e);
   marked = λ n p marks b a l e.
       let o = over n (verdict n p (length marks)) b a l (verdict-all n p (length marks)) e in

@@ -5,43 +5,53 @@ use mathlib.Core.List.{List, [], _∷_, _++_}
 use lib.Dec.{eqb}
 use lib.ListN.{length}
 use Rattle.model.specs.Outcome.{Outcome, good, refused, number}
-use Rattle.lists.specs.Lists.{planOf}
+use Rattle.lists.specs.Lists.{planOf, mostPlan}
+use Rattle.lists.specs.Answers.{withRoom, plan, lent}
 use Rattle.lists.specs.declared.Answer.{Answer}
 use Rattle.lists.specs.declared.Answer.the-variants.{Done, Plan, Refused}
 use Rattle.bound.specs.Bound.{boundOf}
 use Rattle.planner.specs.Planned.{planned}
 use Rattle.checker.specs.Check.{verdict, checked, marksAfter}
 
+-- what a row tells: the step bound; or an answer, done, a plan or a refusal, with its numbers, and a list that goes with it
+pub data Told : Type 0 where
+  bounds : ℕ → Told
+  done plans : ℕ → List ℕ → Told
+  refuses : ℕ → ℕ → ℕ → List ℕ → Told
+
+abbrev told : Answer → List ℕ → Told
+told (Done n) l = done n l
+told (Plan n) l = plans n l
+told (Refused m place second) l = refuses m place second l
+
 -- what is computed, and what the paper says
 pub record Edge : Type 0 where
-  pub got : List ℕ
-  pub said : List ℕ
+  pub got : Told
+  pub said : Told
 
 -- the step bound of scratch and no overrun
-abbrev bound : ℕ → List ℕ
+abbrev bound : ℕ → Told
 bound scratch = by (boundOf scratch 0)
   where
-    by : Outcome ℕ → List ℕ
-    by (good q) = q ∷ []
-    by (refused c place second) = number c ∷ place ∷ second ∷ []
+    by : Outcome ℕ → Told
+    by (good q) = bounds q
+    by (refused c place second) = refuses (number c) place second []
 
--- the number on the returned plan's `steps` line, or the refusal
-abbrev steps : List ℕ → List ℕ
-steps network = by (planned network)
+-- the planner's answer, given room, and the number on the plan's `steps` line
+abbrev steps : List ℕ → Told
+steps network = told (plan (withRoom mostPlan (planned network))) (by (planned network))
   where
     by : Outcome (List ℕ) → List ℕ
     by (good p) = planOf p .steps ∷ []
-    by (refused c place second) = number c ∷ place ∷ second ∷ []
+    by (refused c place second) = []
 
--- the checker's answer to a plan, and the marks of so many tunnels
-abbrev check : List ℕ → List ℕ → List ℕ → List ℕ
-check network plan marks =
-    by (checked network (verdict network plan (length marks))) ++ marksAfter network plan (verdict network plan (length marks)) marks
-  where
-    by : Answer → List ℕ
-    by (Done n) = n ∷ []
-    by (Plan n) = n ∷ []
-    by (Refused m place second) = m ∷ place ∷ second ∷ []
+-- the planner's answer, and the whole of the output afterwards
+abbrev make : List ℕ → List ℕ → Told
+make network out = told (plan (withRoom (length out) (planned network))) (lent (withRoom (length out) (planned network)) out)
+
+-- the checker's answer to a plan, and the marks afterwards
+abbrev check : List ℕ → List ℕ → List ℕ → Told
+check network p marks = told (checked network (verdict network p (length marks))) (marksAfter network p (verdict network p (length marks)) marks)
 
 -- the paper's session, with other caps, classes and overrun: scratch, links, flows and tunnels; caps; classes and rates; flow, via, old and new
 abbrev swap : ℕ → ℕ → ℕ → List ℕ
@@ -56,37 +66,38 @@ longer = 1 ∷ 333 ∷ 0 ∷ 2 ∷ 1 ∷ 2 ∷ 15 ∷ 15 ∷ 0 ∷ 10 ∷ 0 ∷ 
 abbrev oneStep : ℕ → List ℕ
 oneStep tunnels = 1 ∷ 1 ∷ 1 ∷ tunnels ∷ []
 
-abbrev edge : List ℕ → List ℕ → Edge
+abbrev edge : Told → Told → Edge
 edge got said = record { got = got; said = said }
 
 unfoldable pub edges : List Edge
 edges =
     -- P1
-    edge (bound 500) (1 ∷ [])
-    ∷ edge (bound 334) (2 ∷ [])
-    ∷ edge (bound 333) (3 ∷ [])
-    ∷ edge (bound 100) (9 ∷ [])
-    ∷ edge (bound 20) (49 ∷ [])
+    edge (bound 500) (bounds 1)
+    ∷ edge (bound 334) (bounds 2)
+    ∷ edge (bound 333) (bounds 3)
+    ∷ edge (bound 100) (bounds 9)
+    ∷ edge (bound 20) (bounds 49)
     -- P2 to P6
-    ∷ edge (steps (swap 20 0 0)) (1 ∷ [])
-    ∷ edge (steps (swap 19 0 0)) (2 ∷ [])
-    ∷ edge (steps (swap 15 0 0)) (2 ∷ [])
-    ∷ edge (steps (swap 14 0 0)) (3 ∷ [])
-    ∷ edge (steps (swap 11 0 0)) (10 ∷ [])
+    ∷ edge (steps (swap 20 0 0)) (plans 4 (1 ∷ []))
+    ∷ edge (steps (swap 19 0 0)) (plans 8 (2 ∷ []))
+    ∷ edge (steps (swap 15 0 0)) (plans 8 (2 ∷ []))
+    ∷ edge (steps (swap 14 0 0)) (plans 12 (3 ∷ []))
+    ∷ edge (steps (swap 11 0 0)) (plans 40 (10 ∷ []))
     -- P7
-    ∷ edge (steps (swap 10 0 0)) (9 ∷ 1 ∷ 0 ∷ [])
+    ∷ edge (steps (swap 10 0 0)) (refuses 9 1 0 [])
     -- P8 and P9; of class 0, P8's network has no plan: protected traffic is not let into the overrun
-    ∷ edge (steps (swap 10 2 100)) (10 ∷ [])
-    ∷ edge (steps (swap 10 2 20)) (50 ∷ [])
-    ∷ edge (steps (swap 10 0 100)) (9 ∷ 1 ∷ 0 ∷ [])
+    ∷ edge (steps (swap 10 2 100)) (plans 40 (10 ∷ []))
+    ∷ edge (steps (swap 10 2 20)) (plans 200 (50 ∷ []))
+    ∷ edge (steps (swap 10 0 100)) (refuses 9 1 0 [])
     -- P10
-    ∷ edge (check (swap 15 0 0) (oneStep 4) (9 ∷ 9 ∷ 9 ∷ 9 ∷ [])) (7 ∷ 1 ∷ 0 ∷ 0 ∷ 0 ∷ 0 ∷ 1 ∷ [])
+    ∷ edge (check (swap 15 0 0) (oneStep 4) (9 ∷ 9 ∷ 9 ∷ 9 ∷ [])) (refuses 7 1 0 (0 ∷ 0 ∷ 0 ∷ 1 ∷ []))
     -- P11
-    ∷ edge (check longer (oneStep 2) (9 ∷ 9 ∷ [])) (7 ∷ 1 ∷ 0 ∷ 0 ∷ 1 ∷ [])
-    -- P12
-    ∷ edge (steps (1 ∷ 333 ∷ 0 ∷ 1 ∷ 0 ∷ 0 ∷ 15 ∷ [])) (1 ∷ [])
-    -- the session's plan is accepted, and its marks are then 0
-    ∷ edge (check (swap 15 0 0) (1 ∷ 2 ∷ 2 ∷ 4 ∷ 10 ∷ 10 ∷ 10 ∷ 10 ∷ []) (9 ∷ 9 ∷ 9 ∷ 9 ∷ 9 ∷ [])) (4 ∷ 0 ∷ 0 ∷ 0 ∷ 0 ∷ 9 ∷ [])
+    ∷ edge (check longer (oneStep 2) (9 ∷ 9 ∷ [])) (refuses 7 1 0 (0 ∷ 1 ∷ []))
+    -- P12: the whole list, and a number after it that stays
+    ∷ edge (make (1 ∷ 333 ∷ 0 ∷ 1 ∷ 0 ∷ 0 ∷ 15 ∷ []) (9 ∷ 9 ∷ 9 ∷ 9 ∷ 9 ∷ [])) (plans 4 (1 ∷ 1 ∷ 1 ∷ 0 ∷ 9 ∷ []))
+    -- the session: its whole plan, which is accepted, and the marks are then 0
+    ∷ edge (make (swap 15 0 0) (9 ∷ 9 ∷ 9 ∷ 9 ∷ 9 ∷ 9 ∷ 9 ∷ 9 ∷ [])) (plans 8 (1 ∷ 2 ∷ 2 ∷ 4 ∷ 10 ∷ 10 ∷ 10 ∷ 10 ∷ []))
+    ∷ edge (check (swap 15 0 0) (1 ∷ 2 ∷ 2 ∷ 4 ∷ 10 ∷ 10 ∷ 10 ∷ 10 ∷ []) (9 ∷ 9 ∷ 9 ∷ 9 ∷ 9 ∷ [])) (done 4 (0 ∷ 0 ∷ 0 ∷ 0 ∷ 9 ∷ []))
     ∷ []
 
 unfoldable pub same : List ℕ → List ℕ → Bool
@@ -95,6 +106,13 @@ same [] (y ∷ ys) = false
 same (x ∷ xs) [] = false
 same (x ∷ xs) (y ∷ ys) = eqb x y && same xs ys
 
+-- a row as numbers, its kind first
+unfoldable pub numbers : Told → List ℕ
+numbers (bounds q) = 0 ∷ q ∷ []
+numbers (done n l) = 1 ∷ n ∷ l
+numbers (plans n l) = 2 ∷ n ∷ l
+numbers (refuses m place second l) = 3 ∷ m ∷ place ∷ second ∷ l
+
 unfoldable pub hold : List Edge → Bool
 hold [] = true
-hold (e ∷ es) = same (e .got) (e .said) && hold es
+hold (e ∷ es) = same (numbers (e .got)) (numbers (e .said)) && hold es

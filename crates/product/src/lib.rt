@@ -1,7 +1,8 @@
 // The seven operations, under their public names. Each has no precondition: its promise holds for all arguments.
 ghost use mathlib.Core.Path.{_≡_};
 ghost use lib.ListN.{length};
-ghost use Rattle.lists.specs.Answers.{withRoom, done, plan, lent};
+ghost use Rattle.lists.specs.Answers as answers;
+ghost use Rattle.lists.specs.Answers.{withRoom, done, lent};
 ghost use Rattle.planner.specs.Planned.{planned};
 ghost use Rattle.checker.specs.Check.{verdict, checked, marksAfter};
 ghost use Rattle.bound.specs.Bound.{boundOf, told};
@@ -45,7 +46,7 @@ pub fn write_plan(list: &[u64], out: &mut [u8]) -> Answer
 
 // Makes the even plan of fewest steps for a network's list.
 pub fn make_plan(network: &[u64], out: &mut [u64]) -> Answer
-    ensures { λ r. ⌜ r ≡ plan (withRoom (length (now (out .entry))) (planned (now (network .entry)))) ⌝ }
+    ensures { λ r. ⌜ r ≡ answers.plan (withRoom (length (now (out .entry))) (planned (now (network .entry)))) ⌝ }
     ensures { λ _. ⌜ now (out .exit) ≡ lent (withRoom (length (now (out .entry))) (planned (now (network .entry)))) (now (out .entry)) ⌝ }
 {
     planner::make_plan(network, out)

@@ -12,7 +12,7 @@ use lib.Seq.{paste-suc, length-take-le}
 use borrow.Author.Tests.{eq-eqb, ne-eqb, eqb-true}
 use Rattle.forms.specs.Line.{lines, onFirst, valuePart, beforeFeed}
 use Rattle.model.proofs.Searches.{both}
-use Rattle.forms.proofs.Keys.{no-feeds}
+use Rattle.forms.specs.Turns.{no-feeds}
 use Rattle.forms.proofs.Lines.{part-line}
 use Rattle.forms.proofs.Walks.{step}
 use Rattle.readers.specs.Line.{lineLen, firstLine, prefixed}

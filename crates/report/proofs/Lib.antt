@@ -1,1 +1,4 @@
 pub mod Room
+pub mod Decimals
+pub mod Answered
+pub mod Composed

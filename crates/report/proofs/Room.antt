@@ -25,7 +25,7 @@ use Rattle.forms.specs.Named.{readNetwork, readPlan, judgePlan}
 
 -- ---- there is room
 
-fits : (room : ℕ) (o : Outcome (List ℕ)) → ((l : List ℕ) → o ≡ good l → length l ≤ room) → withRoom room o ≡ o
+pub fits : (room : ℕ) (o : Outcome (List ℕ)) → ((l : List ℕ) → o ≡ good l → length l ≤ room) → withRoom room o ≡ o
 fits room (good l) h = good-room room l (h l refl)
 fits room (refused c place second) h = refl
 

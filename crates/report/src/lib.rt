@@ -1,13 +1,37 @@
-// What the two programs share: how they print a refusal.
-use libc::STDOUT_FILENO;
+// What the two programs share: the lines of a refusal.
+ghost use Prim.Native.Nat.{_+_, _≤_};
+ghost use lib.ListN.{length};
+ghost use Rattle.writers.specs.Write.{Puts};
+ghost use Rattle.report.specs.Printed.{decimal, printedLine, refusalLines};
+use writers::write;
 
-// The lines of a refusal: "it prints the lines `refused=`, `place=`, `second=` instead".
-pub fn print_refusal(number: u64, place: u64, second: u64) {
-    io::write_all(STDOUT_FILENO, b"refused=");
-    io::print_decimal(STDOUT_FILENO, number);
-    io::write_all(STDOUT_FILENO, b"\nplace=");
-    io::print_decimal(STDOUT_FILENO, place);
-    io::write_all(STDOUT_FILENO, b"\nsecond=");
-    io::print_decimal(STDOUT_FILENO, second);
-    io::write_all(STDOUT_FILENO, b"\n");
+// Puts a number in decimal at a place. This and the functions below answer the place past what they put.
+fn put_decimal(out: &mut [u8], at: usize, v: u64) -> usize
+    requires { ⌜ at + 20 ≤ length (now out) ⌝ }
+    ensures { λ r. ⌜ Puts (decimal v) at (now (out .entry)) (now (out .exit)) r ⌝ }
+{
+    let mut digits = [0u8; 20];
+    let count = io::decimal(v, &mut digits);
+    write::put(out, at, &digits[..count])
+}
+
+// Puts a line: a key and a number.
+fn put_line(out: &mut [u8], at: usize, key: &[u8], v: u64) -> usize
+    requires { ⌜ at + length (now key) + 21 ≤ length (now out) ⌝ }
+    ensures { λ r. ⌜ Puts (printedLine (now (key .entry)) v) at (now (out .entry)) (now (out .exit)) r ⌝ }
+{
+    let from = write::put(out, at, key);
+    let feed = put_decimal(out, from, v);
+    out[feed] = b'\n';
+    feed + 1
+}
+
+// Puts the lines of a refusal at the front. They have at most 84 bytes: the keys, three numbers of at most 20 digits and the line feeds.
+pub fn put_refusal(out: &mut [u8], number: u64, place: u64, second: u64) -> usize
+    requires { ⌜ 84 ≤ length (now out) ⌝ }
+    ensures { λ r. ⌜ Puts (refusalLines number place second) 0 (now (out .entry)) (now (out .exit)) r ⌝ }
+{
+    let place_at = put_line(out, 0, b"refused=", number);
+    let second_at = put_line(out, place_at, b"place=", place);
+    put_line(out, second_at, b"second=", second)
 }

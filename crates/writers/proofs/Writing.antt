@@ -55,7 +55,7 @@ placed-none : (out : List ℕ) (at : ℕ) → out ≡ placed out at []
 unfolding placed
 placed-none out at = sym (rw add-zero (take-append-drop at out))
 
-placed-front : (out s : List ℕ) → placed out 0 s ≡ s ++ drop (length s) out
+pub placed-front : (out s : List ℕ) → placed out 0 s ≡ s ++ drop (length s) out
 unfolding placed
 placed-front out s = rw zero-add
 

@@ -174,7 +174,7 @@ fn plan_needed(list: &[u64], room: usize) -> usize
 }
 
 // Puts some bytes at a place. This and the functions below answer the place past what they put.
-fn put(out: &mut [u8], at: usize, s: &[u8]) -> usize
+pub fn put(out: &mut [u8], at: usize, s: &[u8]) -> usize
     requires { ⌜ at + length (now s) ≤ length (now out) ⌝ }
     ensures { λ r. ⌜ Puts (now (s .entry)) at (now (out .entry)) (now (out .exit)) r ⌝ }
 {

@@ -15,7 +15,7 @@ use Rattle.lists.specs.declared.Answer.{Answer}
 use Rattle.forms.proofs.Answers.{NotDone}
 use Rattle.checker.specs.Check.{verdict, checked}
 use Rattle.report.proofs.Room.{network-fits, plan-fits, Given, given-done}
-use Rattle.check_plan.specs.Printed.{onRead, checkTexts}
+use Rattle.report.specs.Printed.{onRead, checkTexts}
 use Rattle.check_plan.proofs.check_texts.Statement.{statement}
 use Rattle.check_plan.proofs.check_texts.Tie as tie
 use Rattle.forms.specs.Named.{readNetwork, readPlan}

@@ -12,7 +12,7 @@ use Rattle.lists.specs.declared.Answer.{Answer}
 use Rattle.forms.proofs.Answers.{refused-then, refused-room}
 use Rattle.planner.specs.Planned.{planned}
 use Rattle.report.proofs.Room.{network-fits, planned-fits, Given, given-done, given-plan, plan-refused}
-use Rattle.make_plan.specs.Printed.{planText}
+use Rattle.report.specs.Printed.{planText}
 use Rattle.make_plan.proofs.plan_text.Statement.{statement}
 use Rattle.make_plan.proofs.plan_text.Tie as tie
 use Rattle.forms.specs.Named.{readNetwork, writePlan}

@@ -1,6 +1,6 @@
 -- `checker::steps::over` meets its contract.
-use Prim.Native.Nat.{ℕ, _≤_, _<_}
-use mathlib.Core.Path.{_≡_, ap}
+use Prim.Native.Nat.{ℕ, _*_, _≤_, _<_}
+use mathlib.Core.Path.{_≡_, ap, _∙_}
 use mathlib.Core.List.{List}
 use lib.ListN.{getD}
 use Rattle.model.specs.Limits.{mostLinks, mostTunnels}
@@ -10,12 +10,16 @@ use Rattle.lists.specs.Lists.{at, networkSizes, networkOf}
 use Rattle.lists.specs.declared.Network as counts
 use Rattle.lists.proofs.Positions.{LinkPlace, link-place, limited, head-in, head-size}
 use Rattle.checker.proofs.Laws.{small-at}
-use Rattle.checker.proofs.Good.{room-small, overrun-small, most-small}
-use Rattle.checker.proofs.Overloads.{over-7, over-8, over-0}
+use Rattle.checker.proofs.Good.{room-small, overrun-small}
+use Rattle.checker.proofs.Overloads.{over-same}
 use native.Mathlib.Omega.{arith}
 use borrow.Author.Needs.{needs}
 use Rattle.checker.proofs.steps.over.Statement.{statement}
 use Rattle.checker.proofs.steps.over.Tie as tie
+use Rattle.checker.proofs.columns.load.Reads as load-reads
+use Rattle.checker.proofs.steps.refusal_number.Reads as refusal-number-reads
+use Rattle.lists.proofs.Network.link_at.Reads as link-at-reads
+use Rattle.lists.proofs.Network.of.Reads as of-reads
 
 -- the network's own sizes
 module _ (c : tie.After-of) where
@@ -74,40 +78,25 @@ mul-room-2 c = let p = c .before in record { fits = omega (arith, room-small _ (
 load-requires : tie.Need-load-requires
 load-requires c κs = let s = loads (c .before .before .before) in search needs
 
+load-requires-2 : tie.Need-load-requires-2
+load-requires-2 c κs = let s = loads (c .before .before .before .before) in search needs
+
+refusal-number-requires : tie.Need-refusal-number-requires
+unfolding networkOf
+refusal-number-requires c κs = let p = c .before .before .before in
+    let s = p .before .before in
+    let g = begin s .pre .0 .0 in (
+      omega (arith, room-small _ g _ (begin s .args .parts) _ (place p .there) (cap-at p) (begin s .pre .0 .2)),
+      omega (arith, overrun-small _ g),
+      c .before .load .ensures .1,
+      c .load2 .ensures .1,
+    )
+
 returns : tie.Need-returns
 unfolding networkOf
-returns c =
-    let s = c .before .before .before .before .before in
-    let p = c .before .before .before in
-    over-7 (N s) _ (c .before .before .before .before .before .before .before .before .before .before .args .l) _ (linkSum (c .before .before .before .before .before .before .before .before .before .before .args .vias .now) (c .before .before .before .before .before .before .before .before .before .before .args .all .now) (networkSizes (list s) .tunnels) (c .before .before .before .before .before .before .before .before .before .before .args .l)) _ (rw (tunnels s) at (c .before .load .ensures .0)) (rw (cap-at p) at (c .if1 .taken))
-
-add-if2 : tie.Need-add-if2
-unfolding networkOf
-add-if2 c = record { fits = omega (arith, overrun-small _ (c .before .before .before .before .before .before .before .before .before .before .pre .0 .0)) }
-
-mul-if2 : tie.Need-mul-if2
-unfolding networkOf
-mul-if2 c = let p = c .before .before .before in record { fits = omega (arith, most-small _ (c .before .before .before .before .before .before .before .before .before .before .pre .0 .0) _ (c .before .before .before .before .before .before .before .before .before .before .args .parts) _ (place p .there) (cap-at p) (c .before .before .before .before .before .before .before .before .before .before .pre .0 .2)) }
-
-load-requires-2 : tie.Need-load-requires-2
-load-requires-2 c κs = let s = loads (c .before .before .before .before .before) in search needs
-
-mul-if2-2 : tie.Need-mul-if2-2
-mul-if2-2 c = search needs
-
-returns-2 : tie.Need-returns-2
-unfolding networkOf
-returns-2 c =
-    let s = c .before .before .before .before .before .before .before in
-    let p = c .before .before .before .before .before in
-    over-8 (N s) _ (c .before .before .before .before .before .before .before .before .before .before .before .before .args .l) _ _ _ _ (rw (tunnels s) at (c .before .before .before .load .ensures .0)) (rw (tunnels s) at (c .before .load2 .ensures .0)) (rw (cap-at p) at (c .before .before .if1 .left)) (rw (cap-at p) at (c .if2 .taken))
-
-returns-3 : tie.Need-returns-3
-unfolding networkOf
-returns-3 c =
-    let s = c .before .before .before .before .before .before .before in
-    let p = c .before .before .before .before .before in
-    over-0 (N s) _ (c .before .before .before .before .before .before .before .before .before .before .before .before .args .l) _ _ _ _ (rw (tunnels s) at (c .before .before .before .load .ensures .0)) (rw (tunnels s) at (c .before .load2 .ensures .0)) (rw (cap-at p) at (c .before .before .if1 .left)) (rw (cap-at p) at (c .if2 .left))
+returns c = let p = c .before .before .before .before in
+    let s = p .before .before in
+    c .refusal-number .ensures ∙ over-same (N s) _ _ _ _ _ _ _ (ap (λ (k : ℕ). begin s .args .parts * k) (cap-at p)) (rw (tunnels s) at (c .before .before .load .ensures .0)) (rw (tunnels s) at (c .before .load2 .ensures .0))
 
 pub over-spec : {M : Type 1} → statement M
 over-spec =
@@ -120,10 +109,6 @@ over-spec =
     shared-slice-read-room
     mul-room-2
     load-requires
-    returns
-    add-if2
-    mul-if2
     load-requires-2
-    mul-if2-2
-    returns-2
-    returns-3)
+    refusal-number-requires
+    returns)

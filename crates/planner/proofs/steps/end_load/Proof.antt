@@ -27,6 +27,15 @@ shared-slice-read-new c = search needs
 larger-requires : tie.Need-larger-requires
 larger-requires c κs = search needs
 
+add-peak : tie.Need-add-peak
+add-peak c = search needs
+
+mul-peak : tie.Need-mul-peak
+mul-peak c = search needs
+
+shared-slice-read-peak : tie.Need-shared-slice-read-peak
+shared-slice-read-peak c = search needs
+
 sub-result : tie.Need-sub-result
 sub-result c = search needs
 
@@ -37,22 +46,18 @@ most-product c =
     (omega (arith, c .larger .ensures, a .pre .0 .most Part.old (a .args .link) (a .pre .3), a .pre .0 .most Part.new (a .args .link) (a .pre .3)))
 
 mul-result : tie.Need-mul-result
-mul-result c = record { fits = omega (arith, most-product c) }
+mul-result c = record { fits = omega (arith, most-product (c .before)) }
 
 add-result : tie.Need-add-result
-add-result c = search needs
-
-mul-result-2 : tie.Need-mul-result-2
-mul-result-2 c = search needs
-
-shared-slice-read-result : tie.Need-shared-slice-read-result
-shared-slice-read-result c = search needs
-
-add-result-2 : tie.Need-add-result-2
-add-result-2 c = record { fits = omega (arith, most-product (c .before), c .before .before .before .before .before .pre .0 .most Part.peak (c .before .before .before .before .before .args .link) (c .before .before .before .before .before .pre .3)) }
+add-result c =
+    let a = c .before .before .before .before .before in
+    let low = a .pre .0 .most in
+    record { fits = omega (arith, most-product (c .before), c .before .larger .ensures, low Part.old (a .args .link) (a .pre .3), low Part.new (a .args .link) (a .pre .3), low Part.peak (a .args .link) (a .pre .3)) }
 
 returns : tie.Need-returns
-returns c = ap (λ (m : ℕ). (c .before .before .before .before .before .args .q - 1) * m + at (c .before .before .before .before .before .args .table .now) (128 + c .before .before .before .before .before .args .link)) (c .before .larger .ensures)
+returns c =
+    let a = c .before .before .before .before .before in
+    ap (λ (m : ℕ). (a .args .q - 1) * m + at (a .args .table .now) (128 + a .args .link)) (c .before .larger .ensures)
 
 pub end-load-spec : {M : Type 1} → statement M
 end-load-spec =
@@ -64,10 +69,10 @@ end-load-spec =
     mul-new
     shared-slice-read-new
     larger-requires
+    add-peak
+    mul-peak
+    shared-slice-read-peak
     sub-result
     mul-result
     add-result
-    mul-result-2
-    shared-slice-read-result
-    add-result-2
     returns)
