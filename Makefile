@@ -7,9 +7,9 @@ PLAN ?= samples/swap/plan.txt
 CASES = 200000
 SEED = 20131008
 
-# Where `make install` puts things; DESTDIR is put before it, for packages.
-PREFIX = /usr/local
-DESTDIR =
+# Where `make install` puts things; DESTDIR is put before it, for packages. What the environment has for them stands.
+PREFIX ?= /usr/local
+DESTDIR ?=
 
 help:
 	@echo 'make test    prove every crate, try the must-fail edits, run every other test; the last line is the total'

@@ -2,7 +2,7 @@
 //! that is filled with a pattern, and all of the buffer is compared: what was written, what lies
 //! beyond it, and what lies around what was lent.
 
-use crate::Outcome;
+use crate::{Outcome, Reached};
 use compare::{inputs, LANDED};
 use pavuneshil::{Answer, Refusal, StepBound};
 use second::gen::Rng;
@@ -55,6 +55,22 @@ pub fn told(refusal: second::Refusal) -> Refusal {
         place: refusal.place,
         second: refusal.second,
     }
+}
+
+/// A refusal as the kinds of cases name it: its number and, where it has several causes, which.
+fn named(refusal: Refusal) -> String {
+    let cause = match (refusal.number, refusal.place, refusal.second) {
+        (1..=3, _, 0) => ", network",
+        (1..=3, _, 1) => ", plan",
+        (1..=3, _, _) => ", rules",
+        (4 | 18, _, 0) => ", old",
+        (4 | 18, _, _) => ", new",
+        (21, 0, 0) => ", count",
+        (21, 0, _) => ", rate",
+        (21, _, _) => ", demand",
+        _ => "",
+    };
+    format!("refusal {}{cause}", refusal.number)
 }
 
 /// A buffer with the pattern of this case.
@@ -120,18 +136,12 @@ fn convert<I: Copy + PartialEq + Debug, O: Copy + PartialEq + Debug>(
             }
         })
         .map_err(|why| format!("{name}: {why}: {input:?}"))?;
-    Ok(match expected {
-        Answer::Refused(refusal) => format!(
-            "{name}: refusal {}{}",
-            refusal.number,
-            if refusal.number == 10 {
-                room_name(room, needed.ok())
-            } else {
-                ""
-            }
-        ),
-        _ => format!("{name}: good{}", room_name(room, needed.ok())),
-    })
+    let answer = match expected {
+        Answer::Done(_) => "done".to_string(),
+        Answer::Plan(_) => "plan".to_string(),
+        Answer::Refused(refusal) => named(refusal),
+    };
+    Ok(Reached::one(name, &answer, room_name(room, needed.ok())))
 }
 
 fn number(n: u64) -> u64 {
@@ -234,18 +244,12 @@ pub fn check_plan(rng: &mut Rng) -> Outcome {
         }
     })
     .map_err(|why| format!("check_plan: {why}: {network:?} {plan:?}"))?;
-    Ok(match expected {
-        Answer::Refused(refusal) => format!(
-            "check_plan: refusal {}{}",
-            refusal.number,
-            if matches!(refusal.number, 7 | 8 | 10) {
-                room_name(room, Some(needed))
-            } else {
-                ""
-            }
-        ),
-        _ => format!("check_plan: good{}", room_name(room, Some(needed))),
-    })
+    let (answer, counts) = match expected {
+        Answer::Refused(refusal) => (named(refusal), matches!(refusal.number, 7 | 8 | 10)),
+        _ => ("done".to_string(), true),
+    };
+    let how = room_name(room, counts.then_some(needed));
+    Ok(Reached::one("check_plan", &answer, how))
 }
 
 pub fn step_bound(rng: &mut Rng) -> Outcome {
@@ -260,12 +264,12 @@ pub fn step_bound(rng: &mut Rng) -> Outcome {
             "step_bound({scratch}, {overrun}): {answer:?}, expected {expected:?}"
         ));
     }
-    Ok(match expected {
-        StepBound::Steps(_) => "step_bound: good".to_string(),
-        StepBound::Refused(refusal) => {
-            format!("step_bound: refusal 2 at line {}", refusal.place)
-        }
-    })
+    let answer = match expected {
+        StepBound::Steps(_) => "steps",
+        StepBound::Refused(refusal) if refusal.place == 2 => "refusal 2, scratch",
+        StepBound::Refused(_) => "refusal 2, overrun",
+    };
+    Ok(Reached::one("step_bound", answer, ""))
 }
 
 pub fn share(rng: &mut Rng) -> Outcome {
@@ -323,8 +327,6 @@ pub fn stage_rules(rng: &mut Rng) -> Outcome {
             Some(1) => "stage_rules, one stage",
             Some(_) => "stage_rules, more stages",
         },
-        Err(refusal) if refusal.number == 18 && refusal.second == 0 => "stage_rules, old set",
-        Err(refusal) if refusal.number == 18 => "stage_rules, new set",
         Err(_) => "stage_rules",
     };
     convert(

@@ -4,11 +4,14 @@
 //! earlier: it breaks that number's bound on the named link."
 
 use crate::call::told;
-use crate::Outcome;
+use crate::{Outcome, Reached};
 use compare::LANDED;
 use pavuneshil::{check_plan, make_plan, step_bound, Answer, Refusal, StepBound, PLAN_NUMBERS};
 use second::gen::*;
 use second::{choice_overloads, even_plan, first_by_choices, keeps_scratch};
+
+/// The name in the account.
+const NAME: &str = "every choice";
 
 /// Longer plans are not held against every choice.
 const STEPS: u64 = 10;
@@ -59,7 +62,7 @@ fn checker(network: &[u64], plan: &[u64]) -> Outcome {
         by_choices(network, plan),
     ) {
         (Answer::Done(length), None) if length == tunnels && marks.iter().all(|&m| m == 0) => {
-            Ok("every choice: accepted, none overloads".to_string())
+            Ok(Reached::one(NAME, "done", ", none overloads"))
         }
         (Answer::Refused(refusal), Some(first)) if refusal == first => {
             if marks.iter().any(|&m| m > 1) {
@@ -74,10 +77,8 @@ fn checker(network: &[u64], plan: &[u64]) -> Outcome {
                 broken.1
             };
             if shown {
-                Ok(format!(
-                    "every choice: refusal {}, the marks show it",
-                    refusal.number
-                ))
+                let answer = format!("refusal {}", refusal.number);
+                Ok(Reached::one(NAME, &answer, ", the marks show it"))
             } else {
                 Err(format!(
                     "{refusal:?}, but the marks {marks:?} show no overload"
@@ -112,11 +113,11 @@ fn planner(network: &[u64]) -> Outcome {
                 return Err("its plan is not accepted".to_string());
             }
             if network[2] != 0 || !keeps_scratch(network) {
-                return Ok("every choice: planned, fewest steps".to_string());
+                return Ok(Reached::one(NAME, "plan", ", fewest steps"));
             }
             match step_bound(network[1], 0) {
                 StepBound::Steps(most) if steps <= most => {
-                    Ok("every choice: planned, within the step bound".to_string())
+                    Ok(Reached::one(NAME, "plan", ", within the step bound"))
                 }
                 bound => Err(format!("{steps} steps, bound {bound:?}")),
             }
@@ -134,7 +135,7 @@ fn planner(network: &[u64]) -> Outcome {
                     return Err(format!("{refusal:?}, by choices {first:?}"));
                 }
             }
-            Ok("every choice: refusal 9, all 50 overload".to_string())
+            Ok(Reached::one(NAME, "refusal 9", ", all 50 overload"))
         }
         other => Err(format!("{other:?}")),
     }

@@ -3,7 +3,7 @@
 //! values, which the second implementation cannot be given, against a plain model of them.
 
 use crate::call::told;
-use crate::Outcome;
+use crate::{Outcome, Reached};
 use compare::LANDED;
 use pavuneshil::{Accepted, Desks, Handed, Refusal};
 use second::gen::{desk_calls, Call, Rng};
@@ -192,10 +192,10 @@ fn same(
     Ok(())
 }
 
-/// The calls one after the other. What came up: which refusals, and whether numbers returned to 1.
+/// The calls one after the other. What came up: which answers, and whether numbers returned to 1.
 fn hold(name: &str, start: Desks, mut beside: impl Beside, calls: &[Call]) -> Outcome {
     let mut desks = start;
-    let mut refusals = BTreeSet::new();
+    let mut answers = BTreeSet::new();
     let mut returned = "";
     for (i, &call) in calls.iter().enumerate() {
         let before = desks;
@@ -203,20 +203,26 @@ fn hold(name: &str, start: Desks, mut beside: impl Beside, calls: &[Call]) -> Ou
         let expected = beside.call(call);
         same(&before, &desks, call, answer, expected, &beside)
             .map_err(|why| format!("{name}, call {i}, {call:?}: {why}: {before:?}"))?;
-        if let Err(refusal) = answer {
-            refusals.insert(refusal.number);
-        }
+        answers.insert(match answer {
+            Ok(Good::Accepted(_)) => "accepted".to_string(),
+            Ok(Good::Job(_)) => "handed out".to_string(),
+            Err(refusal) => format!("refusal {}", refusal.number),
+        });
         // only a counter that returns gets smaller
         if (0..8).any(|desk| desks.counters[desk] < before.counters[desk]) {
             returned = ", numbers return to 1";
         }
     }
-    let refusals = match refusals.len() {
+    let refused = |answer: &&String| answer.starts_with("refusal");
+    let refusals = match answers.iter().filter(refused).count() {
         0 => "no refusal",
         3 => "refusals 12, 13 and 14",
         _ => "some of the refusals",
     };
-    Ok(format!("{name}: {refusals}{returned}"))
+    Ok(Reached {
+        answers: answers.into_iter().collect(),
+        account: format!("{name}: {refusals}{returned}"),
+    })
 }
 
 /// From the empty state, or from one in which each desk's last number is near the last there is, or
@@ -368,7 +374,8 @@ mod tests {
             (model.counters[2], model.last) = (counter, last);
             hold("desks", start, model, &calls)
         };
-        assert_eq!(with(0, 7), Ok("desks: no refusal".to_string()));
+        let account = with(0, 7).map(|reached| reached.account);
+        assert_eq!(account, Ok("desks: no refusal".to_string()));
         assert!(with(1, 7).is_err());
         assert!(with(0, 1).is_err());
         // one counter for all desks, as before request (x)

@@ -5,16 +5,18 @@
 //!
 //! A case is one call, or one network and plan held against every choice, or a run of calls of the
 //! desks. Case number i of a seed is always the same, whatever CASES is, so that `compare 1 SEED i`
-//! repeats it. The last line is 'N passed, M failed'.
+//! repeats it. The last line is 'N passed, M failed', in kinds of cases: a kind passes if none of
+//! its cases differs, and if of many cases some reached each answer that the operation can give.
 
 #![forbid(unsafe_code)]
 
 mod call;
 mod choices;
 mod desks;
+mod kinds;
 
+use kinds::{kind_of, Tally, KINDS};
 use second::gen::Rng;
-use std::collections::BTreeMap;
 use std::sync::atomic::{AtomicU64, Ordering};
 use std::time::Instant;
 
@@ -22,34 +24,40 @@ use std::time::Instant;
 const CASES: u64 = 200_000;
 const SEED: u64 = 20_131_008;
 
+/// From so many cases on, each kind has to reach all of its answers.
+const MANY: u64 = 100_000;
+
 /// So many failures are printed.
 const SHOWN: u64 = 20;
 
 /// Each thread takes so many cases at a time.
 const BATCH: u64 = 64;
 
-/// What a case came to: what it was, or what differs.
-pub type Outcome = Result<String, String>;
+/// What a case came to: what it reached, or what differs.
+pub type Outcome = Result<Reached, String>;
 
-/// One case. Every operation comes up, the cheap ones more often.
-fn case(seed: u64, number: u64) -> Outcome {
-    let mut rng = Rng::new(Rng::new(seed).any() ^ number.wrapping_mul(0xd134_2543_de82_ef95));
-    match number % 23 {
-        0..=2 => call::read_network(&mut rng),
-        3..=4 => call::read_plan(&mut rng),
-        5..=6 => call::write_network(&mut rng),
-        7..=8 => call::write_plan(&mut rng),
-        9..=10 => call::make_plan(&mut rng),
-        11..=13 => call::check_plan(&mut rng),
-        14 => call::step_bound(&mut rng),
-        15 => choices::hold(&mut rng),
-        16 => desks::from_empty(&mut rng),
-        17 => desks::from_any_parts(&mut rng),
-        18 => call::share(&mut rng),
-        19 => call::read_rules(&mut rng),
-        20 => call::write_rules(&mut rng),
-        _ => call::stage_rules(&mut rng),
+/// What a case that does not differ reached: the answers, as the kinds name them, and what is
+/// counted in the account.
+#[derive(Debug, PartialEq, Eq)]
+pub struct Reached {
+    pub answers: Vec<String>,
+    pub account: String,
+}
+
+impl Reached {
+    /// One answer, and how it came about.
+    pub fn one(name: &str, answer: &str, how: &str) -> Reached {
+        Reached {
+            answers: vec![answer.to_string()],
+            account: format!("{name}: {answer}{how}"),
+        }
     }
+}
+
+/// One case of a kind.
+fn case(kind: usize, seed: u64, number: u64) -> Outcome {
+    let mut rng = Rng::new(Rng::new(seed).any() ^ number.wrapping_mul(0xd134_2543_de82_ef95));
+    (KINDS[kind].case)(&mut rng)
 }
 
 fn main() {
@@ -61,45 +69,61 @@ fn main() {
     let (cases, seed, first) = (given(0, CASES), given(1, SEED), given(2, 0));
     let start = Instant::now();
     let next = AtomicU64::new(0);
-    let failed = AtomicU64::new(0);
+    let shown = AtomicU64::new(0);
     let threads = std::thread::available_parallelism().map_or(1, |n| n.get());
-    let mut seen: BTreeMap<String, u64> = BTreeMap::new();
+    let mut tallies = vec![Tally::default(); KINDS.len()];
     std::thread::scope(|scope| {
         let work = || {
-            let mut seen: BTreeMap<String, u64> = BTreeMap::new();
+            let mut tallies = vec![Tally::default(); KINDS.len()];
             loop {
                 let from = next.fetch_add(BATCH, Ordering::Relaxed);
                 if from >= cases {
-                    return seen;
+                    return tallies;
                 }
                 for number in from..(from + BATCH).min(cases) {
                     let number = first.wrapping_add(number);
-                    match case(seed, number) {
-                        Ok(what) => *seen.entry(what).or_insert(0) += 1,
-                        Err(why) => {
-                            if failed.fetch_add(1, Ordering::Relaxed) < SHOWN {
-                                println!("FAILED: case {number} of seed {seed}: {why}");
-                            }
+                    let kind = kind_of(number);
+                    let outcome = case(kind, seed, number);
+                    if let Err(why) = &outcome {
+                        if shown.fetch_add(1, Ordering::Relaxed) < SHOWN {
+                            println!("FAILED: case {number} of seed {seed}: {why}");
                         }
                     }
+                    tallies[kind].count(outcome);
                 }
             }
         };
         let running: Vec<_> = (0..threads).map(|_| scope.spawn(work)).collect();
         for thread in running {
-            for (what, count) in thread.join().expect("no case panics") {
-                *seen.entry(what).or_insert(0) += count;
+            let more = thread.join().expect("no case panics");
+            for (all, more) in tallies.iter_mut().zip(more) {
+                all.add(more);
             }
         }
     });
-    for (what, count) in &seen {
-        println!("{count:>9}  {what}");
+    let (mut passed, mut failed) = (0, 0);
+    for (kind, tally) in KINDS.iter().zip(&tallies) {
+        for (what, count) in &tally.account {
+            println!("{count:>9}  {what}");
+        }
+        let faults = kind.faults(tally, cases >= MANY);
+        for fault in &faults {
+            println!("FAILED: {}: {fault}", kind.name);
+        }
+        if !faults.is_empty() {
+            failed += 1;
+        } else if tally.cases > 0 {
+            passed += 1;
+        }
     }
-    let failed = failed.into_inner();
     println!(
-        "{cases} cases of seed {seed} in {:.1} s",
-        start.elapsed().as_secs_f64()
+        "{cases} cases of seed {seed} in {:.1} s, of which {} differ",
+        start.elapsed().as_secs_f64(),
+        shown.into_inner()
     );
-    println!("{} passed, {failed} failed", cases - failed);
-    std::process::exit(i32::from(failed > 0 || cases == 0));
+    if cases < MANY {
+        println!("fewer than {MANY} cases: not asserted that each answer is reached");
+    }
+    println!("{passed} passed, {failed} failed");
+    std::process::exit(i32::from(failed > 0 || passed == 0));
 }

@@ -4,7 +4,8 @@
 //!     programs OURS THEIRS [INPUTS [SEED]]
 //!
 //! OURS is the folder of `make_plan` and `check_plan`, THEIRS of `second-plan` and `second-check`.
-//! The last line is 'N passed, M failed'.
+//! Each program is one test, which passes if none of its inputs differs. The last line is
+//! 'N passed, M failed'.
 
 #![forbid(unsafe_code)]
 
@@ -54,6 +55,10 @@ enum Place {
 
 struct Run {
     room: PathBuf,
+    /// Of the program at hand.
+    inputs: u64,
+    differing: u64,
+    /// Of the programs before it.
     passed: u64,
     failed: u64,
 }
@@ -61,12 +66,12 @@ struct Run {
 impl Run {
     /// The two outputs are the same, and nobody says anything on the error stream.
     fn hold(&mut self, name: &str, ours: &Output, theirs: &Output) {
+        self.inputs += 1;
         let same = ours.stdout == theirs.stdout && ours.status == theirs.status;
         if same && ours.stderr.is_empty() && theirs.stderr.is_empty() {
-            self.passed += 1;
             return;
         }
-        self.failed += 1;
+        self.differing += 1;
         println!(
             "FAILED: {name}: {:?} {:?}, expected {:?} {:?}; error stream {:?}",
             ours.status,
@@ -75,6 +80,17 @@ impl Run {
             String::from_utf8_lossy(&theirs.stdout),
             String::from_utf8_lossy(&ours.stderr),
         );
+    }
+
+    /// A program has had all of its inputs.
+    fn ends(&mut self, name: &str) {
+        println!("{:>9}  {name}, {} differ", self.inputs, self.differing);
+        if self.inputs > 0 && self.differing == 0 {
+            self.passed += 1;
+        } else {
+            self.failed += 1;
+        }
+        (self.inputs, self.differing) = (0, 0);
     }
 
     fn program(&self, name: &str) -> Command {
@@ -202,6 +218,8 @@ fn main() {
     }
     let mut run = Run {
         room,
+        inputs: 0,
+        differing: 0,
         passed: 0,
         failed: 0,
     };
@@ -229,6 +247,7 @@ fn main() {
         let name = format!("make_plan, input {i} of seed {seed}, {way:?}");
         run.hold(&name, &outputs[0], &outputs[1]);
     }
+    run.ends("make_plan");
     for i in 0..count {
         let (network, mut plan) = texts(&mut rng);
         if i % 25 == 12 {
@@ -251,7 +270,8 @@ fn main() {
         let name = format!("check_plan, input {i} of seed {seed}, {places:?}");
         run.hold(&name, &outputs[0], &outputs[1]);
     }
+    run.ends("check_plan");
     let _ = fs::remove_dir_all(&run.room);
     println!("{} passed, {} failed", run.passed, run.failed);
-    std::process::exit(i32::from(run.failed > 0 || run.passed == 0));
+    std::process::exit(i32::from(run.failed > 0));
 }
