@@ -1,5 +1,6 @@
 //! Holds the two built programs against the second implementation's on the same inputs: what each
-//! prints, on standard output and on the error stream, and its status.
+//! prints on standard output, and its status. On the error stream ours says nothing, or that its
+//! answer could not be written, where standard output is closed; the second's says nothing.
 //!
 //!     programs OURS THEIRS [INPUTS [SEED]]
 //!
@@ -64,16 +65,16 @@ struct Run {
 }
 
 impl Run {
-    /// The two outputs are the same, and nobody says anything on the error stream.
-    fn hold(&mut self, name: &str, ours: &Output, theirs: &Output) {
+    /// The two outputs are the same, and on the error stream ours says what is expected of it.
+    fn hold(&mut self, name: &str, said: &str, ours: &Output, theirs: &Output) {
         self.inputs += 1;
         let same = ours.stdout == theirs.stdout && ours.status == theirs.status;
-        if same && ours.stderr.is_empty() && theirs.stderr.is_empty() {
+        if same && ours.stderr == said.as_bytes() && theirs.stderr.is_empty() {
             return;
         }
         self.differing += 1;
         println!(
-            "FAILED: {name}: {:?} {:?}, expected {:?} {:?}; error stream {:?}",
+            "FAILED: {name}: {:?} {:?}, expected {:?} {:?}; error stream {:?}, expected {said:?}",
             ours.status,
             String::from_utf8_lossy(&ours.stdout),
             theirs.status,
@@ -176,6 +177,15 @@ impl Run {
     }
 }
 
+/// What a program of ours says on the error stream.
+fn said(program: &str, output_closed: bool) -> String {
+    if output_closed {
+        format!("{program}: the answer could not be written\n")
+    } else {
+        String::new()
+    }
+}
+
 /// A text of a pair of lists that are mostly valid, or one damaged.
 fn texts(rng: &mut Rng) -> (Vec<u8>, Vec<u8>) {
     let (network, plan) = inputs::pair(rng);
@@ -245,7 +255,8 @@ fn main() {
         run.clear();
         let outputs = ["make_plan", "second-plan"].map(|name| run.plan(name, &text, way));
         let name = format!("make_plan, input {i} of seed {seed}, {way:?}");
-        run.hold(&name, &outputs[0], &outputs[1]);
+        let said = said("make_plan", matches!(way, Way::OutputClosed));
+        run.hold(&name, &said, &outputs[0], &outputs[1]);
     }
     run.ends("make_plan");
     for i in 0..count {
@@ -268,7 +279,7 @@ fn main() {
         let outputs =
             ["check_plan", "second-check"].map(|name| run.check(name, unreadable, closed));
         let name = format!("check_plan, input {i} of seed {seed}, {places:?}");
-        run.hold(&name, &outputs[0], &outputs[1]);
+        run.hold(&name, &said("check_plan", closed), &outputs[0], &outputs[1]);
     }
     run.ends("check_plan");
     let _ = fs::remove_dir_all(&run.room);
