@@ -4,8 +4,8 @@ NETWORK ?= samples/swap/network.txt
 PLAN ?= samples/swap/plan.txt
 
 # The cases of `make compare`, and their seed.
-CASES = 200000
-SEED = 20131008
+CASES ?= 200000
+SEED ?= 20131008
 
 # Where `make install` puts things; DESTDIR is put before it, for packages. What the environment has for them stands.
 PREFIX ?= /usr/local
