@@ -490,9 +490,9 @@ pub fn write_network(list: &[u64], out: &mut [u8]) -> Answer
     let Answer::Done(_) = answer else {
         return answer;
     };
-    let needed = network_needed(list, out.len());
-    if out.len() < needed {
-        return no_room(needed);
+    let network_size = network_needed(list, out.len());
+    if out.len() < network_size {
+        return no_room(network_size);
     }
     Answer::Done(put_network(out, list))
 }
@@ -506,9 +506,9 @@ pub fn write_plan(list: &[u64], out: &mut [u8]) -> Answer
     let Answer::Done(_) = answer else {
         return answer;
     };
-    let needed = plan_needed(list, out.len());
-    if out.len() < needed {
-        return no_room(needed);
+    let plan_size = plan_needed(list, out.len());
+    if out.len() < plan_size {
+        return no_room(plan_size);
     }
     Answer::Done(put_plan(out, list))
 }
@@ -523,9 +523,9 @@ pub fn write_rules(list: &[u64], out: &mut [u8]) -> Answer
         return answer;
     };
     let keys = form::KEYS;
-    let needed = rules_len(&keys, list);
-    if out.len() < needed {
-        return no_room(needed);
+    let rules_size = rules_len(&keys, list);
+    if out.len() < rules_size {
+        return no_room(rules_size);
     }
     Answer::Done(put_rules(out, &keys, list))
 }
