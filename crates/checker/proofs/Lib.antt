@@ -1,6 +1,7 @@
 pub mod Laws
 pub mod Good
 pub mod Overloads
+pub mod Blocks
 pub mod Totals
 pub mod Marking
 pub mod Pairs

@@ -1,50 +1,22 @@
--- What the loads of a step's columns say of the rule.
-use Prim.Native.Nat.{ℕ, zero, suc, _+_, _*_, _≤_, _<_, max}
-use mathlib.Core.Path.{_≡_, refl, ap, ap₂, _∙_}
-use mathlib.Core.Logic.{_≢_}
-use mathlib.Core.Bool.{Bool, true, false, cond}
-use mathlib.Core.List.{List}
+-- What the loads of a link in a step say of the rule.
+use Prim.Native.Nat.{ℕ, _+_, _*_, _/_, _≤_, _<_}
+use mathlib.Core.Path.{_≡_, refl, sym, ap, _∙_}
+use mathlib.Core.Logic.{_≢_, ⊎-elim}
+use mathlib.Core.Bool.{Bool, true, false}
 use mathlib.Core.Option.{none, some, orElse}
 use native.Mathlib.Omega.{arith}
-use native.Mathlib.Nat.{max-le}
 use lib.Dec.{ltb}
-use borrow.Author.Tests.{lt-ltb, le-ltb}
-use Rattle.model.specs.Limits.{mostSteps, mostAmount}
-use Rattle.model.specs.Sets.{inSet}
-use Rattle.model.specs.Sum.{sumOver}
+use borrow.Author.Tests.{lt-ltb, le-ltb, ltb-true, ltb-false}
 use Rattle.model.specs.Search.{onlyIf}
-use Rattle.model.specs.Net.{Net, Plan, row}
+use Rattle.model.specs.Net.{Net, Plan}
 use Rattle.model.specs.Scan.{Bound, Overload, test, testLink}
-use Rattle.model.specs.Rule.{crosses, onLink, counts, load, exceeds, worst, worstOver}
-use Rattle.lists.specs.Lists.{networkSizes, networkOf, planSizes, planOf}
-use Rattle.checker.specs.Columns.{Holds, Small, linkSum, counted}
-use Rattle.checker.specs.Inner.{Checkable, overNumber, overBy, foundOf}
+use Rattle.model.specs.Rule.{load, exceeds, worst, worstOver}
+use Rattle.model.proofs.Searches.{bool-cases}
+use Rattle.checker.specs.Columns.{capacity, raised}
+use Rattle.checker.specs.Inner.{overNumber, overBy, foundOf}
 use Rattle.checker.specs.declared.steps.Found.the-variants.{At}
-use Rattle.checker.proofs.Good.{row-small}
-
--- sums are equal where their terms are
-sum-terms : (n : ℕ) (p q : ℕ → Bool) (x y : ℕ → ℕ) → ((t : ℕ) → t < n → cond (p t) (x t) 0 ≡ cond (q t) (y t) 0) → sumOver n p x ≡ sumOver n q y
-unfolding sumOver
-sum-terms zero p q x y h = refl
-sum-terms (suc n) p q x y h = ap₂ _+_ (sum-terms n p q x y (λ t k. h t (omega arith))) (h n (omega arith))
-
-counted-on : (c k : Bool) (u v : ℕ) → cond c (cond k (max u v) 0) 0 ≡ cond k (max (cond c u 0) (cond c v 0)) 0
-counted-on true true u v = refl
-counted-on true false u v = refl
-counted-on false true u v = refl
-counted-on false false u v = refl
 
 module _ (N : Net) (P : Plan) (i l : ℕ) where
-  -- the load of a step's column is the load of the worst amounts
-  pub load-sum : (b : Bound) (vias xs : List ℕ) (n : ℕ) → n ≡ N .tunnels → Holds vias n (N .via) → Holds xs n (counted N P i b)
-      → linkSum vias xs n l ≡ load N b (worst N P i l)
-  unfolding linkSum load worst onLink crosses counted
-  load-sum b vias xs n e hv hx =
-      sum-terms n _ (counts N b) _ _ (λ t h.
-      ap₂ (λ (v x : ℕ). cond (inSet v l) x 0) (hv .each t h) (hx .each t h)
-      ∙ counted-on (inSet (N .via t) l) (counts N b t) (row N P i t) (row N P (suc i) t))
-      ∙ ap (λ (m : ℕ). sumOver m (counts N b) (worst N P i l)) e
-
   -- the refusal that a link meets in a step, or 0
   abbrev pub overIn : ℕ
   overIn = overBy N (P .parts) l (load N Bound.protected (worst N P i l)) (load N Bound.total (worst N P i l))
@@ -73,30 +45,14 @@ module _ (N : Net) (P : Plan) (i l : ℕ) where
 
 -- ---- the tests of the two bounds
 
--- the refusal that two loads of a link meet, by their bounds in thousandths
-module _ (room overrun p a : ℕ) where
-  pub number-7 : 1000 * room < 1000 * p → 7 ≡ overNumber (ltb room p) (ltb ((1000 + overrun) * room) (1000 * a))
-  number-7 h = simp (lt-ltb room p (omega (arith, h)))
+-- a whole number is over so many thousandths exactly if it is over their whole part
+whole-ltb : (x a : ℕ) → ltb (x / 1000) a ≡ ltb x (1000 * a)
+whole-ltb x a =
+    ⊎-elim
+    (λ e. let h = ltb-true x (1000 * a) e in lt-ltb (x / 1000) a (omega (arith, h)) ∙ sym e)
+    (λ e. let h = ltb-false x (1000 * a) e in le-ltb (x / 1000) a (omega (arith, h)) ∙ sym e)
+    (bool-cases (ltb x (1000 * a)))
 
-  pub number-8 : 1000 * p ≤ 1000 * room → (1000 + overrun) * room < 1000 * a → 8 ≡ overNumber (ltb room p) (ltb ((1000 + overrun) * room) (1000 * a))
-  number-8 h k = simp (le-ltb room p (omega (arith, h)), lt-ltb ((1000 + overrun) * room) (1000 * a) k)
-
-  pub number-0 : 1000 * p ≤ 1000 * room → 1000 * a ≤ (1000 + overrun) * room → 0 ≡ overNumber (ltb room p) (ltb ((1000 + overrun) * room) (1000 * a))
-  number-0 h k = simp (le-ltb room p (omega (arith, h)), le-ltb ((1000 + overrun) * room) (1000 * a) k)
-
-pub over-same : (N : Net) (parts l room p q a b : ℕ) → room ≡ parts * N .cap l → p ≡ q → a ≡ b
-    → overNumber (ltb room p) (ltb ((1000 + N .overrun) * room) (1000 * a)) ≡ overBy N parts l q b
+pub over-same : (N : Net) (parts l p a : ℕ) → overNumber (ltb (capacity N parts l) p) (ltb (raised N parts l) a) ≡ overBy N parts l p a
 unfolding overBy exceeds
-over-same N parts l room p q a b e f g = rw (e, f, g)
-
--- the amounts of a step are small
-pub counted-small : (l p : List ℕ) → Checkable l p → (i : ℕ) (b : Bound) (xs : List ℕ) → i < planSizes p .steps
-    → Holds xs (networkSizes l .tunnels) (counted (networkOf l) (planOf p) i b) → Small xs (networkSizes l .tunnels)
-unfolding counted
-counted-small l p k i b xs h hx = record {
-  each = λ t ht. rw (hx .each t ht) (small-if (counts (networkOf l) b t) _ (max-le (row-small l p k i t (omega arith) ht) (row-small l p k (suc i) t h ht)));
-}
-  where
-    small-if : (c : Bool) (m : ℕ) → m ≤ mostAmount * mostSteps → cond c m 0 ≤ mostAmount * mostSteps
-    small-if true m h = h
-    small-if false m h = omega arith
+over-same N parts l p a = ap (overNumber (ltb (capacity N parts l) p)) (whole-ltb ((1000 + N .overrun) * (parts * N .cap l)) a)

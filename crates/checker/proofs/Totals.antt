@@ -17,7 +17,6 @@ use Rattle.model.proofs.Sums.{sum-cong, sum-mul}
 use Rattle.model.proofs.Searches.{only-true, only-false, none-first, first-at}
 use Rattle.model.proofs.Rows.{row-first, row-last, rate-met}
 use Rattle.judges.specs.Sums.{Gathered}
-use Rattle.checker.specs.Columns.{Holds}
 use Rattle.checker.specs.Inner.{FirstMissed}
 
 -- ---- the first flow that is missed
@@ -30,11 +29,11 @@ met-more N parts sums n h e f k =
     (λ (q : f < n). h f q)
     (eq-or-lt-of-le {n = f} {m = n} (omega arith))
 
-module _ (N : Net) (P : Plan) (a : ℕ) (xs sums : List ℕ) (hx : Holds xs (N .tunnels) (row N P a)) (g : Gathered N (λ t. getD xs t 0) (N .tunnels) sums) (hf : N .flows ≤ mostFlows) where
+module _ (N : Net) (P : Plan) (a : ℕ) (sums : List ℕ) (g : Gathered N (row N P a) (N .tunnels) sums) (hf : N .flows ≤ mostFlows) where
   -- what is gathered is the flow's sum in the row
   gathered-row : (f : ℕ) → f < N .flows → getD sums f 0 ≡ flowSum N (row N P a) f
   unfolding flowSum
-  gathered-row f h = g .sums f (omega arith) ∙ sum-cong (N .tunnels) _ (λ t k _. hx .each t k)
+  gathered-row f h = g .sums f (omega arith)
 
   met-in : (f : ℕ) → f < N .flows → getD sums f 0 ≡ P .parts * N .rate f → missedIn N P a f ≡ none
   unfolding missedIn

@@ -1,4 +1,5 @@
 pub mod Columns
 pub mod Check
 pub mod Inner
+pub mod Blocks
 pub mod Claim

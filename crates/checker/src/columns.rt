@@ -1,72 +1,46 @@
-// Columns: one number for each tunnel, at the front of an array.
-ghost use mathlib.Core.Path.{_≡_};
-ghost use mathlib.Core.Bool.{cond};
-ghost use Prim.Native.Nat.{_*_, _≤_, _<_, max};
-ghost use lib.Dec.{leb};
-ghost use lib.ListN.{length, getD};
-ghost use Rattle.model.specs.Limits.{mostLinks, mostTunnels, mostSteps, mostAmount};
-ghost use Rattle.model.specs.Sets.{inSet};
-ghost use Rattle.checker.specs.Columns.{Holds, Small, linkSum};
+// Columns: one number for each tunnel, or for each link, at the front of an array.
+ghost use Prim.Native.Nat.{_+_, _*_, _/_, _≤_};
+ghost use lib.ListN.{length};
+ghost use Rattle.model.specs.Limits.{mostLinks, mostTunnels, mostSteps};
+ghost use Rattle.lists.specs.Lists.{networkSizes, networkOf};
+ghost use Rattle.lists.specs.Good.{GoodNetwork};
+ghost use Rattle.checker.specs.Columns.{Holds, classOf, capacity, raised};
 use lists::Network;
 
-// The most tunnels, for which every column has room.
+// The most tunnels and links, for which every column has room.
 pub(crate) const TUNNELS: usize = Network::TUNNELS as usize;
 
-fn larger(x: u64, y: u64) -> u64
-    ensures { λ r. ⌜ r ≡ max x y ⌝ }
-{
-    if x < y { y } else { x }
-}
+pub(crate) const LINKS: usize = Network::LINKS as usize;
 
-// An amount, where its class is protected.
-fn protected(class: u64, x: u64) -> u64
-    ensures { λ r. ⌜ r ≡ cond (leb class 1) x 0 ⌝ }
+// The links of each tunnel, and the class of its flow.
+pub(crate) fn tunnels(network: &[u64], vias: &mut [u64], classes: &mut [u64])
+    requires { ⌜ GoodNetwork (now network) × (mostTunnels ≤ length (now vias)) × (mostTunnels ≤ length (now classes)) ⌝ }
+    ensures { λ _. ⌜ Holds (now (vias .exit)) (networkSizes (now (network .entry)) .tunnels) (networkOf (now (network .entry)) .via) ⌝ }
+    ensures { λ _. ⌜ Holds (now (classes .exit)) (networkSizes (now (network .entry)) .tunnels) (classOf (networkOf (now (network .entry)))) ⌝ }
 {
-    if class <= 1 { x } else { 0 }
-}
-
-// An amount, where its tunnel crosses link l.
-fn on_link(via: u64, l: u64, x: u64) -> u64
-    requires { ⌜ l < mostLinks ⌝ }
-    ensures { λ r. ⌜ r ≡ cond (inSet via l) x 0 ⌝ }
-{
-    if (via >> l) & 1 == 1 { x } else { 0 }
-}
-
-// The worst amounts: the larger of two rows.
-pub(crate) fn worst(a: &[u64], b: &[u64], n: usize, out: &mut [u64])
-    requires { ⌜ (n ≤ length (now a)) × (n ≤ length (now b)) × (n ≤ length (now out)) ⌝ }
-    ensures { λ _. ⌜ Holds (now (out .exit)) n (λ t. max (getD (now (a .entry)) t 0) (getD (now (b .entry)) t 0)) ⌝ }
-{
+    let sizes = Network::of(network);
     let mut t = 0;
-    while t < n {
-        out[t] = larger(a[t], b[t]);
+    while t < sizes.tunnels {
+        let at = sizes.tunnel_at(t);
+        vias[t] = network[at + Network::VIA];
+        classes[t] = network[sizes.flow_at(network[at] as usize)];
         t += 1;
     }
 }
 
-// A column with 0 at the tunnels whose class is not protected.
-pub(crate) fn shielded(a: &[u64], classes: &[u64], n: usize, out: &mut [u64])
-    requires { ⌜ (n ≤ length (now a)) × (n ≤ length (now classes)) × (n ≤ length (now out)) ⌝ }
-    ensures { λ _. ⌜ Holds (now (out .exit)) n (λ t. cond (leb (getD (now (classes .entry)) t 0) 1) (getD (now (a .entry)) t 0) 0) ⌝ }
+// What each link can carry, in parts: of protected traffic, and with the overrun, rounded down.
+pub(crate) fn links(network: &[u64], parts: u64, capacities: &mut [u64], all: &mut [u64])
+    requires { ⌜ GoodNetwork (now network) × (parts ≤ mostSteps) × (mostLinks ≤ length (now capacities)) × (mostLinks ≤ length (now all)) ⌝ }
+    ensures { λ _. ⌜ Holds (now (capacities .exit)) (networkSizes (now (network .entry)) .links) (capacity (networkOf (now (network .entry))) parts) ⌝ }
+    ensures { λ _. ⌜ Holds (now (all .exit)) (networkSizes (now (network .entry)) .links) (raised (networkOf (now (network .entry))) parts) ⌝ }
 {
-    let mut t = 0;
-    while t < n {
-        out[t] = protected(classes[t], a[t]);
-        t += 1;
+    let sizes = Network::of(network);
+    let times = 1000 + network[Network::OVERRUN];
+    let mut l = 0;
+    while l < sizes.links {
+        let capacity = parts * network[sizes.link_at(l)];
+        capacities[l] = capacity;
+        all[l] = times * capacity / 1000;
+        l += 1;
     }
-}
-
-// What the tunnels that cross link l add up to.
-pub(crate) fn load(vias: &[u64], amounts: &[u64], n: usize, l: u64) -> u64
-    requires { ⌜ (n ≤ mostTunnels) × (n ≤ length (now vias)) × (n ≤ length (now amounts)) × (l < mostLinks) × Small (now amounts) n ⌝ }
-    ensures { λ r. ⌜ (r ≡ linkSum (now (vias .entry)) (now (amounts .entry)) n l) × (r ≤ mostTunnels * (mostAmount * mostSteps)) ⌝ }
-{
-    let mut sum: u64 = 0;
-    let mut t = 0;
-    while t < n {
-        sum += on_link(vias[t], l, amounts[t]);
-        t += 1;
-    }
-    sum
 }

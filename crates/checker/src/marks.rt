@@ -4,12 +4,11 @@ ghost use mathlib.Core.Bool.{_&&_, cond, false};
 ghost use mathlib.Core.List.{_++_};
 ghost use Prim.Native.Nat.{_≤_, _<_};
 ghost use lib.Dec.{ltb};
-ghost use lib.ListN.{length, getD, drop};
+ghost use lib.ListN.{length, drop};
 ghost use Rattle.model.specs.Limits.{mostLinks};
 ghost use Rattle.model.specs.Sets.{inSet};
 ghost use Rattle.lists.specs.Lists.{networkSizes, networkOf, planSizes, planOf};
 ghost use Rattle.checker.specs.Inner.{Checkable, marksOf, marksAt};
-use crate::columns::TUNNELS;
 use crate::rows;
 use lists::Network;
 
@@ -27,31 +26,20 @@ fn rises(via: u64, l: u64, earlier: u64, later: u64) -> u8
     0
 }
 
-// Marks the tunnels that cross link l and rise from one row to the other.
-fn mark_rising(vias: &[u64], earlier: &[u64], later: &[u64], n: usize, l: u64, marks: &mut [u8])
-    requires { ⌜ (n ≤ length (now vias)) × (n ≤ length (now earlier)) × (n ≤ length (now later)) × (n ≤ length (now marks)) × (l < mostLinks) ⌝ }
-    ensures { λ _. ⌜ now (marks .exit) ≡ marksOf (λ t. inSet (getD (now (vias .entry)) t 0) l && ltb (getD (now (earlier .entry)) t 0) (getD (now (later .entry)) t 0)) n ++ drop n (now (marks .entry)) ⌝ }
-{
-    let mut t = 0;
-    while t < n {
-        marks[t] = rises(vias[t], l, earlier[t], later[t]);
-        t += 1;
-    }
-}
-
 // Marks the tunnels that cross link l and rise in the step from row i.
 pub fn mark(network: &[u64], plan: &[u64], i: usize, l: usize, marks: &mut [u8])
     requires { ⌜ Checkable (now network) (now plan) × (i < planSizes (now plan) .steps) × (l < networkSizes (now network) .links) × (networkSizes (now network) .tunnels ≤ length (now marks)) ⌝ }
     ensures { λ _. ⌜ now (marks .exit) ≡ marksAt (networkOf (now (network .entry))) (planOf (now (plan .entry))) i l (networkSizes (now (network .entry)) .tunnels) ++ drop (networkSizes (now (network .entry)) .tunnels) (now (marks .entry)) ⌝ }
 {
-    let n = Network::of(network).tunnels;
-    let mut vias = [0u64; TUNNELS];
-    let mut earlier = [0u64; TUNNELS];
-    let mut later = [0u64; TUNNELS];
-    rows::vias(network, &mut vias);
-    rows::row(network, plan, i, &mut earlier);
-    rows::row(network, plan, i + 1, &mut later);
-    mark_rising(&vias, &earlier, &later, n, l as u64, marks);
+    let sizes = Network::of(network);
+    let mut t = 0;
+    while t < sizes.tunnels {
+        let via = network[sizes.tunnel_at(t) + Network::VIA];
+        let earlier = rows::before(network, plan, i, t);
+        let later = rows::after(network, plan, i, t);
+        marks[t] = rises(via, l as u64, earlier, later);
+        t += 1;
+    }
 }
 
 // Clears the marks of n tunnels.

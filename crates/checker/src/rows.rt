@@ -1,103 +1,77 @@
-// The columns of a network and of the rows of a plan.
-ghost use Prim.Native.Nat.{_≤_, _<_};
+// The amounts in the rows of a plan, and the worst amounts in its steps.
+ghost use mathlib.Core.Path.{_≡_};
+ghost use Prim.Native.Nat.{suc, _<_, max};
 ghost use lib.ListN.{length};
-ghost use Rattle.model.specs.Limits.{mostTunnels};
 ghost use Rattle.model.specs.Net;
-ghost use Rattle.model.specs.Scan.{Bound};
 ghost use Rattle.lists.specs.Lists.{networkSizes, networkOf, planSizes, planOf};
-ghost use Rattle.lists.specs.Good.{GoodNetwork, GoodPlan};
-ghost use Rattle.checker.specs.Columns.{Line, Holds, lineOf, classOf, counted};
+ghost use Rattle.loads.specs.Claim.{worstAmount};
+ghost use Rattle.loads.specs.Tables.{blockSteps, amountsSize};
 ghost use Rattle.checker.specs.Inner.{Checkable};
-use crate::columns;
-use crate::columns::TUNNELS;
+ghost use Rattle.checker.specs.Blocks.{Placed, AmountTable, WorstAmounts};
 use lists::Network;
 use lists::PlanSizes;
+use loads::gather;
+use loads::gather::STEPS;
 
-// Line j of each tunnel's four, factor times.
-fn line(network: &[u64], j: usize, factor: u64, out: &mut [u64])
-    requires { ⌜ GoodNetwork (now network) × Line (now network) j factor × (mostTunnels ≤ length (now out)) ⌝ }
-    ensures { λ _. ⌜ Holds (now (out .exit)) (networkSizes (now (network .entry)) .tunnels) (lineOf (now (network .entry)) j factor) ⌝ }
+fn larger(x: u64, y: u64) -> u64
+    ensures { λ r. ⌜ r ≡ max x y ⌝ }
 {
-    let sizes = Network::of(network);
-    let mut t = 0;
-    while t < sizes.tunnels {
-        out[t] = factor * network[sizes.tunnel_at(t) + j];
-        t += 1;
-    }
+    if x < y { y } else { x }
 }
 
-// The links of each tunnel.
-pub(crate) fn vias(network: &[u64], out: &mut [u64])
-    requires { ⌜ GoodNetwork (now network) × (mostTunnels ≤ length (now out)) ⌝ }
-    ensures { λ _. ⌜ Holds (now (out .exit)) (networkSizes (now (network .entry)) .tunnels) (networkOf (now (network .entry)) .via) ⌝ }
-{
-    line(network, 1, 1, out);
-}
-
-// Row a of a plan, which is neither the first nor the last.
-fn listed_row(plan: &[u64], a: usize, out: &mut [u64])
-    requires { ⌜ GoodPlan (now plan) × (1 ≤ a) × (a < planSizes (now plan) .steps) × (mostTunnels ≤ length (now out)) ⌝ }
-    ensures { λ _. ⌜ Holds (now (out .exit)) (planSizes (now (plan .entry)) .tunnels) (planOf (now (plan .entry)) .at a) ⌝ }
+// The amount of tunnel t before the step from row i: the first row is the network's, in parts.
+pub(crate) fn before(network: &[u64], plan: &[u64], i: usize, t: usize) -> u64
+    requires { ⌜ Checkable (now network) (now plan) × (i < planSizes (now plan) .steps) × (t < networkSizes (now network) .tunnels) ⌝ }
+    ensures { λ r. ⌜ r ≡ Net.row (networkOf (now (network .entry))) (planOf (now (plan .entry))) i t ⌝ }
 {
     let sizes = PlanSizes::of(plan);
-    let start = sizes.row_at(a);
-    let mut t = 0;
-    while t < sizes.tunnels {
-        out[t] = plan[start + t];
-        t += 1;
+    if i == 0 {
+        let at = Network::of(network).tunnel_at(t);
+        return sizes.parts * network[at + Network::OLD];
     }
+    plan[sizes.row_at(i) + t]
 }
 
-// Row a of the plan: the first and the last are the network's, in parts.
-pub(crate) fn row(network: &[u64], plan: &[u64], a: usize, out: &mut [u64])
-    requires { ⌜ Checkable (now network) (now plan) × (a ≤ planSizes (now plan) .steps) × (mostTunnels ≤ length (now out)) ⌝ }
-    ensures { λ _. ⌜ Holds (now (out .exit)) (networkSizes (now (network .entry)) .tunnels) (Net.row (networkOf (now (network .entry))) (planOf (now (plan .entry))) a) ⌝ }
+// And after it: the last row is the network's, in parts.
+pub(crate) fn after(network: &[u64], plan: &[u64], i: usize, t: usize) -> u64
+    requires { ⌜ Checkable (now network) (now plan) × (i < planSizes (now plan) .steps) × (t < networkSizes (now network) .tunnels) ⌝ }
+    ensures { λ r. ⌜ r ≡ Net.row (networkOf (now (network .entry))) (planOf (now (plan .entry))) (suc i) t ⌝ }
 {
     let sizes = PlanSizes::of(plan);
-    if a == 0 {
-        line(network, 2, sizes.parts, out);
-        return;
+    if i + 1 == sizes.steps {
+        let at = Network::of(network).tunnel_at(t);
+        return sizes.parts * network[at + Network::NEW];
     }
-    if a == sizes.steps {
-        line(network, 3, sizes.parts, out);
-        return;
-    }
-    listed_row(plan, a, out);
+    plan[sizes.row_at(i + 1) + t]
 }
 
-// The class of each tunnel's flow.
-pub(crate) fn classes(network: &[u64], out: &mut [u64])
-    requires { ⌜ GoodNetwork (now network) × (mostTunnels ≤ length (now out)) ⌝ }
-    ensures { λ _. ⌜ Holds (now (out .exit)) (networkSizes (now (network .entry)) .tunnels) (classOf (networkOf (now (network .entry)))) ⌝ }
-{
-    let sizes = Network::of(network);
-    let mut t = 0;
-    while t < sizes.tunnels {
-        let flow = network[sizes.tunnel_at(t)] as usize;
-        out[t] = network[sizes.flow_at(flow)];
-        t += 1;
-    }
-}
-
-// The worst amounts in the step from row i, of all tunnels and of the protected ones.
-pub(crate) fn step(
-    network: &[u64],
-    plan: &[u64],
-    classes: &[u64],
-    i: usize,
-    all: &mut [u64],
-    protected: &mut [u64],
-)
-    requires { ⌜ Checkable (now network) (now plan) × (i < planSizes (now plan) .steps) × (mostTunnels ≤ length (now classes)) × (mostTunnels ≤ length (now all)) × (mostTunnels ≤ length (now protected)) ⌝ }
-    requires { ⌜ Holds (now classes) (networkSizes (now network) .tunnels) (classOf (networkOf (now network))) ⌝ }
-    ensures { λ _. ⌜ Holds (now (all .exit)) (networkSizes (now (network .entry)) .tunnels) (counted (networkOf (now (network .entry))) (planOf (now (plan .entry))) i Bound.total) ⌝ }
-    ensures { λ _. ⌜ Holds (now (protected .exit)) (networkSizes (now (network .entry)) .tunnels) (counted (networkOf (now (network .entry))) (planOf (now (plan .entry))) i Bound.protected) ⌝ }
+// Puts the worst amounts in the step from row i at step k of a block.
+fn place(network: &[u64], plan: &[u64], i: usize, k: usize, amounts: &mut [u64])
+    requires { ⌜ Checkable (now network) (now plan) × (i < planSizes (now plan) .steps) × (k < blockSteps) × (length (now amounts) ≡ amountsSize) ⌝ }
+    ensures { λ _. ⌜ Placed (worstAmount (networkOf (now (network .entry))) (planOf (now (plan .entry))) i) (networkSizes (now (network .entry)) .tunnels) k (now (amounts .entry)) (now (amounts .exit)) ⌝ }
 {
     let n = Network::of(network).tunnels;
-    let mut earlier = [0u64; TUNNELS];
-    let mut later = [0u64; TUNNELS];
-    row(network, plan, i, &mut earlier);
-    row(network, plan, i + 1, &mut later);
-    columns::worst(&earlier, &later, n, all);
-    columns::shielded(all, classes, n, protected);
+    let mut t = 0;
+    while t < n {
+        let earlier = before(network, plan, i, t);
+        let later = after(network, plan, i, t);
+        amounts[gather::amount_at(t, k)] = larger(earlier, later);
+        t += 1;
+    }
+}
+
+// The worst amounts in the steps from row i on, as many as a block has.
+pub(crate) fn worst_amounts(network: &[u64], plan: &[u64], i: usize, amounts: &mut [u64])
+    requires { ⌜ Checkable (now network) (now plan) × (i < planSizes (now plan) .steps) × AmountTable (now network) (now amounts) ⌝ }
+    ensures { λ _. ⌜ WorstAmounts (now (network .entry)) (now (plan .entry)) i blockSteps (now (amounts .exit)) ⌝ }
+{
+    let steps = PlanSizes::of(plan).steps;
+    let mut k = 0;
+    while k < STEPS {
+        if steps <= i + k {
+            return;
+        }
+        place(network, plan, i + k, k, amounts);
+        k += 1;
+    }
 }

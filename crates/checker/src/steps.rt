@@ -1,19 +1,24 @@
-// The worst-load rule, step by step and link by link.
+// The worst-load rule: the loads of a block of steps are gathered at once, then looked at step by step and link by link.
 ghost use mathlib.Core.Path.{_≡_};
-ghost use Prim.Native.Nat.{_+_, _*_, _≤_, _<_};
+ghost use Prim.Native.Nat.{_+_, _/_, _≤_, _<_};
 ghost use lib.Dec.{ltb};
 ghost use lib.ListN.{length};
-ghost use Rattle.model.specs.Limits.{mostTunnels, mostSteps, mostAmount, mostShare};
+ghost use Rattle.model.specs.Limits.{mostLinks, mostTunnels};
 ghost use Rattle.model.specs.Rule.{firstOverload};
-ghost use Rattle.lists.specs.Lists.{networkSizes, networkOf, planOf};
-ghost use Rattle.lists.specs.Good.{GoodNetwork};
-ghost use Rattle.checker.specs.Columns.{Small, linkSum};
-ghost use Rattle.checker.specs.Inner.{Checkable, overNumber, overBy, foundOf};
+ghost use Rattle.lists.specs.Lists.{at, networkOf, planSizes, planOf};
+ghost use Rattle.loads.specs.Tables.{blockSteps, loadAt, LoadsWithin};
+ghost use Rattle.checker.specs.Inner.{Checkable, overNumber, foundOf};
+ghost use Rattle.checker.specs.Blocks.{TunnelColumns, AmountTable, InBlock, Gathers};
 use crate::columns;
+use crate::columns::LINKS;
 use crate::columns::TUNNELS;
 use crate::rows;
 use lists::Network;
 use lists::PlanSizes;
+use loads::gather;
+use loads::gather::AMOUNTS;
+use loads::gather::LOADS;
+use loads::gather::STEPS;
 
 // The first overload: the number of its refusal, the row that its step leads from, and its link.
 pub enum Found {
@@ -21,36 +26,49 @@ pub enum Found {
     At(u64, usize, usize),
 }
 
-// The number of the refusal that a link's loads meet, or 0. Both bounds in thousandths.
-fn refusal_number(room: u64, overrun: u64, protected: u64, all: u64) -> u64
-    requires { ⌜ (room ≤ mostSteps * mostAmount) × (overrun ≤ mostShare) × (protected ≤ mostTunnels * (mostAmount * mostSteps)) × (all ≤ mostTunnels * (mostAmount * mostSteps)) ⌝ }
-    ensures { λ r. ⌜ r ≡ overNumber (ltb room protected) (ltb ((1000 + overrun) * room) (1000 * all)) ⌝ }
+// The number of the refusal that a link's loads meet, or 0.
+fn refusal_number(capacity: u64, raised: u64, protected: u64, all: u64) -> u64
+    ensures { λ r. ⌜ r ≡ overNumber (ltb capacity protected) (ltb raised all) ⌝ }
 {
-    let capacity = 1000 * room;
-    let raised = (1000 + overrun) * room;
-    if capacity < 1000 * protected {
+    if capacity < protected {
         return 7;
     }
-    if raised < 1000 * all {
+    if raised < all {
         return 8;
     }
     0
 }
 
-// The number of the refusal that the amounts meet on link l, or 0.
-fn over(network: &[u64], parts: u64, vias: &[u64], all: &[u64], protected: &[u64], l: usize) -> u64
-    requires { ⌜ GoodNetwork (now network) × (l < networkSizes (now network) .links) × (parts ≤ mostSteps) × (mostTunnels ≤ length (now vias)) × (mostTunnels ≤ length (now all)) × (mostTunnels ≤ length (now protected)) ⌝ }
-    requires { ⌜ Small (now all) (networkSizes (now network) .tunnels) × Small (now protected) (networkSizes (now network) .tunnels) ⌝ }
-    ensures { λ r. ⌜ r ≡ overBy (networkOf (now (network .entry))) parts l (linkSum (now (vias .entry)) (now (protected .entry)) (networkSizes (now (network .entry)) .tunnels) l) (linkSum (now (vias .entry)) (now (all .entry)) (networkSizes (now (network .entry)) .tunnels) l) ⌝ }
+// The number of the refusal that link l meets in step k of the block, or 0.
+fn over(capacities: &[u64], raised: &[u64], loads: &[u64], l: usize, k: usize) -> u64
+    requires { ⌜ (l < mostLinks) × (k < blockSteps) × (mostLinks ≤ length (now capacities)) × (mostLinks ≤ length (now raised)) × LoadsWithin (l + 1) mostTunnels (now loads) ⌝ }
+    ensures { λ r. ⌜ r ≡ overNumber (ltb (at (now (capacities .entry)) l) (at (now (loads .entry)) (loadAt l 0 k))) (ltb (at (now (raised .entry)) l) (at (now (loads .entry)) (loadAt l 0 k) + at (now (loads .entry)) (loadAt l 1 k))) ⌝ }
 {
+    let protected = loads[gather::load_at(l, 0, k)];
+    let all = protected + loads[gather::load_at(l, 1, k)];
+    refusal_number(capacities[l], raised[l], protected, all)
+}
+
+// The loads in the block of the step from row i, gathered where a block begins with it.
+fn block_loads(
+    network: &[u64],
+    plan: &[u64],
+    vias: &[u64],
+    classes: &[u64],
+    i: usize,
+    amounts: &mut [u64],
+    loads: &mut [u64],
+)
+    requires { ⌜ Checkable (now network) (now plan) × (i < planSizes (now plan) .steps) × TunnelColumns (now network) (now vias) (now classes) × AmountTable (now network) (now amounts) × InBlock (networkOf (now network)) (planOf (now plan)) i (now loads) ⌝ }
+    ensures { λ _. ⌜ AmountTable (now (network .entry)) (now (amounts .exit)) ⌝ }
+    ensures { λ _. ⌜ Gathers (networkOf (now (network .entry))) (planOf (now (plan .entry))) (i / blockSteps) (now (loads .exit)) ⌝ }
+{
+    if i % STEPS != 0 {
+        return;
+    }
     let sizes = Network::of(network);
-    let n = sizes.tunnels;
-    let overrun = network[Network::OVERRUN];
-    let link = l as u64;
-    let room = parts * network[sizes.link_at(l)];
-    let protected_load = columns::load(vias, protected, n, link);
-    let all_load = columns::load(vias, all, n, link);
-    refusal_number(room, overrun, protected_load, all_load)
+    rows::worst_amounts(network, plan, i, amounts);
+    gather::gather(sizes.links, vias, classes, sizes.tunnels, amounts, loads);
 }
 
 // Steps ascending, links ascending; the first overload ends the check.
@@ -60,21 +78,23 @@ pub fn first_overload(network: &[u64], plan: &[u64]) -> Found
 {
     let links = Network::of(network).links;
     let sizes = PlanSizes::of(plan);
-    let parts = sizes.parts;
     let steps = sizes.steps;
     let mut vias = [0u64; TUNNELS];
     let mut classes = [0u64; TUNNELS];
-    let mut all = [0u64; TUNNELS];
-    let mut protected = [0u64; TUNNELS];
-    rows::vias(network, &mut vias);
-    rows::classes(network, &mut classes);
+    let mut capacities = [0u64; LINKS];
+    let mut raised = [0u64; LINKS];
+    columns::tunnels(network, &mut vias, &mut classes);
+    columns::links(network, sizes.parts, &mut capacities, &mut raised);
+    let mut amounts = [0u64; AMOUNTS];
+    let mut loads = [0u64; LOADS];
     let mut found = Found::Nothing;
     let mut i = 0;
     'steps: while i < steps {
-        rows::step(network, plan, &classes, i, &mut all, &mut protected);
+        block_loads(network, plan, &vias, &classes, i, &mut amounts, &mut loads);
+        let k = i % STEPS;
         let mut l = 0;
         while l < links {
-            let number = over(network, parts, &vias, &all, &protected, l);
+            let number = over(&capacities, &raised, &loads, l, k);
             if number != 0 {
                 found = Found::At(number, i, l);
                 break 'steps;

@@ -1,15 +1,14 @@
 // The sums of a plan's rows: whether each flow's amounts add up to parts × rate.
 ghost use mathlib.Core.Path.{_≡_};
-ghost use Prim.Native.Nat.{_≤_};
-ghost use lib.ListN.{length, getD, replicate};
-ghost use Rattle.model.specs.Limits.{mostFlows, mostTunnels, mostSteps};
+ghost use Prim.Native.Nat.{suc, _≤_, _<_};
+ghost use lib.ListN.{length, replicate};
+ghost use Rattle.model.specs.Limits.{mostFlows, mostSteps};
+ghost use Rattle.model.specs.Net;
 ghost use Rattle.model.specs.Rule.{missedRow};
 ghost use Rattle.judges.specs.Sums.{Gathered};
-ghost use Rattle.lists.specs.Lists.{networkSizes, networkOf, planOf};
+ghost use Rattle.lists.specs.Lists.{networkSizes, networkOf, planSizes, planOf};
 ghost use Rattle.lists.specs.Good.{GoodNetwork};
-ghost use Rattle.checker.specs.Columns.{Small};
 ghost use Rattle.checker.specs.Inner.{Checkable, FirstMissed, missedOf};
-use crate::columns::TUNNELS;
 use crate::rows;
 use lists::Network;
 use lists::PlanSizes;
@@ -22,16 +21,16 @@ pub(crate) enum Missed {
     At(usize, usize),
 }
 
-// The sum of each flow's amounts in a row, in one pass over the tunnels.
-fn row_sums(network: &[u64], row: &[u64], sums: &mut [u64])
-    requires { ⌜ GoodNetwork (now network) × (mostTunnels ≤ length (now row)) × Small (now row) (networkSizes (now network) .tunnels) × (now sums ≡ replicate mostFlows 0) ⌝ }
-    ensures { λ _. ⌜ Gathered (networkOf (now (network .entry))) (λ t. getD (now (row .entry)) t 0) (networkSizes (now (network .entry)) .tunnels) (now (sums .exit)) ⌝ }
+// The sum of each flow's amounts in the row after row i, in one pass over the tunnels.
+fn row_sums(network: &[u64], plan: &[u64], i: usize, sums: &mut [u64])
+    requires { ⌜ Checkable (now network) (now plan) × (i < planSizes (now plan) .steps) × (now sums ≡ replicate mostFlows 0) ⌝ }
+    ensures { λ _. ⌜ Gathered (networkOf (now (network .entry))) (Net.row (networkOf (now (network .entry))) (planOf (now (plan .entry))) (suc i)) (networkSizes (now (network .entry)) .tunnels) (now (sums .exit)) ⌝ }
 {
     let sizes = Network::of(network);
     let mut t = 0;
     while t < sizes.tunnels {
         let flow = network[sizes.tunnel_at(t)] as usize;
-        sums[flow] += row[t];
+        sums[flow] += rows::after(network, plan, i, t);
         t += 1;
     }
 }
@@ -62,12 +61,10 @@ pub(crate) fn missed_row(network: &[u64], plan: &[u64]) -> Missed
     let sizes = PlanSizes::of(plan);
     let parts = sizes.parts;
     let steps = sizes.steps;
-    let mut row = [0u64; TUNNELS];
     let mut a = 1;
     while a < steps {
-        rows::row(network, plan, a, &mut row);
         let mut sums = [0u64; FLOWS];
-        row_sums(network, &row, &mut sums);
+        row_sums(network, plan, a - 1, &mut sums);
         let f = missed_flow(network, parts, &sums);
         if f < flows {
             return Missed::At(a, f);

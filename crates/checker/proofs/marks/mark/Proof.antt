@@ -1,78 +1,96 @@
 -- `checker::marks::mark` meets its contract.
-use mathlib.Core.Path.{_≡_, ap}
-use Rattle.lists.specs.Lists.{networkSizes}
+use Prim.Native.Nat.{ℕ, _≤_, _-_}
+use mathlib.Core.Path.{_≡_, refl, ap}
+use mathlib.Core.List.{_++_}
+use lib.ListN.{length, drop, length-set}
+use Rattle.lists.specs.Lists.{networkOf, planOf}
 use Rattle.lists.specs.declared.Network as counts
-use Rattle.lists.proofs.Positions.{head-in}
-use Rattle.checker.proofs.Marking.{marks-step}
+use Rattle.lists.proofs.Positions.{tunnel-place, limited, head-in}
+use Rattle.model.proofs.Listed.{listed-none, listed-on, listed-to}
+use Rattle.checker.specs.Inner.{marksAt}
+use Rattle.checker.proofs.Good.{via-here}
+use Rattle.checker.proofs.Marking.{mark-of}
 use native.Mathlib.Omega.{arith}
 use borrow.Author.Needs.{needs}
 use Rattle.checker.proofs.marks.mark.Statement.{statement}
 use Rattle.checker.proofs.marks.mark.Tie as tie
+use Rattle.checker.proofs.marks.rises.Reads as rises-reads
+use Rattle.checker.proofs.rows.after.Reads as after-reads
+use Rattle.checker.proofs.rows.before.Reads as before-reads
+use Rattle.lists.proofs.Network.of.Reads as of-reads
+use Rattle.lists.proofs.Network.tunnel_at.Reads as tunnel-at-reads
 
--- the network's own tunnels
-tunnels : (c : tie.After-of) → c .of .result .tunnels ≡ networkSizes (c .before .before .before .before .args .network .now) .tunnels
-tunnels c = ap (λ (n : counts.Network). n .tunnels) (c .of .ensures)
+abbrev Inv-loop : tie.InvT-loop
+Inv-loop network plan i l marks₀ sizes t₀ marks t = (t ≤ sizes .tunnels) × (length marks ≡ length marks₀) × (marks ≡ marksAt (networkOf network) (planOf plan) i l t ++ drop t marks₀)
 
-of-requires : tie.Need-of-requires
+abbrev μ-loop : tie.MeasureT-loop
+μ-loop network plan i l marks₀ sizes t₀ marks t = sizes .tunnels - t
+
+of-requires : tie.Need-of-requires Inv-loop μ-loop
 of-requires c κs = head-in _ (c .before .before .before .pre .0 .network .ranges .sized .size)
 
-slice-aggregate-vias : tie.Need-slice-aggregate-vias
-slice-aggregate-vias c = search needs
+loop-holds : tie.Need-loop-holds Inv-loop μ-loop
+loop-holds c = (omega arith, refl, listed-none _ _)
 
-vias-requires : tie.Need-vias-requires
-vias-requires c κs = search needs
+tunnel-at-requires : tie.Need-tunnel-at-requires Inv-loop μ-loop
+tunnel-at-requires c κs = (limited _ (c .before .before .before .before .before .before .before .pre .0 .network .ranges .sized) _ (c .before .before .before .of .ensures), omega (arith, c .if1 .taken))
 
-slice-aggregate-row : tie.Need-slice-aggregate-row
-slice-aggregate-row c = search needs
+add-via : tie.Need-add-via Inv-loop μ-loop
+add-via c = let p = tunnel-place _ (c .before .before .before .before .before .before .before .before .pre .0 .network .ranges .sized) _ (c .before .before .before .before .of .ensures) _ _ (c .before .if1 .taken) (c .tunnel-at .ensures) in record { fits = omega (arith, p .few) }
 
-row-requires : tie.Need-row-requires
-row-requires c κs = search needs
+mul-via : tie.Need-mul-via Inv-loop μ-loop
+mul-via c = let p = tunnel-place _ (c .before .before .before .before .before .before .before .before .pre .0 .network .ranges .sized) _ (c .before .before .before .before .of .ensures) _ _ (c .before .if1 .taken) (c .tunnel-at .ensures) in record { fits = omega (arith, p .few) }
 
-add-row : tie.Need-add-row
-add-row c = search needs
+shared-slice-read-via : tie.Need-shared-slice-read-via Inv-loop μ-loop
+shared-slice-read-via c = let p = tunnel-place _ (c .before .before .before .before .before .before .before .before .before .pre .0 .network .ranges .sized) _ (c .before .before .before .before .before .of .ensures) _ _ (c .before .before .if1 .taken) (c .before .tunnel-at .ensures) in omega (arith, p .within)
 
-slice-aggregate-row-2 : tie.Need-slice-aggregate-row-2
-slice-aggregate-row-2 c = search needs
+before-requires : tie.Need-before-requires Inv-loop μ-loop
+before-requires c κs = let p = tunnel-place _ (c .before .before .before .before .before .before .before .before .before .pre .0 .network .ranges .sized) _ (c .before .before .before .before .before .of .ensures) _ _ (c .before .before .if1 .taken) (c .before .tunnel-at .ensures) in (c .before .before .before .before .before .before .before .before .before .pre .0, c .before .before .before .before .before .before .before .before .before .pre .1, p .there)
 
-row-requires-2 : tie.Need-row-requires-2
-row-requires-2 c κs = search needs
+after-requires : tie.Need-after-requires Inv-loop μ-loop
+after-requires c κs = let p = tunnel-place _ (c .before .before .before .before .before .before .before .before .before .before .pre .0 .network .ranges .sized) _ (c .before .before .before .before .before .before .of .ensures) _ _ (c .before .before .before .if1 .taken) (c .before .before .tunnel-at .ensures) in (c .before .before .before .before .before .before .before .before .before .before .pre .0, c .before .before .before .before .before .before .before .before .before .before .pre .1, p .there)
 
-slice-aggregate-mark-rising : tie.Need-slice-aggregate-mark-rising
-slice-aggregate-mark-rising c = search needs
+rises-requires : tie.Need-rises-requires Inv-loop μ-loop
+rises-requires c κs = omega (arith, c .before .before .before .before .before .before .before .before .before .before .before .pre .2, c .before .before .before .before .before .before .before .before .before .before .before .pre .0 .network .ranges .sized .counts)
 
-slice-aggregate-mark-rising-2 : tie.Need-slice-aggregate-mark-rising-2
-slice-aggregate-mark-rising-2 c = search needs
+slice-write-marks : tie.Need-slice-write-marks Inv-loop μ-loop
+slice-write-marks c = let p = tunnel-place _ (c .before .before .before .before .before .before .before .before .before .before .before .before .pre .0 .network .ranges .sized) _ (c .before .before .before .before .before .before .before .before .of .ensures) _ _ (c .before .before .before .before .before .if1 .taken) (c .before .before .before .before .tunnel-at .ensures) in omega (arith, c .before .before .before .before .before .before .before .loop .inv .1, p .there, c .before .before .before .before .before .before .before .before .before .before .before .before .pre .3)
 
-slice-aggregate-mark-rising-3 : tie.Need-slice-aggregate-mark-rising-3
-slice-aggregate-mark-rising-3 c = search needs
+add-t : tie.Need-add-t Inv-loop μ-loop
+add-t c = search needs
 
-mark-rising-requires : tie.Need-mark-rising-requires
-mark-rising-requires c κs = let d = c .before .before .before .before .before .before .before .before .before .before .before .before .before .before .before .before .before .pre in
-    let n = tunnels (c .before .before .before .before .before .before .before .before .before .before .before .before .before) in
-    let m = d .0 .network .ranges .sized .counts in
-    (omega (arith, n, m, c .before .before .before .before .before .before .before .before .before .before .before .vias2 .kept), omega (arith, n, m, c .before .before .before .before .before .before .before .before .row .kept), omega (arith, n, m, c .before .before .before .before .before .row2 .kept), omega (arith, n, d .3), omega (arith, m, d .2))
+loop-less : tie.Need-loop-less Inv-loop μ-loop
+loop-less c = search needs
 
-same-length : tie.Need-same-length
-same-length c = search needs
+loop-again : tie.Need-loop-again Inv-loop μ-loop
+loop-again c = let p = tunnel-place _ (c .before .before .before .before .before .before .before .before .before .before .before .before .pre .0 .network .ranges .sized) _ (c .before .before .before .before .before .before .before .before .of .ensures) _ _ (c .before .before .before .before .before .if1 .taken) (c .before .before .before .before .tunnel-at .ensures) in
+    let m = mark-of (networkOf (c .before .before .before .before .before .before .before .before .before .before .before .before .args .network .now)) (planOf (c .before .before .before .before .before .before .before .before .before .before .before .before .args .plan .now)) (c .before .before .before .before .before .before .before .before .before .before .before .before .args .i) (c .before .before .before .before .before .before .before .before .before .before .before .before .args .l) (c .before .before .before .before .before .before .before .loop .t) _ _ _ _ (via-here _ (c .before .before .before .before .before .before .before .before .before .before .before .before .pre .0 .network) _ _ p) (c .before .before .before2 .ensures) (c .before .after .ensures) (c .rises .ensures) in
+    (omega (arith, c .before .before .before .before .before .if1 .taken), simp length-set (c .before .before .before .before .before .before .before .loop .inv .1), listed-on _ _ _ _ _ (c .before .before .before .before .before .before .before .loop .inv .2) (omega (arith, p .there, c .before .before .before .before .before .before .before .before .before .before .before .before .pre .3)) m)
 
-returns : tie.Need-returns
-returns c = marks-step _ _ _ _ _ _ _ _ _ _ (c .before .before .before .before .before .before .before .before .before .before .before .before .before .before .vias2 .ensures) (c .before .before .before .before .before .before .before .before .before .before .before .row .ensures) (c .before .before .before .before .before .before .before .before .row2 .ensures) (rw (tunnels (c .before .before .before .before .before .before .before .before .before .before .before .before .before .before .before .before)) at (c .before .before .mark-rising .ensures))
+same-length : tie.Need-same-length Inv-loop μ-loop
+same-length c = c .before .before .loop .inv .1
+
+returns : tie.Need-returns Inv-loop μ-loop
+returns c = listed-to _ _ _ _ _ (c .before .before .loop .inv .2) (omega (arith, c .if1 .left, c .before .before .loop .inv .0, ap (λ (n : counts.Network). n .tunnels) (c .before .before .before .of .ensures)))
 
 pub mark-spec : {M : Type 1} → statement M
 mark-spec =
     tie.close
     (tie.spec
+    Inv-loop
+    μ-loop
     of-requires
-    slice-aggregate-vias
-    vias-requires
-    slice-aggregate-row
-    row-requires
-    add-row
-    slice-aggregate-row-2
-    row-requires-2
-    slice-aggregate-mark-rising
-    slice-aggregate-mark-rising-2
-    slice-aggregate-mark-rising-3
-    mark-rising-requires
+    loop-holds
+    tunnel-at-requires
+    add-via
+    mul-via
+    shared-slice-read-via
+    before-requires
+    after-requires
+    rises-requires
+    slice-write-marks
+    add-t
+    loop-less
+    loop-again
     same-length
     returns)

@@ -1,11 +1,8 @@
 -- `checker::sums::missed_row` meets its contract.
 use Prim.Native.Nat.{ℕ, _≤_, _<_, _-_, _+_, suc}
 use mathlib.Core.Path.{_≡_, refl, sym, ap, subst}
-use mathlib.Core.Option.{none, some}
-use lib.ListN.{length}
-use Rattle.model.specs.Limits.{mostFlows, mostTunnels}
+use mathlib.Core.Option.{none}
 use Rattle.model.specs.Search.{first}
-use Rattle.model.specs.Net.{Net, Plan}
 use Rattle.model.specs.Rule.{missedIn, missedRow}
 use Rattle.model.proofs.Searches.{first-zero, first-on, first-at}
 use Rattle.lists.specs.Lists.{networkOf, planSizes, planOf}
@@ -13,70 +10,21 @@ use Rattle.lists.specs.declared.Network as counts
 use Rattle.lists.specs.declared.PlanSizes as lengths
 use Rattle.lists.proofs.Positions.{head-in}
 use Rattle.checker.specs.Inner.{missedOf}
-use Rattle.checker.proofs.Good.{row-column-small}
 use Rattle.checker.proofs.Totals.{row-met, row-missed, missed-at, first-row-met, last-row-met}
 use native.Mathlib.Omega.{arith}
 use borrow.Author.Needs.{needs}
 use Rattle.checker.proofs.sums.missed_row.Statement.{statement}
 use Rattle.checker.proofs.sums.missed_row.Tie as tie
+use Rattle.checker.proofs.sums.missed_flow.Reads as missed-flow-reads
+use Rattle.checker.proofs.sums.row_sums.Reads as row-sums-reads
+use Rattle.lists.proofs.Network.of.Reads as Network-of-reads
+use Rattle.lists.proofs.PlanSizes.of.Reads as PlanSizes-of-reads
 
 abbrev Inv-loop : tie.InvT-loop
-Inv-loop network plan flows parts steps row₀ a₀ row a = (a ≤ steps) × (length row ≡ mostTunnels) × (first a (λ b. first (networkOf network .flows) (missedIn (networkOf network) (planOf plan) b)) ≡ none)
+Inv-loop network plan flows parts steps a₀ a = (a ≤ steps) × (1 ≤ a) × (first a (λ b. first (networkOf network .flows) (missedIn (networkOf network) (planOf plan) b)) ≡ none)
 
 abbrev μ-loop : tie.MeasureT-loop
-μ-loop network plan flows parts steps row₀ a₀ row a = steps - a
-
--- the network's own flows, the plan's own parts and steps
-module _ (c : tie.After-of2 Inv-loop μ-loop) where
-  abbrev start : tie.Start Inv-loop μ-loop
-  start = c .before .before .before .before
-
-  abbrev N : Net
-  N = networkOf (start .args .network .now)
-
-  abbrev P : Plan
-  P = planOf (start .args .plan .now)
-
-  flows : c .before .of .result .flows ≡ N .flows
-  unfolding networkOf
-  flows = ap (λ (n : counts.Network). n .flows) (c .before .of .ensures)
-
-  parts : c .of2 .result .parts ≡ P .parts
-  unfolding planOf
-  parts = ap (λ (n : lengths.PlanSizes). n .parts) (c .of2 .ensures)
-
-  steps : c .of2 .result .steps ≡ P .steps
-  unfolding planOf
-  steps = ap (λ (n : lengths.PlanSizes). n .steps) (c .of2 .ensures)
-
-  some-steps : 0 < P .steps
-  unfolding planOf
-  some-steps = omega (arith, start .pre .plan .steps)
-
--- what a turn finds of its row
-module _ (c : tie.After-missed-flow Inv-loop μ-loop) where
-  abbrev turn : tie.At-loop Inv-loop μ-loop
-  turn = c .before .before .before .before .before .before .before .before .before .before
-
-  abbrev sizes : tie.After-of2 Inv-loop μ-loop
-  sizes = c .before .before .before .before .before .before .before .before .before .before .before
-
-  few : N sizes .flows ≤ mostFlows
-  unfolding networkOf
-  few = start sizes .pre .network .ranges .sized .counts .flows
-
-  met : N sizes .flows ≤ c .missed-flow .result → first (N sizes .flows) (missedIn (N sizes) (P sizes) (turn .loop .a)) ≡ none
-  unfolding networkOf
-  met h = row-met (N sizes) (P sizes) (turn .loop .a) _ _ (c .before .before .before .before .before .before .before .row2 .ensures)
-      (c .before .before .before .row-sums .ensures) few _
-      (missed-at _ _ _ _ _ (parts sizes) (c .missed-flow .ensures)) h
-
-  missed : c .missed-flow .result < N sizes .flows
-      → first (N sizes .flows) (missedIn (N sizes) (P sizes) (turn .loop .a)) ≡ some (record { place = turn .loop .a; second = c .missed-flow .result })
-  unfolding networkOf
-  missed h = row-missed (N sizes) (P sizes) (turn .loop .a) _ _ (c .before .before .before .before .before .before .before .row2 .ensures)
-      (c .before .before .before .row-sums .ensures) few _
-      (missed-at _ _ _ _ _ (parts sizes) (c .missed-flow .ensures)) h
+μ-loop network plan flows parts steps a₀ a = steps - a
 
 of-requires : tie.Need-of-requires Inv-loop μ-loop
 of-requires c κs = head-in _ (c .before .before .pre .network .ranges .sized .size)
@@ -86,64 +34,51 @@ of-requires-2 c κs = search needs
 
 loop-holds : tie.Need-loop-holds Inv-loop μ-loop
 unfolding planOf
-loop-holds c = (omega (arith, steps c, start c .pre .plan .steps), refl, first-on _ _ (first-zero _) (first-row-met (N c) (P c) (start c .pre .network .sums)))
+loop-holds c = (omega (arith, ap (λ (m : lengths.PlanSizes). m .steps) (c .of2 .ensures), c .before .before .before .before .pre .plan .steps), omega arith, first-on _ _ (first-zero _) (first-row-met (networkOf (c .before .before .before .before .args .network .now)) (planOf (c .before .before .before .before .args .plan .now)) (c .before .before .before .before .pre .network .sums)))
 
-slice-aggregate-row : tie.Need-slice-aggregate-row Inv-loop μ-loop
-slice-aggregate-row c = search needs
-
-row-requires : tie.Need-row-requires Inv-loop μ-loop
-unfolding planOf
-row-requires c κs = (c .before .before .before .before .before .before .before .pre, omega (arith, c .before .loop-test .taken, steps (c .before .before .before)), omega (arith, c .before .before .loop .inv .1))
+sub-row-sums : tie.Need-sub-row-sums Inv-loop μ-loop
+sub-row-sums c = omega (arith, c .before .loop .inv .1)
 
 slice-aggregate-row-sums : tie.Need-slice-aggregate-row-sums Inv-loop μ-loop
 slice-aggregate-row-sums c = search needs
 
-slice-aggregate-row-sums-2 : tie.Need-slice-aggregate-row-sums-2 Inv-loop μ-loop
-slice-aggregate-row-sums-2 c = search needs
-
 row-sums-requires : tie.Need-row-sums-requires Inv-loop μ-loop
-unfolding planOf
-row-sums-requires c κs =
-    let low : c .before .before .before .before .before .before .loop .a ≤ planSizes (c .before .before .before .before .before .before .before .before .before .before .before .args .plan .now) .steps = omega (arith, c .before .before .before .before .before .loop-test .taken, steps (c .before .before .before .before .before .before .before)) in
-    (c .before .before .before .before .before .before .before .before .before .before .before .pre .network, omega (arith, c .before .before .before .row2 .kept), row-column-small _ _ (c .before .before .before .before .before .before .before .before .before .before .before .pre) _ _ low (c .before .before .before .row2 .ensures), refl)
+row-sums-requires c κs = (c .before .before .before .before .before .before .before .pre, omega (arith, c .before .loop-test .taken, ap (λ (m : lengths.PlanSizes). m .steps) (c .before .before .before .of2 .ensures)), refl)
 
 slice-aggregate-missed-flow : tie.Need-slice-aggregate-missed-flow Inv-loop μ-loop
 slice-aggregate-missed-flow c = search needs
 
 missed-flow-requires : tie.Need-missed-flow-requires Inv-loop μ-loop
-unfolding planOf
-missed-flow-requires c κs = (c .before .before .before .before .before .before .before .before .before .before .before .before .before .before .pre .network, omega (arith, parts (c .before .before .before .before .before .before .before .before .before .before), c .before .before .before .before .before .before .before .before .before .before .before .before .before .before .pre .plan .parts), omega (arith, c .before .before .row-sums .kept))
+missed-flow-requires c κs = (c .before .before .before .before .before .before .before .before .before .before .pre .network, omega (arith, ap (λ (m : lengths.PlanSizes). m .parts) (c .before .before .before .before .before .before .of2 .ensures), c .before .before .before .before .before .before .before .before .before .before .pre .plan .parts), omega (arith, c .before .before .row-sums .kept))
 
 returns : tie.Need-returns Inv-loop μ-loop
-unfolding missedRow
-returns c =
-    let k = c .before in
-    let s = sizes k in
-    sym (ap missedOf (first-at (λ b. first (N s .flows) (missedIn (N s) (P s) b)) (turn k .loop .a) (suc (P s .steps)) _ (turn k .loop .inv .2)
-    (missed k (omega (arith, c .if1 .taken, flows s))) (omega (arith, c .before .before .before .before .before .before .before .before .before .before .loop-test .taken, steps s))))
+unfolding missedRow networkOf planOf
+returns c = let e : suc (c .before .before .before .before .before .before .before .loop .a - 1) ≡ c .before .before .before .before .before .before .before .loop .a = omega (arith, c .before .before .before .before .before .before .before .loop .inv .1) in
+    let g = rw e at (c .before .before .before .before .row-sums .ensures) in
+    let m = missed-at _ _ _ _ _ (ap (λ (m : lengths.PlanSizes). m .parts) (c .before .before .before .before .before .before .before .before .of2 .ensures)) (c .before .missed-flow .ensures) in
+    sym (ap missedOf (first-at (λ b. first ((networkOf (c .before .before .before .before .before .before .before .before .before .before .before .before .args .network .now)) .flows) (missedIn (networkOf (c .before .before .before .before .before .before .before .before .before .before .before .before .args .network .now)) (planOf (c .before .before .before .before .before .before .before .before .before .before .before .before .args .plan .now)) b)) (c .before .before .before .before .before .before .before .loop .a) (suc ((planOf (c .before .before .before .before .before .before .before .before .before .before .before .before .args .plan .now)) .steps)) _ (c .before .before .before .before .before .before .before .loop .inv .2)
+    (row-missed (networkOf (c .before .before .before .before .before .before .before .before .before .before .before .before .args .network .now)) (planOf (c .before .before .before .before .before .before .before .before .before .before .before .before .args .plan .now)) (c .before .before .before .before .before .before .before .loop .a) _ g (c .before .before .before .before .before .before .before .before .before .before .before .before .pre .network .ranges .sized .counts .flows) _ m (omega (arith, c .if1 .taken, ap (λ (m : counts.Network). m .flows) (c .before .before .before .before .before .before .before .before .before .of .ensures)))) (omega (arith, c .before .before .before .before .before .before .loop-test .taken, ap (λ (m : lengths.PlanSizes). m .steps) (c .before .before .before .before .before .before .before .before .of2 .ensures)))))
 
 add-a : tie.Need-add-a Inv-loop μ-loop
-unfolding planOf
-add-a c = record { fits = omega (arith, c .before .before .before .before .before .before .before .before .before .before .loop-test .taken, steps (c .before .before .before .before .before .before .before .before .before .before .before .before), c .before .before .before .before .before .before .before .before .before .before .before .before .before .before .before .before .pre .plan .steps) }
+add-a c = record { fits = omega (arith, c .before .before .before .before .before .before .loop-test .taken, ap (λ (m : lengths.PlanSizes). m .steps) (c .before .before .before .before .before .before .before .before .of2 .ensures), c .before .before .before .before .before .before .before .before .before .before .before .before .pre .plan .steps) }
 
 loop-less : tie.Need-loop-less Inv-loop μ-loop
 loop-less c = search needs
 
 loop-again : tie.Need-loop-again Inv-loop μ-loop
-loop-again c = let k = c .before in
-    let s = sizes k in
-    (omega (arith, c .before .before .before .before .before .before .before .before .before .before .loop-test .taken), omega (arith, c .before .before .before .before .before .before .before .before .row2 .kept), first-on _ _ (turn k .loop .inv .2) (met k (omega (arith, c .if1 .left, flows s))))
+unfolding networkOf planOf
+loop-again c = let e : suc (c .before .before .before .before .before .before .before .loop .a - 1) ≡ c .before .before .before .before .before .before .before .loop .a = omega (arith, c .before .before .before .before .before .before .before .loop .inv .1) in
+    let g = rw e at (c .before .before .before .before .row-sums .ensures) in
+    let m = missed-at _ _ _ _ _ (ap (λ (m : lengths.PlanSizes). m .parts) (c .before .before .before .before .before .before .before .before .of2 .ensures)) (c .before .missed-flow .ensures) in
+    (omega (arith, c .before .before .before .before .before .before .loop-test .taken), omega arith, first-on _ _ (c .before .before .before .before .before .before .before .loop .inv .2) (row-met (networkOf (c .before .before .before .before .before .before .before .before .before .before .before .before .args .network .now)) (planOf (c .before .before .before .before .before .before .before .before .before .before .before .before .args .plan .now)) (c .before .before .before .before .before .before .before .loop .a) _ g (c .before .before .before .before .before .before .before .before .before .before .before .before .pre .network .ranges .sized .counts .flows) _ m (omega (arith, c .if1 .left, ap (λ (m : counts.Network). m .flows) (c .before .before .before .before .before .before .before .before .before .of .ensures)))))
 
 returns-2 : tie.Need-returns-2 Inv-loop μ-loop
-unfolding missedRow
-returns-2 c =
-    let k = c .before in
-    let s = c .before .before in
-    let e : k .loop .a ≡ P s .steps = omega (arith, c .loop-test .left, k .loop .inv .0, steps s) in
-    let before = subst (λ (n : ℕ). first n (λ b. first (N s .flows) (missedIn (N s) (P s) b)) ≡ none) e (k .loop .inv .2) in
-    let last : P s .steps + 1 ≡ suc (P s .steps) = omega arith in
-    sym (ap missedOf (subst (λ (n : ℕ). first n (λ b. first (N s .flows) (missedIn (N s) (P s) b)) ≡ none) last
-    (first-on _ _ before (last-row-met (N s) (P s) (start s .pre .network .sums) (some-steps s)))))
+unfolding missedRow networkOf planOf
+returns-2 c = let e : c .before .loop .a ≡ planSizes (c .before .before .before .before .before .before .args .plan .now) .steps = omega (arith, c .loop-test .left, c .before .loop .inv .0, ap (λ (m : lengths.PlanSizes). m .steps) (c .before .before .of2 .ensures)) in
+    let before = subst (λ (n : ℕ). first n (λ b. first ((networkOf (c .before .before .before .before .before .before .args .network .now)) .flows) (missedIn (networkOf (c .before .before .before .before .before .before .args .network .now)) (planOf (c .before .before .before .before .before .before .args .plan .now)) b)) ≡ none) e (c .before .loop .inv .2) in
+    let last : planSizes (c .before .before .before .before .before .before .args .plan .now) .steps + 1 ≡ suc (planSizes (c .before .before .before .before .before .before .args .plan .now) .steps) = omega arith in
+    sym (ap missedOf (subst (λ (n : ℕ). first n (λ b. first ((networkOf (c .before .before .before .before .before .before .args .network .now)) .flows) (missedIn (networkOf (c .before .before .before .before .before .before .args .network .now)) (planOf (c .before .before .before .before .before .before .args .plan .now)) b)) ≡ none) last
+    (first-on _ _ before (last-row-met (networkOf (c .before .before .before .before .before .before .args .network .now)) (planOf (c .before .before .before .before .before .before .args .plan .now)) (c .before .before .before .before .before .before .pre .network .sums) (omega (arith, c .before .before .before .before .before .before .pre .plan .steps))))))
 
 pub missed-row-spec : {M : Type 1} → statement M
 missed-row-spec =
@@ -154,10 +89,8 @@ missed-row-spec =
     of-requires
     of-requires-2
     loop-holds
-    slice-aggregate-row
-    row-requires
+    sub-row-sums
     slice-aggregate-row-sums
-    slice-aggregate-row-sums-2
     row-sums-requires
     slice-aggregate-missed-flow
     missed-flow-requires

@@ -1,0 +1,3 @@
+pub mod Gathered
+pub mod Claim
+pub mod Tables
