@@ -5,7 +5,7 @@ ghost use Prim.Native.Nat.{ℕ, _+_, _*_, _-_, _≤_, _<_};
 ghost use lib.ListN.{length};
 ghost use Rattle.lists.specs.Answers.{done, withRoom, lent};
 ghost use Rattle.lists.specs.Lists.{networkSizes, linkAt, flowAt, tunnelAt, mostNumbers};
-ghost use Rattle.forms.specs.Form.{Whole, networkLines, planLines};
+ghost use Rattle.forms.specs.Form.{Whole, networkLines, flowLines, tunnelLines, planLines};
 ghost use Rattle.forms.specs.Slots.{keyBytes};
 ghost use Rattle.forms.specs.Write.{digitChar, digitsIn, widthOf, lineOf, render};
 ghost use Rattle.writers.specs.Write.{Puts, decimalValue, decimalLine, hexLine, linesFrom, Decimal, Writable, Needed, widthsOf, tunnelWidths};
@@ -349,8 +349,8 @@ fn put_links(out: &mut [u8], at: usize, list: &[u64]) -> usize
 // Puts the lines of a network's flows.
 fn put_flows(out: &mut [u8], at: usize, list: &[u64]) -> usize
     requires { ⌜ Whole Form.Network (now list) ⌝ }
-    requires { ⌜ at + length (linesFrom Form.Network (now list) (flowAt (networkSizes (now list)) 0) (2 * networkSizes (now list) .flows)) ≤ length (now out) ⌝ }
-    ensures { λ r. ⌜ Puts (linesFrom Form.Network (now (list .entry)) (flowAt (networkSizes (now (list .entry))) 0) (2 * networkSizes (now (list .entry)) .flows)) at (now (out .entry)) (now (out .exit)) r ⌝ }
+    requires { ⌜ at + length (linesFrom Form.Network (now list) (flowAt (networkSizes (now list)) 0) (length flowLines * networkSizes (now list) .flows)) ≤ length (now out) ⌝ }
+    ensures { λ r. ⌜ Puts (linesFrom Form.Network (now (list .entry)) (flowAt (networkSizes (now (list .entry))) 0) (length flowLines * networkSizes (now (list .entry)) .flows)) at (now (out .entry)) (now (out .exit)) r ⌝ }
 {
     let sizes = Network::of(list);
     let mut p = at;
@@ -367,8 +367,8 @@ fn put_flows(out: &mut [u8], at: usize, list: &[u64]) -> usize
 // Puts the lines of a network's tunnels.
 fn put_tunnels(out: &mut [u8], at: usize, list: &[u64]) -> usize
     requires { ⌜ Whole Form.Network (now list) ⌝ }
-    requires { ⌜ at + length (linesFrom Form.Network (now list) (tunnelAt (networkSizes (now list)) 0) (4 * networkSizes (now list) .tunnels)) ≤ length (now out) ⌝ }
-    ensures { λ r. ⌜ Puts (linesFrom Form.Network (now (list .entry)) (tunnelAt (networkSizes (now (list .entry))) 0) (4 * networkSizes (now (list .entry)) .tunnels)) at (now (out .entry)) (now (out .exit)) r ⌝ }
+    requires { ⌜ at + length (linesFrom Form.Network (now list) (tunnelAt (networkSizes (now list)) 0) (length (tunnelLines (networkSizes (now list))) * networkSizes (now list) .tunnels)) ≤ length (now out) ⌝ }
+    ensures { λ r. ⌜ Puts (linesFrom Form.Network (now (list .entry)) (tunnelAt (networkSizes (now (list .entry))) 0) (length (tunnelLines (networkSizes (now (list .entry)))) * networkSizes (now (list .entry)) .tunnels)) at (now (out .entry)) (now (out .exit)) r ⌝ }
 {
     let sizes = Network::of(list);
     let mut p = at;
