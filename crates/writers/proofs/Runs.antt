@@ -23,8 +23,9 @@ use Rattle.forms.specs.declared.form.Field.the-variants.{Line, End}
 use Rattle.forms.proofs.Forms.{body-cap, body-flow, body-tunnel, network-head-field, network-body-field, plan-head-field, plan-body-field}
 use Rattle.forms.proofs.Good.{network-size, plan-size}
 use Rattle.forms.proofs.Rendering.{render-step, render-end, at-most, short-value, line-length}
-use Rattle.writers.specs.Write.{Puts, decimalLine, hexLine, lineAt, linesFrom, Decimal, Writable}
-use Rattle.writers.proofs.Writing.{puts-none, then-fits, then-puts}
+use Rattle.lines.specs.Puts.{Puts, decimalLine, hexLine}
+use Rattle.writers.specs.Write.{lineAt, linesFrom, Decimal, Writable}
+use Rattle.lines.proofs.Writing.{puts-none, then-fits, then-puts}
 
 -- ---- lines one after the other
 

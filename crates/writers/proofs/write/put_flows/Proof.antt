@@ -11,8 +11,9 @@ use Rattle.forms.proofs.Good.{network-ranges}
 use Rattle.forms.specs.Bytes.{bytes}
 use Rattle.forms.specs.Form.{flowLines}
 use Rattle.forms.specs.declared.form.Form.the-variants.{Network}
-use Rattle.writers.specs.Write.{Puts, linesFrom}
-use Rattle.writers.proofs.Writing.{puts-length}
+use Rattle.lines.specs.Puts.{Puts}
+use Rattle.writers.specs.Write.{linesFrom}
+use Rattle.lines.proofs.Writing.{puts-length}
 use Rattle.writers.proofs.Runs.{DecimalAt, class-line, rate-line, no-lines, run-within, next-fits, next-put}
 use native.Mathlib.Omega.{arith}
 use borrow.Author.Needs.{needs}
@@ -20,7 +21,7 @@ use Rattle.writers.proofs.write.put_flows.Statement.{statement}
 use Rattle.writers.proofs.write.put_flows.Tie as tie
 use Rattle.lists.proofs.Network.flow_at.Reads as flow-at-reads
 use Rattle.lists.proofs.Network.of.Reads as of-reads
-use Rattle.writers.proofs.write.put_line.Reads as put-line-reads
+use Rattle.lines.proofs.put_line.Reads as put-line-reads
 
 abbrev Inv-loop : tie.InvT-loop
 Inv-loop out₀ at list sizes p₀ f₀ t9 t10 out p f = record { few : f ≤ sizes .flows; put : Puts (linesFrom Network list (flowAt (networkSizes list) 0) (length flowLines * f)) at out₀ out p }

@@ -9,7 +9,8 @@ use Rattle.lists.proofs.Positions.{link-at, flow-at, tunnel-at, flows-follow, t
 use Rattle.forms.specs.Form.{networkLines, flowLines, tunnelLines}
 use Rattle.forms.specs.declared.form.Form.the-variants.{Network}
 use Rattle.forms.proofs.Good.{network-size}
-use Rattle.writers.specs.Write.{Puts, linesFrom}
+use Rattle.lines.specs.Puts.{Puts}
+use Rattle.writers.specs.Write.{linesFrom}
 use Rattle.writers.proofs.Runs.{all-lines, front-fits, rest-fits, rest-put}
 use native.Mathlib.Omega.{arith}
 use borrow.Author.Needs.{needs}

@@ -11,8 +11,9 @@ use Rattle.forms.proofs.Good.{network-ranges}
 use Rattle.forms.specs.Bytes.{bytes}
 use Rattle.forms.specs.Form.{tunnelLines}
 use Rattle.forms.specs.declared.form.Form.the-variants.{Network}
-use Rattle.writers.specs.Write.{Puts, lineAt, hexLine, linesFrom}
-use Rattle.writers.proofs.Writing.{puts-length}
+use Rattle.lines.specs.Puts.{Puts, hexLine}
+use Rattle.writers.specs.Write.{lineAt, linesFrom}
+use Rattle.lines.proofs.Writing.{puts-length}
 use Rattle.writers.proofs.Runs.{DecimalAt, flow-line, via-line, old-line, new-line, no-lines, run-within, next-fits, next-put}
 use native.Mathlib.Omega.{arith}
 use borrow.Author.Needs.{needs}
@@ -20,8 +21,8 @@ use Rattle.writers.proofs.write.put_tunnels.Statement.{statement}
 use Rattle.writers.proofs.write.put_tunnels.Tie as tie
 use Rattle.lists.proofs.Network.of.Reads as of-reads
 use Rattle.lists.proofs.Network.tunnel_at.Reads as tunnel-at-reads
-use Rattle.writers.proofs.write.put_line.Reads as put-line-reads
-use Rattle.writers.proofs.write.put_set_line.Reads as put-set-line-reads
+use Rattle.lines.proofs.put_line.Reads as put-line-reads
+use Rattle.lines.proofs.put_set_line.Reads as put-set-line-reads
 
 abbrev Inv-loop : tie.InvT-loop
 Inv-loop out₀ at list sizes p₀ t₀ t11 t12 t13 t14 out p t = record { few : t ≤ sizes .tunnels; put : Puts (linesFrom Network list (tunnelAt (networkSizes list) 0) (length (tunnelLines (networkSizes list)) * t)) at out₀ out p }
