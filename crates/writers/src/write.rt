@@ -150,7 +150,7 @@ fn plan_needed(list: &[u64], room: usize) -> usize
     plan_len(list)
 }
 
-// Puts the lines of a network that stand before those of its links.
+// Puts the lines of a network that stand before those of its links. This and the functions below answer the place past what they put.
 fn put_network_head(out: &mut [u8], list: &[u64]) -> usize
     requires { ⌜ Whole Form.Network (now list) ⌝ }
     requires { ⌜ length (linesFrom Form.Network (now list) 0 (length networkLines)) ≤ length (now out) ⌝ }
