@@ -9,7 +9,6 @@ use libc::STDOUT_FILENO;
 use lists::Answer;
 use lists::Network;
 use lists::PlanSizes;
-use writers::write;
 
 // The marks are lent since the check asks for them; only the answer is printed.
 const MARKS: usize = Network::TUNNELS as usize;
@@ -53,9 +52,9 @@ fn put_answer(network: &[u8], plan: &[u8], out: &mut [u8]) -> usize
 {
     let answer = check_texts(network, plan);
     match answer {
-        Answer::Done(_) => write::put(out, 0, b"accepted=1\n"),
+        Answer::Done(_) => lines::put(out, 0, b"accepted=1\n"),
         // a check gives no plan
-        Answer::Plan(_) => write::put(out, 0, b"accepted=1\n"),
+        Answer::Plan(_) => lines::put(out, 0, b"accepted=1\n"),
         Answer::Refused {
             number,
             place,

@@ -86,24 +86,24 @@ module _ (n : counts.Network) where
   unfolding networkBody
   body-cap k h = rw (lt-ltb (linkAt n k) (flowAt n 0) (omega (arith, link-at n k, link-at n (n .links), flows-follow n)))
 
-  pub body-flow : (f j : ℕ) → f < n .flows → j < 2 → networkBody n (flowAt n f + j) ≡ getD flowLines j End
+  pub body-flow : (f j : ℕ) → f < n .flows → j < length flowLines → networkBody n (flowAt n f + j) ≡ getD flowLines j End
   unfolding networkBody
   body-flow f j h k =
       let x : flowAt n 0 ≤ flowAt n f + j = omega (arith, flow-at n f) in
       let y : flowAt n f + j < tunnelAt n 0 = omega (arith, flow-at n f, flow-at n (n .flows), tunnels-follow n) in
-      let z : (flowAt n f + j - flowAt n 0) % 2 ≡ j = omega (arith, flow-at n f) in
+      let z : (flowAt n f + j - flowAt n 0) % length flowLines ≡ j = omega (arith, flow-at n f) in
       rw (le-ltb (flowAt n f + j) (flowAt n 0) x, lt-ltb (flowAt n f + j) (tunnelAt n 0) y, z)
 
   flows-before : flowAt n 0 ≤ tunnelAt n 0
   flows-before = omega (arith, flow-at n (n .flows), tunnels-follow n)
 
-  pub body-tunnel : (t j : ℕ) → t < n .tunnels → j < 4 → networkBody n (tunnelAt n t + j) ≡ getD (tunnelLines n) j End
+  pub body-tunnel : (t j : ℕ) → t < n .tunnels → j < length (tunnelLines n) → networkBody n (tunnelAt n t + j) ≡ getD (tunnelLines n) j End
   unfolding networkBody
   body-tunnel t j h k =
       let x : flowAt n 0 ≤ tunnelAt n t + j = omega (arith, tunnel-at n t, flows-before) in
       let y : tunnelAt n 0 ≤ tunnelAt n t + j = omega (arith, tunnel-at n t) in
       let w : tunnelAt n t + j < networkSize n = omega (arith, tunnel-at n t, tunnel-at n (n .tunnels)) in
-      let z : (tunnelAt n t + j - tunnelAt n 0) % 4 ≡ j = omega (arith, tunnel-at n t) in
+      let z : (tunnelAt n t + j - tunnelAt n 0) % length (tunnelLines n) ≡ j = omega (arith, tunnel-at n t) in
       rw (le-ltb (tunnelAt n t + j) (flowAt n 0) x, le-ltb (tunnelAt n t + j) (tunnelAt n 0) y, lt-ltb (tunnelAt n t + j) (networkSize n) w, z)
 
   pub body-end : (i : ℕ) → networkSize n ≤ i → networkBody n i ≡ End
@@ -141,21 +141,21 @@ module _ (l : List ℕ) (i : ℕ) (h : i ≤ length l) where
   unfolding fieldOf
   network-body-field k = rw (length-take-le i l h, sizes-kept k, le-ltb i (length networkLines) k)
 
-  pub plan-head-field : i < 4 → fieldOf Plan (take i l) ≡ getD planLines i End
+  pub plan-head-field : i < length planLines → fieldOf Plan (take i l) ≡ getD planLines i End
   unfolding fieldOf
-  plan-head-field k = rw (length-take-le i l h, lt-ltb i 4 k)
+  plan-head-field k = rw (length-take-le i l h, lt-ltb i (length planLines) k)
 
-  pub plan-body-field : 4 ≤ i → fieldOf Plan (take i l) ≡ planBody (planSizes l) i
+  pub plan-body-field : length planLines ≤ i → fieldOf Plan (take i l) ≡ planBody (planSizes l) i
   unfolding fieldOf
-  plan-body-field k = rw (length-take-le i l h, le-ltb i 4 k, getD-take i l 1 0 (omega arith), getD-take i l 2 0 (omega arith), getD-take i l 3 0 (omega arith))
+  plan-body-field k = rw (length-take-le i l h, le-ltb i (length planLines) k, getD-take i l 1 0 (omega arith), getD-take i l 2 0 (omega arith), getD-take i l 3 0 (omega arith))
 
-  pub rules-head-field : i < 4 → fieldOf Rules (take i l) ≡ getD rulesLines i End
+  pub rules-head-field : i < length rulesLines → fieldOf Rules (take i l) ≡ getD rulesLines i End
   unfolding fieldOf
-  rules-head-field k = rw (length-take-le i l h, lt-ltb i 4 k)
+  rules-head-field k = rw (length-take-le i l h, lt-ltb i (length rulesLines) k)
 
-  pub rules-body-field : 4 ≤ i → fieldOf Rules (take i l) ≡ rulesBody (tableSizes l) i
+  pub rules-body-field : length rulesLines ≤ i → fieldOf Rules (take i l) ≡ rulesBody (tableSizes l) i
   unfolding fieldOf
-  rules-body-field k = rw (length-take-le i l h, le-ltb i 4 k, getD-take i l 2 0 (omega arith), getD-take i l 3 0 (omega arith))
+  rules-body-field k = rw (length-take-le i l h, le-ltb i (length rulesLines) k, getD-take i l 2 0 (omega arith), getD-take i l 3 0 (omega arith))
 
 -- a sound network's number in the head, and after it
 module _ (l : List ℕ) (s : Sound Network l) where
@@ -178,10 +178,10 @@ head-of-network l s h = limited l (λ i k. network-head-at l s i (omega arith) k
 -- ---- the plan's fields
 
 module _ (l : List ℕ) (s : Sound Plan l) where
-  pub plan-head-at : (i : ℕ) → i < length l → i < 4 → T (allows (getD planLines i End) (at l i))
+  pub plan-head-at : (i : ℕ) → i < length l → i < length planLines → T (allows (getD planLines i End) (at l i))
   plan-head-at i h k = rw (plan-head-field l i (le-of-lt h) k) at (sound-at Plan l i h s)
 
-  pub plan-body-at : (i : ℕ) → i < length l → 4 ≤ i → T (allows (planBody (planSizes l) i) (at l i))
+  pub plan-body-at : (i : ℕ) → i < length l → length planLines ≤ i → T (allows (planBody (planSizes l) i) (at l i))
   plan-body-at i h k = rw (plan-body-field l i (le-of-lt h) k) at (sound-at Plan l i h s)
 
 pub record PlanHead (l : List ℕ) : Type 0 where
@@ -189,7 +189,7 @@ pub record PlanHead (l : List ℕ) : Type 0 where
   pub steps : (1 ≤ planSizes l .steps) × (planSizes l .steps ≤ mostSteps)
   pub tunnels : planSizes l .tunnels ≤ mostTunnels
 
-pub head-of-plan : (l : List ℕ) → Sound Plan l → 4 ≤ length l → PlanHead l
+pub head-of-plan : (l : List ℕ) → Sound Plan l → length planLines ≤ length l → PlanHead l
 head-of-plan l s h =
     record {
       parts = between 1 mostSteps (at l 1) (plan-head-at l s 1 (omega arith) (omega arith));
@@ -204,12 +204,12 @@ module _ (n : RuleTables) where
   unfolding rulesBody
   body-room s h = let x : roomAt n s < ruleAt n 0 = omega arith in rw (lt-ltb (roomAt n s) (ruleAt n 0) x)
 
-  pub body-rule : (t j : ℕ) → t < n .tunnels → j < 2 → rulesBody n (ruleAt n t + j) ≡ getD (ruleLines n) j End
+  pub body-rule : (t j : ℕ) → t < n .tunnels → j < length (ruleLines n) → rulesBody n (ruleAt n t + j) ≡ getD (ruleLines n) j End
   unfolding rulesBody
   body-rule t j h k =
       let x : ruleAt n 0 ≤ ruleAt n t + j = omega arith in
       let y : ruleAt n t + j < tablesSize n = omega arith in
-      let z : (ruleAt n t + j - ruleAt n 0) % 2 ≡ j = omega arith in
+      let z : (ruleAt n t + j - ruleAt n 0) % length (ruleLines n) ≡ j = omega arith in
       rw (le-ltb (ruleAt n t + j) (ruleAt n 0) x, lt-ltb (ruleAt n t + j) (tablesSize n) y, z)
 
   pub rules-end : (i : ℕ) → tablesSize n ≤ i → rulesBody n i ≡ End
@@ -217,17 +217,17 @@ module _ (n : RuleTables) where
   rules-end i h = let x : ruleAt n 0 ≤ i = omega arith in rw (le-ltb i (ruleAt n 0) x, le-ltb i (tablesSize n) h)
 
 module _ (l : List ℕ) (s : Sound Rules l) where
-  pub rules-head-at : (i : ℕ) → i < length l → i < 4 → T (allows (getD rulesLines i End) (at l i))
+  pub rules-head-at : (i : ℕ) → i < length l → i < length rulesLines → T (allows (getD rulesLines i End) (at l i))
   rules-head-at i h k = rw (rules-head-field l i (le-of-lt h) k) at (sound-at Rules l i h s)
 
-  pub rules-body-at : (i : ℕ) → i < length l → 4 ≤ i → T (allows (rulesBody (tableSizes l) i) (at l i))
+  pub rules-body-at : (i : ℕ) → i < length l → length rulesLines ≤ i → T (allows (rulesBody (tableSizes l) i) (at l i))
   rules-body-at i h k = rw (rules-body-field l i (le-of-lt h) k) at (sound-at Rules l i h s)
 
 pub record RulesHead (l : List ℕ) : Type 0 where
   pub switches : (1 ≤ tableSizes l .switches) × (tableSizes l .switches ≤ mostSwitches)
   pub tunnels : tableSizes l .tunnels ≤ mostTunnels
 
-pub head-of-rules : (l : List ℕ) → Sound Rules l → 4 ≤ length l → RulesHead l
+pub head-of-rules : (l : List ℕ) → Sound Rules l → length rulesLines ≤ length l → RulesHead l
 head-of-rules l s h =
     record {
       switches = between 1 mostSwitches (at l 2) (rules-head-at l s 2 (omega arith) (omega arith));

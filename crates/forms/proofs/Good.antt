@@ -112,11 +112,11 @@ module _ (l : List ℕ) (w : Whole Network l) where
   cap-line : (k : ℕ) → k < sizes .links → T (allows (line "cap=" (Between 0 mostAmount)) (at l (linkAt sizes k)))
   cap-line k h = rw (body-cap sizes k h) at (body-line (linkAt sizes k) (link-after sizes k) (link-in l network-size k h))
 
-  flow-line : (f j : ℕ) → f < sizes .flows → j < 2 → T (allows (getD flowLines j End) (at l (flowAt sizes f + j)))
+  flow-line : (f j : ℕ) → f < sizes .flows → j < length flowLines → T (allows (getD flowLines j End) (at l (flowAt sizes f + j)))
   flow-line f j h k =
       rw (body-flow sizes f j h k) at (body-line (flowAt sizes f + j) (omega (arith, flow-after sizes f)) (omega (arith, flow-in l network-size f h)))
 
-  tunnel-line : (t j : ℕ) → t < sizes .tunnels → j < 4 → T (allows (getD (tunnelLines sizes) j End) (at l (tunnelAt sizes t + j)))
+  tunnel-line : (t j : ℕ) → t < sizes .tunnels → j < length (tunnelLines sizes) → T (allows (getD (tunnelLines sizes) j End) (at l (tunnelAt sizes t + j)))
   tunnel-line t j h k =
       rw (body-tunnel sizes t j h k) at (body-line (tunnelAt sizes t + j) (omega (arith, tunnel-after sizes t)) (omega (arith, tunnel-in l network-size t h)))
 

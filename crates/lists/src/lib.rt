@@ -138,7 +138,7 @@ impl PlanSizes {
 
     // The sizes of the plan that a list holds, which has a head.
     pub fn of(list: &[u64]) -> PlanSizes
-        requires { ⌜ 4 ≤ length (now list) ⌝ }
+        requires { ⌜ rowAt (planSizes (now list)) 1 ≤ length (now list) ⌝ }
         ensures { λ r. ⌜ r ≡ planSizes (now (list .entry)) ⌝ }
     {
         PlanSizes {

@@ -11,8 +11,8 @@ use Rattle.lists.specs.Answers.{done, lent}
 use Rattle.lists.specs.declared.Answer.{Answer}
 use Rattle.lists.specs.declared.Answer.the-variants.{Done, Plan, Refused}
 use Rattle.forms.specs.Bytes.{bytes}
-use Rattle.writers.specs.Write.{Puts}
-use Rattle.writers.proofs.Writing.{placed-front}
+use Rattle.lines.specs.Puts.{Puts}
+use Rattle.lines.proofs.Writing.{placed-front}
 use Rattle.report.specs.Printed.{printedLine, refusalLines, printedPlan}
 use Rattle.report.proofs.Room.{given}
 use Rattle.report.proofs.Decimals.{line-most}

@@ -11,8 +11,8 @@ use lib.ListN.{length, length-append}
 use Rattle.io.specs.Digits.{digits, Fewest}
 use Rattle.forms.specs.Write.{digitChar, digitsIn, widthFrom}
 use Rattle.forms.proofs.Numbers.{length-digits, width-from, width-same}
-use Rattle.writers.specs.Write.{Puts}
-use Rattle.writers.proofs.Writing.{puts-length}
+use Rattle.lines.specs.Puts.{Puts}
+use Rattle.lines.proofs.Writing.{puts-length}
 use Rattle.report.specs.Printed.{decimal, printedLine}
 
 -- digits from the last on, and from the first on

@@ -1,9 +1,8 @@
 // What the two programs share: the lines of a refusal.
 ghost use Prim.Native.Nat.{_+_, _≤_};
 ghost use lib.ListN.{length};
-ghost use Rattle.writers.specs.Write.{Puts};
+ghost use Rattle.lines.specs.Puts.{Puts};
 ghost use Rattle.report.specs.Printed.{decimal, printedLine, refusalLines};
-use writers::write;
 
 // Puts a number in decimal at a place. This and the functions below answer the place past what they put.
 fn put_decimal(out: &mut [u8], at: usize, v: u64) -> usize
@@ -12,7 +11,7 @@ fn put_decimal(out: &mut [u8], at: usize, v: u64) -> usize
 {
     let mut digits = [0u8; 20];
     let count = io::decimal(v, &mut digits);
-    write::put(out, at, &digits[..count])
+    lines::put(out, at, &digits[..count])
 }
 
 // Puts a line: a key and a number.
@@ -20,7 +19,7 @@ fn put_line(out: &mut [u8], at: usize, key: &[u8], v: u64) -> usize
     requires { ⌜ at + length (now key) + 21 ≤ length (now out) ⌝ }
     ensures { λ r. ⌜ Puts (printedLine (now (key .entry)) v) at (now (out .entry)) (now (out .exit)) r ⌝ }
 {
-    let from = write::put(out, at, key);
+    let from = lines::put(out, at, key);
     let feed = put_decimal(out, from, v);
     out[feed] = b'\n';
     feed + 1

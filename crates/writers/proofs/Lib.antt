@@ -1,4 +1,3 @@
-pub mod Writing
-pub mod Digits
+pub mod Answered
 pub mod Runs
 pub mod Measuring

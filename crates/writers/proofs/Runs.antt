@@ -23,8 +23,9 @@ use Rattle.forms.specs.declared.form.Field.the-variants.{Line, End}
 use Rattle.forms.proofs.Forms.{body-cap, body-flow, body-tunnel, network-head-field, network-body-field, plan-head-field, plan-body-field}
 use Rattle.forms.proofs.Good.{network-size, plan-size}
 use Rattle.forms.proofs.Rendering.{render-step, render-end, at-most, short-value, line-length}
-use Rattle.writers.specs.Write.{Puts, decimalLine, hexLine, lineAt, linesFrom, Decimal, Writable}
-use Rattle.writers.proofs.Writing.{puts-none, then-fits, then-puts}
+use Rattle.lines.specs.Puts.{Puts, decimalLine, hexLine}
+use Rattle.writers.specs.Write.{lineAt, linesFrom, Decimal, Writable}
+use Rattle.lines.proofs.Writing.{puts-none, then-fits, then-puts}
 
 -- ---- lines one after the other
 
@@ -153,22 +154,22 @@ module _ (l : List ℕ) (w : Whole Network l) where
       decimal-at Network l i _ _ (w .sound) within (body-field i (linkAt sizes k) within e (link-after sizes k) ∙ body-cap sizes k h) refl
 
   -- the lines of flow f, and those of tunnel t
-  flow-within : (f j i : ℕ) → f < sizes .flows → j < 2 → i ≡ flowAt sizes f + j → i < length l
+  flow-within : (f j i : ℕ) → f < sizes .flows → j < length flowLines → i ≡ flowAt sizes f + j → i < length l
   flow-within f j i h k e = omega (arith, flow-in l (network-size l w) f h)
 
-  flow-field : (f j i : ℕ) → f < sizes .flows → j < 2 → i ≡ flowAt sizes f + j → fieldOf Network (take i l) ≡ getD flowLines j End
+  flow-field : (f j i : ℕ) → f < sizes .flows → j < length flowLines → i ≡ flowAt sizes f + j → fieldOf Network (take i l) ≡ getD flowLines j End
   flow-field f j i h k e = body-field i (flowAt sizes f + j) (flow-within f j i h k e) e (omega (arith, flow-after sizes f)) ∙ body-flow sizes f j h k
 
-  tunnel-within : (t j i : ℕ) → t < sizes .tunnels → j < 4 → i ≡ tunnelAt sizes t + j → i < length l
+  tunnel-within : (t j i : ℕ) → t < sizes .tunnels → j < length (tunnelLines sizes) → i ≡ tunnelAt sizes t + j → i < length l
   tunnel-within t j i h k e = omega (arith, tunnel-in l (network-size l w) t h)
 
-  tunnel-field : (t j i : ℕ) → t < sizes .tunnels → j < 4 → i ≡ tunnelAt sizes t + j → fieldOf Network (take i l) ≡ getD (tunnelLines sizes) j End
+  tunnel-field : (t j i : ℕ) → t < sizes .tunnels → j < length (tunnelLines sizes) → i ≡ tunnelAt sizes t + j → fieldOf Network (take i l) ≡ getD (tunnelLines sizes) j End
   tunnel-field t j i h k e = body-field i (tunnelAt sizes t + j) (tunnel-within t j i h k e) e (omega (arith, tunnel-after sizes t)) ∙ body-tunnel sizes t j h k
 
-  of-flow : (f j i k : ℕ) (r : Range) → f < sizes .flows → j < 2 → i ≡ flowAt sizes f + j → getD flowLines j End ≡ Line k r → isHex r ≡ false → DecimalAt Network l i (prefixOf k)
+  of-flow : (f j i k : ℕ) (r : Range) → f < sizes .flows → j < length flowLines → i ≡ flowAt sizes f + j → getD flowLines j End ≡ Line k r → isHex r ≡ false → DecimalAt Network l i (prefixOf k)
   of-flow f j i k r h below e line x = decimal-at Network l i k r (w .sound) (flow-within f j i h below e) (flow-field f j i h below e ∙ line) x
 
-  of-tunnel : (t j i k : ℕ) (r : Range) → t < sizes .tunnels → j < 4 → i ≡ tunnelAt sizes t + j → getD (tunnelLines sizes) j End ≡ Line k r → isHex r ≡ false
+  of-tunnel : (t j i k : ℕ) (r : Range) → t < sizes .tunnels → j < length (tunnelLines sizes) → i ≡ tunnelAt sizes t + j → getD (tunnelLines sizes) j End ≡ Line k r → isHex r ≡ false
       → DecimalAt Network l i (prefixOf k)
   of-tunnel t j i k r h below e line x = decimal-at Network l i k r (w .sound) (tunnel-within t j i h below e) (tunnel-field t j i h below e ∙ line) x
 

@@ -1,36 +1,16 @@
--- What a write leaves, and the lines of a list, from any on.
+-- The lines of a list, from any on.
 use Prim.Native.Nat.{ℕ, zero, suc, _+_, _≤_, _<_}
 use mathlib.Core.Path.{_≡_}
 use mathlib.Core.Bool.{false}
-use mathlib.Core.List.{List, [], _∷_, _++_}
-use lib.ListN.{length, take, drop, getD}
+use mathlib.Core.List.{List, [], _++_}
+use lib.ListN.{length, take, getD}
 use Rattle.lists.specs.Lists.{networkSizes, tunnelAt, mostNumbers}
 use Rattle.forms.specs.Form.{fieldOf, isHex}
-use Rattle.forms.specs.Write.{digitsIn, widthOf, lineOf}
+use Rattle.forms.specs.Write.{widthOf, lineOf}
 use Rattle.forms.specs.declared.form.Form.{Form}
 use Rattle.forms.specs.declared.form.Range.{Range}
 use Rattle.forms.specs.declared.form.Field.{Field}
 use Rattle.forms.specs.declared.form.Field.the-variants.{Line}
-
--- a list with others in the place of those from `at` on
-unfoldable pub placed : List ℕ → ℕ → List ℕ → List ℕ
-placed out at s = take at out ++ (s ++ drop (at + length s) out)
-
--- bytes are put at a place, and the place past them is answered
-pub record Puts (s : List ℕ) (at : ℕ) (out out′ : List ℕ) (past : ℕ) : Type 0 where
-  pub place : past ≡ at + length s
-  pub bytes : out′ ≡ placed out at s
-
--- ---- lines, by what stands before their value
-
-abbrev pub decimalValue : ℕ → List ℕ
-decimalValue v = digitsIn 10 (widthOf v) v ++ (10 ∷ [])
-
-abbrev pub decimalLine : List ℕ → ℕ → List ℕ
-decimalLine key v = key ++ decimalValue v
-
-abbrev pub hexLine : List ℕ → ℕ → List ℕ
-hexLine key v = key ++ (digitsIn 16 16 v ++ (10 ∷ []))
 
 -- ---- the lines of a list
 

@@ -5,10 +5,11 @@ ghost use Prim.Native.Nat.{ℕ, _+_, _*_, _-_, _≤_, _<_};
 ghost use lib.ListN.{length};
 ghost use Rattle.lists.specs.Answers.{done, withRoom, lent};
 ghost use Rattle.lists.specs.Lists.{networkSizes, linkAt, flowAt, tunnelAt, mostNumbers};
-ghost use Rattle.forms.specs.Form.{Whole, networkLines, planLines};
+ghost use Rattle.forms.specs.Form.{Whole, networkLines, flowLines, tunnelLines, planLines};
 ghost use Rattle.forms.specs.Slots.{keyBytes};
-ghost use Rattle.forms.specs.Write.{digitChar, digitsIn, widthOf, lineOf, render};
-ghost use Rattle.writers.specs.Write.{Puts, decimalValue, decimalLine, hexLine, linesFrom, Decimal, Writable, Needed, widthsOf, tunnelWidths};
+ghost use Rattle.forms.specs.Write.{lineOf, render};
+ghost use Rattle.lines.specs.Puts.{Puts};
+ghost use Rattle.writers.specs.Write.{linesFrom, Decimal, Writable, Needed, widthsOf, tunnelWidths};
 ghost use Rattle.forms.specs.Named.{writeNetwork, writePlan, writeRules};
 use forms::form;
 use forms::form::Field;
@@ -39,30 +40,6 @@ const PLAN_BYTES: usize = 6 + 7 + 7 + 9;
 
 const AT_BYTES: usize = 4;
 
-// How many decimal digits a number has.
-fn width(v: u64) -> usize
-    requires { ⌜ v < 10000000000 ⌝ }
-    ensures { λ r. ⌜ (r ≡ widthOf v) × (r ≤ 10) ⌝ }
-{
-    if v < 10_000 {
-        return short_width(v);
-    }
-    if v < 100_000_000 {
-        return 4 + short_width(v / 10_000);
-    }
-    8 + short_width(v / 100_000_000)
-}
-
-fn short_width(v: u64) -> usize
-    requires { ⌜ v < 10000 ⌝ }
-    ensures { λ r. ⌜ (r ≡ widthOf v) × (r ≤ 4) ⌝ }
-{
-    if v < 100 {
-        return if v < 10 { 1 } else { 2 };
-    }
-    if v < 1_000 { 3 } else { 4 }
-}
-
 // How many decimal digits the first n numbers of a list have together.
 fn widths(list: &[u64], n: usize) -> usize
     requires { ⌜ n ≤ mostNumbers ⌝ }
@@ -72,7 +49,7 @@ fn widths(list: &[u64], n: usize) -> usize
     let mut sum: usize = 0;
     let mut i: usize = 0;
     while i < n {
-        sum += width(list[i]);
+        sum += lines::width(list[i]);
         i += 1;
     }
     sum
@@ -87,9 +64,9 @@ fn tunnel_widths(list: &[u64], sizes: Network) -> usize
     let mut t: usize = 0;
     while t < sizes.tunnels {
         let at = sizes.tunnel_at(t);
-        let flow = width(list[at]);
-        let old = width(list[at + Network::OLD]);
-        let new = width(list[at + Network::NEW]);
+        let flow = lines::width(list[at]);
+        let old = lines::width(list[at + Network::OLD]);
+        let new = lines::width(list[at + Network::NEW]);
         sum += flow + old + new;
         t += 1;
     }
@@ -132,7 +109,7 @@ fn field_len(keys: &[u8], field: Field, v: u64) -> usize
     if form::is_hex(range) {
         return name + 17;
     }
-    name + width(v) + 1
+    name + lines::width(v) + 1
 }
 
 // How many bytes rule tables are written as, line by line.
@@ -173,160 +150,18 @@ fn plan_needed(list: &[u64], room: usize) -> usize
     plan_len(list)
 }
 
-// Puts some bytes at a place. This and the functions below answer the place past what they put.
-pub fn put(out: &mut [u8], at: usize, s: &[u8]) -> usize
-    requires { ⌜ at + length (now s) ≤ length (now out) ⌝ }
-    ensures { λ r. ⌜ Puts (now (s .entry)) at (now (out .entry)) (now (out .exit)) r ⌝ }
-{
-    let mut i: usize = 0;
-    while i < s.len() {
-        out[at + i] = s[i];
-        i += 1;
-    }
-    at + s.len()
-}
-
-// Puts a decimal digit.
-fn put_digit(out: &mut [u8], at: usize, x: u64) -> usize
-    requires { ⌜ x < 10 ⌝ }
-    requires { ⌜ at + 1 ≤ length (now out) ⌝ }
-    ensures { λ r. ⌜ Puts (digitsIn 10 1 x) at (now (out .entry)) (now (out .exit)) r ⌝ }
-{
-    out[at] = 48 + x as u8;
-    at + 1
-}
-
-fn put_two(out: &mut [u8], at: usize, x: u64) -> usize
-    requires { ⌜ x < 100 ⌝ }
-    requires { ⌜ at + 2 ≤ length (now out) ⌝ }
-    ensures { λ r. ⌜ Puts (digitsIn 10 2 x) at (now (out .entry)) (now (out .exit)) r ⌝ }
-{
-    let next = put_digit(out, at, x / 10);
-    put_digit(out, next, x % 10)
-}
-
-fn put_four(out: &mut [u8], at: usize, x: u64) -> usize
-    requires { ⌜ x < 10000 ⌝ }
-    requires { ⌜ at + 4 ≤ length (now out) ⌝ }
-    ensures { λ r. ⌜ Puts (digitsIn 10 4 x) at (now (out .entry)) (now (out .exit)) r ⌝ }
-{
-    let next = put_two(out, at, x / 100);
-    put_two(out, next, x % 100)
-}
-
-// Puts a number of at most 4 decimal digits.
-fn put_short(out: &mut [u8], at: usize, x: u64) -> usize
-    requires { ⌜ x < 10000 ⌝ }
-    requires { ⌜ at + widthOf x ≤ length (now out) ⌝ }
-    ensures { λ r. ⌜ Puts (digitsIn 10 (widthOf x) x) at (now (out .entry)) (now (out .exit)) r ⌝ }
-{
-    if x < 10 {
-        return put_digit(out, at, x);
-    }
-    if x < 100 {
-        return put_two(out, at, x);
-    }
-    if x < 1_000 {
-        let next = put_digit(out, at, x / 100);
-        return put_two(out, next, x % 100);
-    }
-    put_four(out, at, x)
-}
-
-// Puts a number of at most 8 decimal digits: the last 4 do not wait for the division that gives the others.
-fn put_medium(out: &mut [u8], at: usize, x: u64) -> usize
-    requires { ⌜ x < 100000000 ⌝ }
-    requires { ⌜ at + widthOf x ≤ length (now out) ⌝ }
-    ensures { λ r. ⌜ Puts (digitsIn 10 (widthOf x) x) at (now (out .entry)) (now (out .exit)) r ⌝ }
-{
-    if x < 10_000 {
-        return put_short(out, at, x);
-    }
-    let next = put_short(out, at, x / 10_000);
-    put_four(out, next, x % 10_000)
-}
-
-// Puts a number of at most 10 decimal digits.
-fn put_decimal(out: &mut [u8], at: usize, v: u64) -> usize
-    requires { ⌜ v < 10000000000 ⌝ }
-    requires { ⌜ at + widthOf v ≤ length (now out) ⌝ }
-    ensures { λ r. ⌜ Puts (digitsIn 10 (widthOf v) v) at (now (out .entry)) (now (out .exit)) r ⌝ }
-{
-    if v < 10_000 {
-        return put_short(out, at, v);
-    }
-    let next = put_medium(out, at, v / 10_000);
-    put_four(out, next, v % 10_000)
-}
-
-// The byte of a hexadecimal digit, looked up: the compiler makes poor code of sixteen choices between two sums.
-fn digit_char(x: u64) -> u8
-    requires { ⌜ x < 16 ⌝ }
-    ensures { λ r. ⌜ r ≡ digitChar x ⌝ }
-{
-    let digits = *b"0123456789abcdef";
-    digits[x as usize]
-}
-
-// Puts the 16 hexadecimal digits of a number, from the last to the first.
-fn put_hex(out: &mut [u8], at: usize, v: u64) -> usize
-    requires { ⌜ at + 16 ≤ length (now out) ⌝ }
-    ensures { λ r. ⌜ Puts (digitsIn 16 16 v) at (now (out .entry)) (now (out .exit)) r ⌝ }
-{
-    let mut x = v;
-    let mut i: usize = 16;
-    while 0 < i {
-        i -= 1;
-        out[at + i] = digit_char(x % 16);
-        x = x / 16;
-    }
-    at + 16
-}
-
-// Puts a number of at most 10 decimal digits, and the line feed.
-fn put_value(out: &mut [u8], at: usize, v: u64) -> usize
-    requires { ⌜ v < 10000000000 ⌝ }
-    requires { ⌜ at + length (decimalValue v) ≤ length (now out) ⌝ }
-    ensures { λ r. ⌜ Puts (decimalValue v) at (now (out .entry)) (now (out .exit)) r ⌝ }
-{
-    let end = put_decimal(out, at, v);
-    out[end] = b'\n';
-    end + 1
-}
-
-// Puts a line whose number is decimal.
-fn put_line(out: &mut [u8], at: usize, key: &[u8], v: u64) -> usize
-    requires { ⌜ v < 10000000000 ⌝ }
-    requires { ⌜ at + length (decimalLine (now key) v) ≤ length (now out) ⌝ }
-    ensures { λ r. ⌜ Puts (decimalLine (now (key .entry)) v) at (now (out .entry)) (now (out .exit)) r ⌝ }
-{
-    let from = put(out, at, key);
-    put_value(out, from, v)
-}
-
-// Puts a line whose number is a set.
-fn put_set_line(out: &mut [u8], at: usize, key: &[u8], v: u64) -> usize
-    requires { ⌜ at + length (hexLine (now key) v) ≤ length (now out) ⌝ }
-    ensures { λ r. ⌜ Puts (hexLine (now (key .entry)) v) at (now (out .entry)) (now (out .exit)) r ⌝ }
-{
-    let from = put(out, at, key);
-    let feed = put_hex(out, from, v);
-    out[feed] = b'\n';
-    feed + 1
-}
-
-// Puts the lines of a network that stand before those of its links.
+// Puts the lines of a network that stand before those of its links. This and the functions below answer the place past what they put.
 fn put_network_head(out: &mut [u8], list: &[u64]) -> usize
     requires { ⌜ Whole Form.Network (now list) ⌝ }
     requires { ⌜ length (linesFrom Form.Network (now list) 0 (length networkLines)) ≤ length (now out) ⌝ }
     ensures { λ r. ⌜ Puts (linesFrom Form.Network (now (list .entry)) 0 (length networkLines)) 0 (now (out .entry)) (now (out .exit)) r ⌝ }
 {
-    let scratch = put_line(out, 0, b"net=", list[0]);
-    let overrun = put_line(out, scratch, b"scratch=", list[1]);
-    let links = put_line(out, overrun, b"overrun=", list[2]);
-    let flows = put_line(out, links, b"links=", list[3]);
-    let tunnels = put_line(out, flows, b"flows=", list[4]);
-    put_line(out, tunnels, b"tunnels=", list[5])
+    let scratch = lines::put_line(out, 0, b"net=", list[0]);
+    let overrun = lines::put_line(out, scratch, b"scratch=", list[1]);
+    let links = lines::put_line(out, overrun, b"overrun=", list[2]);
+    let flows = lines::put_line(out, links, b"links=", list[3]);
+    let tunnels = lines::put_line(out, flows, b"flows=", list[4]);
+    lines::put_line(out, tunnels, b"tunnels=", list[5])
 }
 
 // Puts the lines of a network's links.
@@ -340,7 +175,7 @@ fn put_links(out: &mut [u8], at: usize, list: &[u64]) -> usize
     let mut k: usize = 0;
     while k < sizes.links {
         let i = sizes.link_at(k);
-        p = put_line(out, p, b"cap=", list[i]);
+        p = lines::put_line(out, p, b"cap=", list[i]);
         k += 1;
     }
     p
@@ -349,16 +184,16 @@ fn put_links(out: &mut [u8], at: usize, list: &[u64]) -> usize
 // Puts the lines of a network's flows.
 fn put_flows(out: &mut [u8], at: usize, list: &[u64]) -> usize
     requires { ⌜ Whole Form.Network (now list) ⌝ }
-    requires { ⌜ at + length (linesFrom Form.Network (now list) (flowAt (networkSizes (now list)) 0) (2 * networkSizes (now list) .flows)) ≤ length (now out) ⌝ }
-    ensures { λ r. ⌜ Puts (linesFrom Form.Network (now (list .entry)) (flowAt (networkSizes (now (list .entry))) 0) (2 * networkSizes (now (list .entry)) .flows)) at (now (out .entry)) (now (out .exit)) r ⌝ }
+    requires { ⌜ at + length (linesFrom Form.Network (now list) (flowAt (networkSizes (now list)) 0) (length flowLines * networkSizes (now list) .flows)) ≤ length (now out) ⌝ }
+    ensures { λ r. ⌜ Puts (linesFrom Form.Network (now (list .entry)) (flowAt (networkSizes (now (list .entry))) 0) (length flowLines * networkSizes (now (list .entry)) .flows)) at (now (out .entry)) (now (out .exit)) r ⌝ }
 {
     let sizes = Network::of(list);
     let mut p = at;
     let mut f: usize = 0;
     while f < sizes.flows {
         let i = sizes.flow_at(f);
-        let rate = put_line(out, p, b"class=", list[i]);
-        p = put_line(out, rate, b"rate=", list[i + Network::RATE]);
+        let rate = lines::put_line(out, p, b"class=", list[i]);
+        p = lines::put_line(out, rate, b"rate=", list[i + Network::RATE]);
         f += 1;
     }
     p
@@ -367,18 +202,18 @@ fn put_flows(out: &mut [u8], at: usize, list: &[u64]) -> usize
 // Puts the lines of a network's tunnels.
 fn put_tunnels(out: &mut [u8], at: usize, list: &[u64]) -> usize
     requires { ⌜ Whole Form.Network (now list) ⌝ }
-    requires { ⌜ at + length (linesFrom Form.Network (now list) (tunnelAt (networkSizes (now list)) 0) (4 * networkSizes (now list) .tunnels)) ≤ length (now out) ⌝ }
-    ensures { λ r. ⌜ Puts (linesFrom Form.Network (now (list .entry)) (tunnelAt (networkSizes (now (list .entry))) 0) (4 * networkSizes (now (list .entry)) .tunnels)) at (now (out .entry)) (now (out .exit)) r ⌝ }
+    requires { ⌜ at + length (linesFrom Form.Network (now list) (tunnelAt (networkSizes (now list)) 0) (length (tunnelLines (networkSizes (now list))) * networkSizes (now list) .tunnels)) ≤ length (now out) ⌝ }
+    ensures { λ r. ⌜ Puts (linesFrom Form.Network (now (list .entry)) (tunnelAt (networkSizes (now (list .entry))) 0) (length (tunnelLines (networkSizes (now (list .entry)))) * networkSizes (now (list .entry)) .tunnels)) at (now (out .entry)) (now (out .exit)) r ⌝ }
 {
     let sizes = Network::of(list);
     let mut p = at;
     let mut t: usize = 0;
     while t < sizes.tunnels {
         let i = sizes.tunnel_at(t);
-        let via = put_line(out, p, b"flow=", list[i]);
-        let old = put_set_line(out, via, b"via=", list[i + Network::VIA]);
-        let new = put_line(out, old, b"old=", list[i + Network::OLD]);
-        p = put_line(out, new, b"new=", list[i + Network::NEW]);
+        let via = lines::put_line(out, p, b"flow=", list[i]);
+        let old = lines::put_set_line(out, via, b"via=", list[i + Network::VIA]);
+        let new = lines::put_line(out, old, b"old=", list[i + Network::OLD]);
+        p = lines::put_line(out, new, b"new=", list[i + Network::NEW]);
         t += 1;
     }
     p
@@ -402,10 +237,10 @@ fn put_plan_head(out: &mut [u8], list: &[u64]) -> usize
     requires { ⌜ length (linesFrom Form.Plan (now list) 0 (length planLines)) ≤ length (now out) ⌝ }
     ensures { λ r. ⌜ Puts (linesFrom Form.Plan (now (list .entry)) 0 (length planLines)) 0 (now (out .entry)) (now (out .exit)) r ⌝ }
 {
-    let parts = put_line(out, 0, b"plan=", list[0]);
-    let steps = put_line(out, parts, b"parts=", list[1]);
-    let tunnels = put_line(out, steps, b"steps=", list[2]);
-    put_line(out, tunnels, b"tunnels=", list[3])
+    let parts = lines::put_line(out, 0, b"plan=", list[0]);
+    let steps = lines::put_line(out, parts, b"parts=", list[1]);
+    let tunnels = lines::put_line(out, steps, b"steps=", list[2]);
+    lines::put_line(out, tunnels, b"tunnels=", list[3])
 }
 
 // Puts the rows of a plan. The key and the value are put by two calls, and not by `put_line`, so that the compiler sees a second caller
@@ -419,8 +254,8 @@ fn put_rows(out: &mut [u8], at: usize, list: &[u64]) -> usize
     let mut p = at;
     let mut k: usize = 0;
     while k < rows {
-        let from = put(out, p, b"at=");
-        p = put_value(out, from, list[PlanSizes::HEAD + k]);
+        let from = lines::put(out, p, b"at=");
+        p = lines::put_value(out, from, list[PlanSizes::HEAD + k]);
         k += 1;
     }
     p
@@ -448,9 +283,9 @@ fn put_field(out: &mut [u8], at: usize, keys: &[u8], field: Field, v: u64) -> us
     };
     let name = form::key_part(keys, key);
     if form::is_hex(range) {
-        put_set_line(out, at, name, v)
+        lines::put_set_line(out, at, name, v)
     } else {
-        put_line(out, at, name, v)
+        lines::put_line(out, at, name, v)
     }
 }
 

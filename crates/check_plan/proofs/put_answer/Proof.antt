@@ -9,7 +9,7 @@ use Rattle.check_plan.proofs.put_answer.Statement.{statement}
 use Rattle.check_plan.proofs.put_answer.Tie as tie
 use Rattle.check_plan.proofs.check_texts.Reads as check-texts-reads
 use Rattle.report.proofs.put_refusal.Reads as put-refusal-reads
-use Rattle.writers.proofs.write.put.Reads as put-reads
+use Rattle.lines.proofs.put.Reads as put-reads
 
 check-texts-requires : tie.Need-check-texts-requires
 check-texts-requires c κs = search needs

@@ -8,7 +8,7 @@ use borrow.Author.Needs.{needs}
 use Rattle.report.proofs.put_decimal.Statement.{statement}
 use Rattle.report.proofs.put_decimal.Tie as tie
 use Rattle.io.proofs.decimal.Reads as decimal-reads
-use Rattle.writers.proofs.write.put.Reads as put-reads
+use Rattle.lines.proofs.put.Reads as put-reads
 
 -- what `io` gives is the number in decimal
 digits-are : (c : tie.After-decimal) → take (c .decimal .result) (c .decimal .last .1 .0) ≡ decimal (c .before .before .before .args .v)

@@ -4,7 +4,7 @@ use mathlib.Core.Path.{_∙_}
 use mathlib.Core.List.{[], _∷_, _++_}
 use native.Mathlib.Omega.{arith}
 use lib.ListN.{length, length-append, length-set}
-use Rattle.writers.proofs.Writing.{puts-byte, puts-length, then-fits, then-puts}
+use Rattle.lines.proofs.Writing.{puts-byte, puts-length, then-fits, then-puts}
 use Rattle.report.specs.Printed.{decimal, printedLine}
 use Rattle.report.proofs.Decimals.{decimal-most, line-most}
 use borrow.Author.Needs.{needs}

@@ -3,7 +3,7 @@ use mathlib.Core.Path.{refl}
 use mathlib.Core.List.{_++_}
 use lib.ListN.{length, length-append}
 use Rattle.forms.specs.Bytes.{bytes}
-use Rattle.writers.proofs.Writing.{then-puts}
+use Rattle.lines.proofs.Writing.{then-puts}
 use Rattle.report.specs.Printed.{printedLine}
 use Rattle.report.proofs.Decimals.{line-most, line-past, line-length}
 use native.Mathlib.Omega.{arith}

@@ -2,8 +2,8 @@
 use mathlib.Core.Path.{_≡_, sym, _∙_}
 use mathlib.Core.Bool.{true, false}
 use Rattle.forms.specs.Write.{lineOf}
-use Rattle.writers.specs.Write.{decimalLine, hexLine}
-use Rattle.writers.proofs.Writing.{puts-none}
+use Rattle.lines.specs.Puts.{decimalLine, hexLine}
+use Rattle.lines.proofs.Writing.{puts-none}
 use Rattle.writers.proofs.Runs.{set-line, number-line}
 use borrow.Author.Needs.{needs}
 use Rattle.writers.proofs.write.put_field.Statement.{statement}

@@ -2,15 +2,18 @@
 use Prim.Native.Nat.{ℕ, _≤_, _+_, _*_, _-_}
 use mathlib.Core.Path.{_≡_, refl, ap}
 use mathlib.Core.List.{List}
+use lib.ListN.{length}
 use Rattle.lists.specs.Lists.{networkSizes, flowAt}
 use Rattle.lists.specs.Good.{Sized}
 use Rattle.lists.specs.declared.Network as counts
 use Rattle.lists.proofs.Positions.{FlowPlace, flow-place, flow-at, limited, head-in}
 use Rattle.forms.proofs.Good.{network-ranges}
 use Rattle.forms.specs.Bytes.{bytes}
+use Rattle.forms.specs.Form.{flowLines}
 use Rattle.forms.specs.declared.form.Form.the-variants.{Network}
-use Rattle.writers.specs.Write.{Puts, linesFrom}
-use Rattle.writers.proofs.Writing.{puts-length}
+use Rattle.lines.specs.Puts.{Puts}
+use Rattle.writers.specs.Write.{linesFrom}
+use Rattle.lines.proofs.Writing.{puts-length}
 use Rattle.writers.proofs.Runs.{DecimalAt, class-line, rate-line, no-lines, run-within, next-fits, next-put}
 use native.Mathlib.Omega.{arith}
 use borrow.Author.Needs.{needs}
@@ -18,10 +21,10 @@ use Rattle.writers.proofs.write.put_flows.Statement.{statement}
 use Rattle.writers.proofs.write.put_flows.Tie as tie
 use Rattle.lists.proofs.Network.flow_at.Reads as flow-at-reads
 use Rattle.lists.proofs.Network.of.Reads as of-reads
-use Rattle.writers.proofs.write.put_line.Reads as put-line-reads
+use Rattle.lines.proofs.put_line.Reads as put-line-reads
 
 abbrev Inv-loop : tie.InvT-loop
-Inv-loop out₀ at list sizes p₀ f₀ t9 t10 out p f = record { few : f ≤ sizes .flows; put : Puts (linesFrom Network list (flowAt (networkSizes list) 0) (2 * f)) at out₀ out p }
+Inv-loop out₀ at list sizes p₀ f₀ t9 t10 out p f = record { few : f ≤ sizes .flows; put : Puts (linesFrom Network list (flowAt (networkSizes list) 0) (length flowLines * f)) at out₀ out p }
 
 abbrev μ-loop : tie.MeasureT-loop
 μ-loop out₀ at list sizes p₀ f₀ t9 t10 out p f = sizes .flows - f
@@ -47,10 +50,14 @@ module _ (c : tie.After-flow-at Inv-loop μ-loop) where
   abbrev i : ℕ
   i = c .flow-at .result
 
+  -- how many lines of the part stand before it
+  abbrev done : ℕ
+  done = length flowLines * f
+
   place : FlowPlace list f i
   place = flow-place list (sized start) _ (c .before .before .before .before .of .ensures) _ _ (c .before .if1 .taken) (c .flow-at .ensures)
 
-  here : i ≡ first + 2 * f
+  here : i ≡ first + done
   here = omega (arith, place .here, flow-at (networkSizes list) f)
 
   class : DecimalAt Network list i (bytes "class=")
@@ -60,10 +67,10 @@ module _ (c : tie.After-flow-at Inv-loop μ-loop) where
   rate = rate-line list (start .pre .0) f (i + 1) (place .there) (ap (λ (j : ℕ). j + 1) (place .here))
 
 -- the line of the class is put
-with-class : (c : tie.After-put-line Inv-loop μ-loop) → let t = c .before .before .before .before in Puts (linesFrom Network (list t) (first t) (2 * f t + 1)) (start t .args .at) (start t .args .out .now) (c .put-line .last .0) (c .put-line .result)
+with-class : (c : tie.After-put-line Inv-loop μ-loop) → let t = c .before .before .before .before in Puts (linesFrom Network (list t) (first t) (done t + 1)) (start t .args .at) (start t .args .out .now) (c .put-line .last .0) (c .put-line .result)
 with-class c =
     let t = c .before .before .before .before in
-    next-put Network (list t) (first t) _ (start t .pre .1) (2 * f t) (i t) (omega (arith, place t .there)) (here t) (class t .line) (c .before .before .before .before .before .before .before .loop .inv .put) (2 * f t + 1) refl (c .put-line .ensures)
+    next-put Network (list t) (first t) _ (start t .pre .1) (done t) (i t) (omega (arith, place t .there)) (here t) (class t .line) (c .before .before .before .before .before .before .before .loop .inv .put) (done t + 1) refl (c .put-line .ensures)
 
 of-requires : tie.Need-of-requires Inv-loop μ-loop
 of-requires c κs = head-in _ (sized (c .before .before) .size)
@@ -85,7 +92,7 @@ shared-slice-read-put-line c = class (c .before .before .before) .number .within
 
 put-line-requires : tie.Need-put-line-requires Inv-loop μ-loop
 put-line-requires c κs = let t = c .before .before .before in
-    (class t .number .small, next-fits Network (list t) (first t) _ (start t .pre .1) (2 * f t) (i t) (omega (arith, place t .there)) (here t) (class t .line) (c .before .before .before .before .before .before .loop .inv .put))
+    (class t .number .small, next-fits Network (list t) (first t) _ (start t .pre .1) (done t) (i t) (omega (arith, place t .there)) (here t) (class t .line) (c .before .before .before .before .before .before .loop .inv .put))
 
 slice-aggregate-put-line-2 : tie.Need-slice-aggregate-put-line-2 Inv-loop μ-loop
 slice-aggregate-put-line-2 c = search needs
@@ -101,7 +108,7 @@ shared-slice-read-put-line-2 c = rate (c .before .before .before .before .before
 
 put-line-requires-2 : tie.Need-put-line-requires-2 Inv-loop μ-loop
 put-line-requires-2 c κs = let t = c .before .before .before .before .before .before .before .before .before in
-    (rate t .number .small, next-fits Network (list t) (first t) _ (start t .pre .1) (2 * f t + 1) (i t + 1) (omega (arith, place t .there)) (omega (arith, here t)) (rate t .line) (with-class (c .before .before .before .before .before)))
+    (rate t .number .small, next-fits Network (list t) (first t) _ (start t .pre .1) (done t + 1) (i t + 1) (omega (arith, place t .there)) (omega (arith, here t)) (rate t .line) (with-class (c .before .before .before .before .before)))
 
 add-f : tie.Need-add-f Inv-loop μ-loop
 add-f c = record { fits = omega (arith, place (c .before .before .before .before .before .before .before .before .before .before .before .before) .few, here (c .before .before .before .before .before .before .before .before .before .before .before .before)) }
@@ -113,7 +120,7 @@ loop-again : tie.Need-loop-again Inv-loop μ-loop
 loop-again c = let t = c .before .before .before .before .before .before .before .before .before .before .before .before in
     record {
       few = omega (arith, c .before .before .before .before .before .before .before .before .before .before .before .before .before .if1 .taken);
-      put = next-put Network (list t) (first t) _ (start t .pre .1) (2 * f t + 1) (i t + 1) (omega (arith, place t .there)) (omega (arith, here t)) (rate t .line) (with-class (c .before .before .before .before .before .before .before .before)) (2 * (f t + 1)) (omega arith) (c .before .before .put-line2 .ensures);
+      put = next-put Network (list t) (first t) _ (start t .pre .1) (done t + 1) (i t + 1) (omega (arith, place t .there)) (omega (arith, here t)) (rate t .line) (with-class (c .before .before .before .before .before .before .before .before)) (length flowLines * (f t + 1)) (omega arith) (c .before .before .put-line2 .ensures);
     }
 
 same-length : tie.Need-same-length Inv-loop μ-loop

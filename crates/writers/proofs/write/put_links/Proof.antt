@@ -9,8 +9,9 @@ use Rattle.lists.proofs.Positions.{LinkPlace, link-place, link-at, limited, hea
 use Rattle.forms.proofs.Good.{network-ranges}
 use Rattle.forms.specs.Bytes.{bytes}
 use Rattle.forms.specs.declared.form.Form.the-variants.{Network}
-use Rattle.writers.specs.Write.{Puts, linesFrom}
-use Rattle.writers.proofs.Writing.{puts-length}
+use Rattle.lines.specs.Puts.{Puts}
+use Rattle.writers.specs.Write.{linesFrom}
+use Rattle.lines.proofs.Writing.{puts-length}
 use Rattle.writers.proofs.Runs.{DecimalAt, cap-line, no-lines, run-within, next-fits, next-put}
 use native.Mathlib.Omega.{arith}
 use borrow.Author.Needs.{needs}
@@ -18,7 +19,7 @@ use Rattle.writers.proofs.write.put_links.Statement.{statement}
 use Rattle.writers.proofs.write.put_links.Tie as tie
 use Rattle.lists.proofs.Network.link_at.Reads as link-at-reads
 use Rattle.lists.proofs.Network.of.Reads as of-reads
-use Rattle.writers.proofs.write.put_line.Reads as put-line-reads
+use Rattle.lines.proofs.put_line.Reads as put-line-reads
 
 abbrev Inv-loop : tie.InvT-loop
 Inv-loop out₀ at list sizes p₀ k₀ t8 out p k = record { few : k ≤ sizes .links; put : Puts (linesFrom Network list (linkAt (networkSizes list) 0) k) at out₀ out p }

@@ -6,10 +6,11 @@ use lib.ListN.{length}
 use Rattle.lists.specs.Lists.{networkSizes, linkAt, flowAt, tunnelAt}
 use Rattle.lists.specs.declared.Network as counts
 use Rattle.lists.proofs.Positions.{link-at, flow-at, tunnel-at, flows-follow, tunnels-follow, head-size, head-in}
-use Rattle.forms.specs.Form.{networkLines}
+use Rattle.forms.specs.Form.{networkLines, flowLines, tunnelLines}
 use Rattle.forms.specs.declared.form.Form.the-variants.{Network}
 use Rattle.forms.proofs.Good.{network-size}
-use Rattle.writers.specs.Write.{Puts, linesFrom}
+use Rattle.lines.specs.Puts.{Puts}
+use Rattle.writers.specs.Write.{linesFrom}
 use Rattle.writers.proofs.Runs.{all-lines, front-fits, rest-fits, rest-put}
 use native.Mathlib.Omega.{arith}
 use borrow.Author.Needs.{needs}
@@ -31,10 +32,10 @@ module _ (s : tie.Start) where
   links-end : linkAt sizes 0 + sizes .links ≡ flowAt sizes 0
   links-end = omega (arith, link-at sizes (sizes .links), flows-follow sizes)
 
-  flows-end : flowAt sizes 0 + 2 * sizes .flows ≡ tunnelAt sizes 0
+  flows-end : flowAt sizes 0 + length flowLines * sizes .flows ≡ tunnelAt sizes 0
   flows-end = omega (arith, flow-at sizes (sizes .flows), tunnels-follow sizes)
 
-  tunnels-end : tunnelAt sizes 0 + 4 * sizes .tunnels ≡ length list
+  tunnels-end : tunnelAt sizes 0 + length (tunnelLines sizes) * sizes .tunnels ≡ length list
   tunnels-end = omega (arith, tunnel-at sizes (sizes .tunnels), network-size list (s .pre .0))
 
   abbrev Written : List ℕ → ℕ → ℕ → Type 0
@@ -54,7 +55,7 @@ with-flows : (c : tie.After-put-flows) → let s = c .before .before .before .be
 with-flows c =
     let s = c .before .before .before .before .before .before .before .before .before .before .before .before in
     subst (Written s (c .put-flows .last .0) (c .put-flows .result)) (flows-end s)
-    (rest-put Network (list s) (flowAt (sizes s) 0) (2 * sizes s .flows) (s .pre .1) (omega (arith, flows-end s, tunnels-end s)) (with-links (c .before .before .before .before)) (c .put-flows .ensures))
+    (rest-put Network (list s) (flowAt (sizes s) 0) (length flowLines * sizes s .flows) (s .pre .1) (omega (arith, flows-end s, tunnels-end s)) (with-links (c .before .before .before .before)) (c .put-flows .ensures))
 
 put-network-head-requires : tie.Need-put-network-head-requires
 put-network-head-requires c κs = let s = c .before .before .before in
@@ -66,18 +67,18 @@ put-links-requires c κs = let s = c .before .before .before .before .before .be
 
 put-flows-requires : tie.Need-put-flows-requires
 put-flows-requires c κs = let s = c .before .before .before .before .before .before .before .before .before .before .before in
-    (s .pre .0, rest-fits Network (list s) (flowAt (sizes s) 0) (2 * sizes s .flows) (s .pre .1) (omega (arith, flows-end s, tunnels-end s)) (with-links (c .before .before .before)))
+    (s .pre .0, rest-fits Network (list s) (flowAt (sizes s) 0) (length flowLines * sizes s .flows) (s .pre .1) (omega (arith, flows-end s, tunnels-end s)) (with-links (c .before .before .before)))
 
 put-tunnels-requires : tie.Need-put-tunnels-requires
 put-tunnels-requires c κs = let s = c .before .before .before .before .before .before .before .before .before .before .before .before .before .before .before in
-    (s .pre .0, rest-fits Network (list s) (tunnelAt (sizes s) 0) (4 * sizes s .tunnels) (s .pre .1) (omega (arith, tunnels-end s)) (with-flows (c .before .before .before)))
+    (s .pre .0, rest-fits Network (list s) (tunnelAt (sizes s) 0) (length (tunnelLines (sizes s)) * sizes s .tunnels) (s .pre .1) (omega (arith, tunnels-end s)) (with-flows (c .before .before .before)))
 
 same-length : tie.Need-same-length
 same-length c = search needs
 
 returns : tie.Need-returns
 returns c = let s = c .before .before .before .before .before .before .before .before .before .before .before .before .before .before .before .before .before .before in
-    rw (tunnels-end s, all-lines Network (list s)) at (rest-put Network (list s) (tunnelAt (sizes s) 0) (4 * sizes s .tunnels) (s .pre .1) (omega (arith, tunnels-end s)) (with-flows (c .before .before .before .before .before .before)) (c .before .before .put-tunnels .ensures))
+    rw (tunnels-end s, all-lines Network (list s)) at (rest-put Network (list s) (tunnelAt (sizes s) 0) (length (tunnelLines (sizes s)) * sizes s .tunnels) (s .pre .1) (omega (arith, tunnels-end s)) (with-flows (c .before .before .before .before .before .before)) (c .before .before .put-tunnels .ensures))
 
 pub put-network-spec : {M : Type 1} → statement M
 put-network-spec =

@@ -10,7 +10,8 @@ use Rattle.forms.specs.Form.{isHex, networkLines}
 use Rattle.forms.specs.declared.form.Form.the-variants.{Network}
 use Rattle.forms.specs.declared.form.Range.{Range}
 use Rattle.forms.specs.declared.form.Field.the-variants.{Line, End}
-use Rattle.writers.specs.Write.{Puts, linesFrom}
+use Rattle.lines.specs.Puts.{Puts}
+use Rattle.writers.specs.Write.{linesFrom}
 use Rattle.writers.proofs.Runs.{DecimalAt, network-head-line, no-lines, head-fits, head-next}
 use borrow.Author.Needs.{needs}
 use Rattle.writers.proofs.write.put_network_head.Statement.{statement}

@@ -5,17 +5,19 @@ use mathlib.Core.List.{List}
 use native.Mathlib.Omega.{arith}
 use lib.ListN.{length, getD}
 use Rattle.forms.specs.Bytes.{bytes}
+use Rattle.forms.specs.Form.{planLines}
 use Rattle.forms.specs.declared.form.Form.the-variants.{Plan}
 use Rattle.forms.proofs.Good.{plan-size}
-use Rattle.writers.specs.Write.{Puts, decimalValue, decimalLine, linesFrom}
-use Rattle.writers.proofs.Writing.{puts-length, then-fits, then-puts}
+use Rattle.lines.specs.Puts.{Puts, decimalValue, decimalLine}
+use Rattle.writers.specs.Write.{linesFrom}
+use Rattle.lines.proofs.Writing.{puts-length, then-fits, then-puts}
 use Rattle.writers.proofs.Runs.{DecimalAt, at-line, no-lines, run-within, next-fits, next-put}
 use borrow.Author.Needs.{needs}
 use Rattle.writers.proofs.write.put_rows.Statement.{statement}
 use Rattle.writers.proofs.write.put_rows.Tie as tie
 
 abbrev Inv-loop : tie.InvT-loop
-Inv-loop out₀ at list rows p₀ k₀ t7 out p k = record { few : k ≤ rows; put : Puts (linesFrom Plan list 4 k) at out₀ out p }
+Inv-loop out₀ at list rows p₀ k₀ t7 out p k = record { few : k ≤ rows; put : Puts (linesFrom Plan list (length planLines) k) at out₀ out p }
 
 abbrev μ-loop : tie.MeasureT-loop
 μ-loop out₀ at list rows p₀ k₀ t7 out p k = rows - k
@@ -26,13 +28,13 @@ module _ (c : tie.In-loop Inv-loop μ-loop) where
   list = c .before .before .before .before .args .list .now
 
   abbrev value : ℕ
-  value = getD list (4 + c .before .loop .k) 0
+  value = getD list (length planLines + c .before .loop .k) 0
 
-  amount : DecimalAt Plan list (4 + c .before .loop .k) (bytes "at=")
-  amount = at-line list (c .before .before .before .before .pre .0) (4 + c .before .loop .k) (omega arith) (omega (arith, c .loop-test .taken))
+  amount : DecimalAt Plan list (length planLines + c .before .loop .k) (bytes "at=")
+  amount = at-line list (c .before .before .before .before .pre .0) (length planLines + c .before .loop .k) (omega arith) (omega (arith, c .loop-test .taken))
 
   fits : c .before .loop .p + length (decimalLine (bytes "at=") value) ≤ length (c .before .loop .out)
-  fits = next-fits Plan list 4 _ (c .before .before .before .before .pre .1) (c .before .loop .k) (4 + c .before .loop .k) (c .loop-test .taken) refl (amount .line) (c .before .loop .inv .put)
+  fits = next-fits Plan list (length planLines) _ (c .before .before .before .before .pre .1) (c .before .loop .k) (length planLines + c .before .loop .k) (c .loop-test .taken) refl (amount .line) (c .before .loop .inv .put)
 
 sub-rows : tie.Need-sub-rows Inv-loop μ-loop
 sub-rows c = omega (arith, plan-size _ (c .before .before .pre .0))
@@ -73,18 +75,18 @@ loop-again c =
     let line = then-puts (fits t) (c .before .before .before .before .before .before .before .put .ensures) (c .before .before .put-value .ensures) in
     record {
       few = omega (arith, t .loop-test .taken);
-      put = next-put Plan (list t) 4 _ (t .before .before .before .before .pre .1) k (4 + k) (t .loop-test .taken) refl (amount t .line) (t .before .loop .inv .put) (k + 1) refl line;
+      put = next-put Plan (list t) (length planLines) _ (t .before .before .before .before .pre .1) k (length planLines + k) (t .loop-test .taken) refl (amount t .line) (t .before .loop .inv .put) (k + 1) refl line;
     }
 
 same-length : tie.Need-same-length Inv-loop μ-loop
 same-length c =
     let s = c .before .before .before .before in
     let v = c .before .loop .inv in
-    puts-length (run-within Plan (s .args .list .now) 4 _ _ (s .args .at) (s .args .out .now) (v .few) (s .pre .1)) (v .put)
+    puts-length (run-within Plan (s .args .list .now) (length planLines) _ _ (s .args .at) (s .args .out .now) (v .few) (s .pre .1)) (v .put)
 
 returns : tie.Need-returns Inv-loop μ-loop
 returns c =
-    let e : c .before .loop .k ≡ length (c .before .before .before .before .args .list .now) - 4 = omega (arith, c .before .loop .inv .few, c .loop-test .left) in
+    let e : c .before .loop .k ≡ length (c .before .before .before .before .args .list .now) - length planLines = omega (arith, c .before .loop .inv .few, c .loop-test .left) in
     rw e at (c .before .loop .inv .put)
 
 pub put-rows-spec : {M : Type 1} → statement M

@@ -9,8 +9,9 @@ use Rattle.forms.specs.Write.{lineOf}
 use Rattle.forms.specs.declared.form.Form.the-variants.{Rules}
 use Rattle.forms.proofs.Forms.{sound-take}
 use Rattle.forms.proofs.Rendering.{at-most}
-use Rattle.writers.specs.Write.{Puts, Writable, linesFrom, lineAt}
-use Rattle.writers.proofs.Writing.{puts-length}
+use Rattle.lines.specs.Puts.{Puts}
+use Rattle.writers.specs.Write.{Writable, linesFrom, lineAt}
+use Rattle.lines.proofs.Writing.{puts-length}
 use Rattle.writers.proofs.Runs.{all-lines, no-lines, run-within, next-fits, next-put, writable, line-here}
 use borrow.Author.Needs.{needs}
 use Rattle.writers.proofs.write.put_rules.Statement.{statement}

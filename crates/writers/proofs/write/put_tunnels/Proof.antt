@@ -2,16 +2,18 @@
 use Prim.Native.Nat.{ℕ, _≤_, _+_, _*_, _-_}
 use mathlib.Core.Path.{_≡_, refl, ap}
 use mathlib.Core.List.{List}
-use lib.ListN.{getD}
+use lib.ListN.{length, getD}
 use Rattle.lists.specs.Lists.{networkSizes, tunnelAt}
 use Rattle.lists.specs.Good.{Sized}
 use Rattle.lists.specs.declared.Network as counts
 use Rattle.lists.proofs.Positions.{TunnelPlace, tunnel-place, tunnel-at, limited, head-in}
 use Rattle.forms.proofs.Good.{network-ranges}
 use Rattle.forms.specs.Bytes.{bytes}
+use Rattle.forms.specs.Form.{tunnelLines}
 use Rattle.forms.specs.declared.form.Form.the-variants.{Network}
-use Rattle.writers.specs.Write.{Puts, lineAt, hexLine, linesFrom}
-use Rattle.writers.proofs.Writing.{puts-length}
+use Rattle.lines.specs.Puts.{Puts, hexLine}
+use Rattle.writers.specs.Write.{lineAt, linesFrom}
+use Rattle.lines.proofs.Writing.{puts-length}
 use Rattle.writers.proofs.Runs.{DecimalAt, flow-line, via-line, old-line, new-line, no-lines, run-within, next-fits, next-put}
 use native.Mathlib.Omega.{arith}
 use borrow.Author.Needs.{needs}
@@ -19,11 +21,11 @@ use Rattle.writers.proofs.write.put_tunnels.Statement.{statement}
 use Rattle.writers.proofs.write.put_tunnels.Tie as tie
 use Rattle.lists.proofs.Network.of.Reads as of-reads
 use Rattle.lists.proofs.Network.tunnel_at.Reads as tunnel-at-reads
-use Rattle.writers.proofs.write.put_line.Reads as put-line-reads
-use Rattle.writers.proofs.write.put_set_line.Reads as put-set-line-reads
+use Rattle.lines.proofs.put_line.Reads as put-line-reads
+use Rattle.lines.proofs.put_set_line.Reads as put-set-line-reads
 
 abbrev Inv-loop : tie.InvT-loop
-Inv-loop out₀ at list sizes p₀ t₀ t11 t12 t13 t14 out p t = record { few : t ≤ sizes .tunnels; put : Puts (linesFrom Network list (tunnelAt (networkSizes list) 0) (4 * t)) at out₀ out p }
+Inv-loop out₀ at list sizes p₀ t₀ t11 t12 t13 t14 out p t = record { few : t ≤ sizes .tunnels; put : Puts (linesFrom Network list (tunnelAt (networkSizes list) 0) (length (tunnelLines (networkSizes list)) * t)) at out₀ out p }
 
 abbrev μ-loop : tie.MeasureT-loop
 μ-loop out₀ at list sizes p₀ t₀ t11 t12 t13 t14 out p t = sizes .tunnels - t
@@ -49,10 +51,14 @@ module _ (c : tie.After-tunnel-at Inv-loop μ-loop) where
   abbrev i : ℕ
   i = c .tunnel-at .result
 
+  -- how many lines of the part stand before it
+  abbrev done : ℕ
+  done = length (tunnelLines (networkSizes list)) * t′
+
   place : TunnelPlace list t′ i
   place = tunnel-place list (sized start) _ (c .before .before .before .before .of .ensures) _ _ (c .before .if1 .taken) (c .tunnel-at .ensures)
 
-  here : i ≡ first + 4 * t′
+  here : i ≡ first + done
   here = omega (arith, place .here, tunnel-at (networkSizes list) t′)
 
   flow : DecimalAt Network list i (bytes "flow=")
@@ -68,20 +74,20 @@ module _ (c : tie.After-tunnel-at Inv-loop μ-loop) where
   new = new-line list (start .pre .0) t′ (i + 3) (place .there) (ap (λ (j : ℕ). j + 3) (place .here))
 
 -- the lines that are put, one after the other
-with-flow : (c : tie.After-put-line Inv-loop μ-loop) → let t = c .before .before .before .before in Puts (linesFrom Network (list t) (first t) (4 * t′ t + 1)) (start t .args .at) (start t .args .out .now) (c .put-line .last .0) (c .put-line .result)
+with-flow : (c : tie.After-put-line Inv-loop μ-loop) → let t = c .before .before .before .before in Puts (linesFrom Network (list t) (first t) (done t + 1)) (start t .args .at) (start t .args .out .now) (c .put-line .last .0) (c .put-line .result)
 with-flow c =
     let t = c .before .before .before .before in
-    next-put Network (list t) (first t) _ (start t .pre .1) (4 * t′ t) (i t) (omega (arith, place t .there)) (omega (arith, here t)) (flow t .line) (c .before .before .before .before .before .before .before .loop .inv .put) (4 * t′ t + 1) refl (c .put-line .ensures)
+    next-put Network (list t) (first t) _ (start t .pre .1) (done t) (i t) (omega (arith, place t .there)) (omega (arith, here t)) (flow t .line) (c .before .before .before .before .before .before .before .loop .inv .put) (done t + 1) refl (c .put-line .ensures)
 
-with-via : (c : tie.After-put-set-line Inv-loop μ-loop) → let t = c .before .before .before .before .before .before .before .before .before .before in Puts (linesFrom Network (list t) (first t) (4 * t′ t + 2)) (start t .args .at) (start t .args .out .now) (c .put-set-line .last .0) (c .put-set-line .result)
+with-via : (c : tie.After-put-set-line Inv-loop μ-loop) → let t = c .before .before .before .before .before .before .before .before .before .before in Puts (linesFrom Network (list t) (first t) (done t + 2)) (start t .args .at) (start t .args .out .now) (c .put-set-line .last .0) (c .put-set-line .result)
 with-via c =
     let t = c .before .before .before .before .before .before .before .before .before .before in
-    next-put Network (list t) (first t) _ (start t .pre .1) (4 * t′ t + 1) (i t + 1) (omega (arith, place t .there)) (omega (arith, here t)) (via t) (with-flow (c .before .before .before .before .before .before)) (4 * t′ t + 2) (omega arith) (c .put-set-line .ensures)
+    next-put Network (list t) (first t) _ (start t .pre .1) (done t + 1) (i t + 1) (omega (arith, place t .there)) (omega (arith, here t)) (via t) (with-flow (c .before .before .before .before .before .before)) (done t + 2) (omega arith) (c .put-set-line .ensures)
 
-with-old : (c : tie.After-put-line2 Inv-loop μ-loop) → let t = c .before .before .before .before .before .before .before .before .before .before .before .before .before .before .before .before in Puts (linesFrom Network (list t) (first t) (4 * t′ t + 3)) (start t .args .at) (start t .args .out .now) (c .put-line2 .last .0) (c .put-line2 .result)
+with-old : (c : tie.After-put-line2 Inv-loop μ-loop) → let t = c .before .before .before .before .before .before .before .before .before .before .before .before .before .before .before .before in Puts (linesFrom Network (list t) (first t) (done t + 3)) (start t .args .at) (start t .args .out .now) (c .put-line2 .last .0) (c .put-line2 .result)
 with-old c =
     let t = c .before .before .before .before .before .before .before .before .before .before .before .before .before .before .before .before in
-    next-put Network (list t) (first t) _ (start t .pre .1) (4 * t′ t + 2) (i t + 2) (omega (arith, place t .there)) (omega (arith, here t)) (old t .line) (with-via (c .before .before .before .before .before .before)) (4 * t′ t + 3) (omega arith) (c .put-line2 .ensures)
+    next-put Network (list t) (first t) _ (start t .pre .1) (done t + 2) (i t + 2) (omega (arith, place t .there)) (omega (arith, here t)) (old t .line) (with-via (c .before .before .before .before .before .before)) (done t + 3) (omega arith) (c .put-line2 .ensures)
 
 of-requires : tie.Need-of-requires Inv-loop μ-loop
 of-requires c κs = head-in _ (sized (c .before .before) .size)
@@ -103,7 +109,7 @@ shared-slice-read-put-line c = omega (arith, place (c .before .before .before) .
 
 put-line-requires : tie.Need-put-line-requires Inv-loop μ-loop
 put-line-requires c κs = let t = c .before .before .before in
-    (flow t .number .small, next-fits Network (list t) (first t) _ (start t .pre .1) (4 * t′ t) (i t) (omega (arith, place t .there)) (here t) (flow t .line) (c .before .before .before .before .before .before .loop .inv .put))
+    (flow t .number .small, next-fits Network (list t) (first t) _ (start t .pre .1) (done t) (i t) (omega (arith, place t .there)) (here t) (flow t .line) (c .before .before .before .before .before .before .loop .inv .put))
 
 slice-aggregate-put-set-line : tie.Need-slice-aggregate-put-set-line Inv-loop μ-loop
 slice-aggregate-put-set-line c = search needs
@@ -119,7 +125,7 @@ shared-slice-read-put-set-line c = omega (arith, place (c .before .before .befor
 
 put-set-line-requires : tie.Need-put-set-line-requires Inv-loop μ-loop
 put-set-line-requires c κs = let t = c .before .before .before .before .before .before .before .before .before in
-    next-fits Network (list t) (first t) _ (start t .pre .1) (4 * t′ t + 1) (i t + 1) (omega (arith, place t .there)) (omega (arith, here t)) (via t) (with-flow (c .before .before .before .before .before))
+    next-fits Network (list t) (first t) _ (start t .pre .1) (done t + 1) (i t + 1) (omega (arith, place t .there)) (omega (arith, here t)) (via t) (with-flow (c .before .before .before .before .before))
 
 slice-aggregate-put-line-2 : tie.Need-slice-aggregate-put-line-2 Inv-loop μ-loop
 slice-aggregate-put-line-2 c = search needs
@@ -135,7 +141,7 @@ shared-slice-read-put-line-2 c = omega (arith, place (c .before .before .before 
 
 put-line-requires-2 : tie.Need-put-line-requires-2 Inv-loop μ-loop
 put-line-requires-2 c κs = let t = c .before .before .before .before .before .before .before .before .before .before .before .before .before .before .before in
-    (old t .number .small, next-fits Network (list t) (first t) _ (start t .pre .1) (4 * t′ t + 2) (i t + 2) (omega (arith, place t .there)) (omega (arith, here t)) (old t .line) (with-via (c .before .before .before .before .before)))
+    (old t .number .small, next-fits Network (list t) (first t) _ (start t .pre .1) (done t + 2) (i t + 2) (omega (arith, place t .there)) (omega (arith, here t)) (old t .line) (with-via (c .before .before .before .before .before)))
 
 slice-aggregate-put-line-3 : tie.Need-slice-aggregate-put-line-3 Inv-loop μ-loop
 slice-aggregate-put-line-3 c = search needs
@@ -151,7 +157,7 @@ shared-slice-read-put-line-3 c = omega (arith, place (c .before .before .before 
 
 put-line-requires-3 : tie.Need-put-line-requires-3 Inv-loop μ-loop
 put-line-requires-3 c κs = let t = c .before .before .before .before .before .before .before .before .before .before .before .before .before .before .before .before .before .before .before .before .before in
-    (new t .number .small, next-fits Network (list t) (first t) _ (start t .pre .1) (4 * t′ t + 3) (i t + 3) (omega (arith, place t .there)) (omega (arith, here t)) (new t .line) (with-old (c .before .before .before .before .before)))
+    (new t .number .small, next-fits Network (list t) (first t) _ (start t .pre .1) (done t + 3) (i t + 3) (omega (arith, place t .there)) (omega (arith, here t)) (new t .line) (with-old (c .before .before .before .before .before)))
 
 add-t : tie.Need-add-t Inv-loop μ-loop
 add-t c = record { fits = omega (arith, place (c .before .before .before .before .before .before .before .before .before .before .before .before .before .before .before .before .before .before .before .before .before .before .before .before) .few, here (c .before .before .before .before .before .before .before .before .before .before .before .before .before .before .before .before .before .before .before .before .before .before .before .before)) }
@@ -163,7 +169,7 @@ loop-again : tie.Need-loop-again Inv-loop μ-loop
 loop-again c = let t = c .before .before .before .before .before .before .before .before .before .before .before .before .before .before .before .before .before .before .before .before .before .before .before .before in
     record {
       few = omega (arith, c .before .before .before .before .before .before .before .before .before .before .before .before .before .before .before .before .before .before .before .before .before .before .before .before .before .if1 .taken);
-      put = next-put Network (list t) (first t) _ (start t .pre .1) (4 * t′ t + 3) (i t + 3) (omega (arith, place t .there)) (omega (arith, here t)) (new t .line) (with-old (c .before .before .before .before .before .before .before .before)) (4 * (t′ t + 1)) (omega arith) (c .before .before .put-line3 .ensures);
+      put = next-put Network (list t) (first t) _ (start t .pre .1) (done t + 3) (i t + 3) (omega (arith, place t .there)) (omega (arith, here t)) (new t .line) (with-old (c .before .before .before .before .before .before .before .before)) (length (tunnelLines (networkSizes (list t))) * (t′ t + 1)) (omega arith) (c .before .before .put-line3 .ensures);
     }
 
 same-length : tie.Need-same-length Inv-loop μ-loop

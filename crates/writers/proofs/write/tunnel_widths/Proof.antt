@@ -17,7 +17,7 @@ use borrow.Author.Needs.{needs}
 use Rattle.writers.proofs.write.tunnel_widths.Statement.{statement}
 use Rattle.writers.proofs.write.tunnel_widths.Tie as tie
 use Rattle.lists.proofs.Network.tunnel_at.Reads as tunnel-at-reads
-use Rattle.writers.proofs.write.width.Reads as width-reads
+use Rattle.lines.proofs.width.Reads as width-reads
 
 abbrev Inv-loop : tie.InvT-loop
 Inv-loop list sizes sum₀ t₀ sum t = record { few : t ≤ sizes .tunnels; sum-is : sum ≡ tunnelWidths list t; small : sum ≤ 30 * t }

@@ -7,7 +7,7 @@ use native.Mathlib.Omega.{arith}
 use borrow.Author.Needs.{needs}
 use Rattle.writers.proofs.write.widths.Statement.{statement}
 use Rattle.writers.proofs.write.widths.Tie as tie
-use Rattle.writers.proofs.write.width.Reads as width-reads
+use Rattle.lines.proofs.width.Reads as width-reads
 
 abbrev Inv-loop : tie.InvT-loop
 Inv-loop list n sum₀ i₀ sum i = record { few : i ≤ n; sum-is : sum ≡ widthsOf list i; small : sum ≤ 10 * i }

@@ -6,7 +6,7 @@ use Rattle.forms.specs.Read.{judgeList}
 use Rattle.forms.specs.Write.{render, writeText}
 use Rattle.forms.specs.declared.form.Form.the-variants.{Plan}
 use Rattle.forms.proofs.Answers.{refused-then, refused-room}
-use Rattle.writers.proofs.Writing.{judged-done, too-long, written}
+use Rattle.writers.proofs.Answered.{judged-done, too-long, written}
 use borrow.Author.Needs.{needs}
 use Rattle.writers.proofs.write.write_plan.Statement.{statement}
 use Rattle.writers.proofs.write.write_plan.Tie as tie
