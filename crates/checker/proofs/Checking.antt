@@ -20,8 +20,9 @@ use Rattle.lists.specs.declared.Answer.{Answer}
 use Rattle.lists.specs.declared.Answer.the-variants.{Done, Refused}
 use Rattle.forms.proofs.Answers.{NotDone}
 use Rattle.checker.specs.Check.{judgePair, verdict, checked, marksAfter}
-use Rattle.checker.specs.Inner.{foundOf, marksOf, marksAt}
-use Rattle.checker.specs.declared.steps.Found.the-variants.{Nothing, At}
+use Rattle.overloads.specs.Inner.{foundOf}
+use Rattle.checker.specs.Inner.{marksOf, marksAt}
+use Rattle.overloads.specs.declared.steps.Found.the-variants.{Nothing, At}
 
 -- the answer r and the marks m that an outcome comes to
 abbrev pub Gives : List ℕ → List ℕ → Outcome (Option Overload) → List ℕ → Answer → List ℕ → Type 0

@@ -1,7 +1,3 @@
-pub mod Laws
-pub mod Good
-pub mod Overloads
-pub mod Blocks
 pub mod Totals
 pub mod Marking
 pub mod Pairs

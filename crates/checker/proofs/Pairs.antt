@@ -20,7 +20,8 @@ use Rattle.forms.specs.Named.{judgeNetwork, judgePlan}
 use Rattle.forms.proofs.Answers.{done-good, NotDone, refused-then}
 use Rattle.forms.proofs.Good.{good-network, good-plan}
 use Rattle.checker.specs.Check.{judgeRows, judgePair}
-use Rattle.checker.specs.Inner.{Checkable, missedOf}
+use Rattle.overloads.specs.Inner.{Checkable}
+use Rattle.checker.specs.Inner.{missedOf}
 use Rattle.checker.specs.declared.sums.Missed.the-variants as missed
 
 -- ---- what a judge's answer tells

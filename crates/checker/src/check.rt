@@ -6,13 +6,13 @@ ghost use Rattle.model.specs.Outcome.{Outcome};
 ghost use Rattle.model.specs.Rule.{firstOverload};
 ghost use Rattle.lists.specs.Lists.{networkSizes, networkOf, planOf};
 ghost use Rattle.checker.specs.Check.{verdict, checked, marksAfter};
-ghost use Rattle.checker.specs.Inner.{Checkable};
+ghost use Rattle.overloads.specs.Inner.{Checkable};
 use crate::marks;
 use crate::pair;
-use crate::steps;
-use crate::steps::Found;
 use lists::Answer;
 use lists::Network;
+use overloads::steps;
+use overloads::steps::Found;
 
 // The steps, and the marks that go with what is found.
 fn check_steps(network: &[u64], plan: &[u64], marks: &mut [u8]) -> Answer

@@ -8,9 +8,10 @@ ghost use lib.ListN.{length, drop};
 ghost use Rattle.model.specs.Limits.{mostLinks};
 ghost use Rattle.model.specs.Sets.{inSet};
 ghost use Rattle.lists.specs.Lists.{networkSizes, networkOf, planSizes, planOf};
-ghost use Rattle.checker.specs.Inner.{Checkable, marksOf, marksAt};
-use crate::rows;
+ghost use Rattle.overloads.specs.Inner.{Checkable};
+ghost use Rattle.checker.specs.Inner.{marksOf, marksAt};
 use lists::Network;
+use overloads::rows;
 
 // A tunnel's mark: 1 if it crosses link l and its amount rises.
 fn rises(via: u64, l: u64, earlier: u64, later: u64) -> u8

@@ -8,10 +8,11 @@ ghost use Rattle.model.specs.Rule.{missedRow};
 ghost use Rattle.judges.specs.Sums.{Gathered};
 ghost use Rattle.lists.specs.Lists.{networkSizes, networkOf, planSizes, planOf};
 ghost use Rattle.lists.specs.Good.{GoodNetwork};
-ghost use Rattle.checker.specs.Inner.{Checkable, FirstMissed, missedOf};
-use crate::rows;
+ghost use Rattle.overloads.specs.Inner.{Checkable};
+ghost use Rattle.checker.specs.Inner.{FirstMissed, missedOf};
 use lists::Network;
 use lists::PlanSizes;
+use overloads::rows;
 
 const FLOWS: usize = Network::FLOWS as usize;
 

@@ -7,13 +7,13 @@ use native.Mathlib.Omega.{arith}
 use native.Mathlib.Nat.{le-trans, mul-le-mul-right}
 use native.Mathlib.Numerals.{add-one}
 use lib.Dec.{eqb, leb}
-use Rattle.model.specs.Limits.{mostLinks, mostSteps, mostAmount}
+use Rattle.model.specs.Limits.{mostSteps, mostAmount}
 use Rattle.model.specs.Sets.{inSet}
 use Rattle.model.specs.Sum.{sumOver}
 use Rattle.model.proofs.Sums.{sum-both}
 use Rattle.lists.specs.Lists.{at}
 use Rattle.loads.specs.Gathered.{addedOn, gathered}
-use Rattle.loads.specs.Tables.{blockSteps, amountAt, loadAt, partOf, inPart, AmountsWithin, SetAdded, LoadsWithin, Cleared, Loads}
+use Rattle.loads.specs.Tables.{amountAt, loadAt, partOf, inPart, AmountsWithin, SetAdded, LoadsWithin, Cleared, Loads}
 use Rattle.loads.proofs.Vectors.{cond-most}
 
 cond-swap : (a b : Bool) (x : ℕ) → cond (a && b) x 0 ≡ cond b (cond a x 0) 0

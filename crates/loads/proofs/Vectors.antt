@@ -1,23 +1,23 @@
 -- Laws of tables of vectors: what the loops that clear them and add to them prove at each turn.
-use Prim.Native.Nat.{ℕ, zero, suc, _+_, _-_, _*_, _/_, _^_, _≤_, _<_}
-use mathlib.Core.Path.{_≡_, refl, sym, ap, _∙_, subst}
+use Prim.Native.Nat.{ℕ, _+_, _-_, _*_, _/_, _^_, _≤_, _<_}
+use mathlib.Core.Path.{_≡_, refl, sym, ap, _∙_}
 use mathlib.Core.Logic.{_≢_, ⊎-elim}
 use mathlib.Core.Bool.{Bool, true, false, cond, _&&_}
 use mathlib.Core.List.{List}
 use native.Mathlib.Omega.{arith}
-use native.Mathlib.Nat.{add-zero, mul-one, div-one, eq-or-lt-of-le, le-trans, mul-le-mul-right}
+use native.Mathlib.Nat.{add-zero, mul-one, div-one, eq-or-lt-of-le}
 use lib.Dec.{eqb}
 use lib.Bits.{bitAnd}
 use lib.Count.{trailingZeros}
 use lib.ListN.{length, set, length-set}
 use lib.Seq.{getD-set-same, getD-set-other}
 use borrow.Author.Tests.{eq-eqb, ne-eqb, eqb-true, eqb-false}
-use Rattle.model.specs.Limits.{mostLinks, mostTunnels, mostSteps, mostAmount}
+use Rattle.model.specs.Limits.{mostLinks, mostTunnels}
 use Rattle.model.specs.Sets.{inSet}
 use Rattle.model.proofs.Searches.{bool-cases}
 use Rattle.model.proofs.Sets.{none-left, next-from, next-set, next-below, next-left, passed, passed-on, passed-none, passed-all}
 use Rattle.lists.specs.Lists.{at}
-use Rattle.loads.specs.Tables.{blockSteps, amountAt, amountsSize, loadAt, loadsSize, AmountsWithin, Addable, VectorAdded, SetAdded, LoadsWithin, Cleared}
+use Rattle.loads.specs.Tables.{blockSteps, amountAt, amountsSize, loadAt, loadsSize, AmountsWithin, Addable, VectorAdded, SetAdded, LoadsWithin}
 
 pub at-other : (s : List ℕ) (i j v : ℕ) → (j ≡ i → ⊥) → at (set s i v) j ≡ at s j
 at-other s i j v h = getD-set-other s i j v 0 h

@@ -1,5 +1,5 @@
 -- `checker::marks::mark` meets its contract.
-use Prim.Native.Nat.{ℕ, _≤_, _-_}
+use Prim.Native.Nat.{_≤_, _-_}
 use mathlib.Core.Path.{_≡_, refl, ap}
 use mathlib.Core.List.{_++_}
 use lib.ListN.{length, drop, length-set}
@@ -8,17 +8,12 @@ use Rattle.lists.specs.declared.Network as counts
 use Rattle.lists.proofs.Positions.{tunnel-place, limited, head-in}
 use Rattle.model.proofs.Listed.{listed-none, listed-on, listed-to}
 use Rattle.checker.specs.Inner.{marksAt}
-use Rattle.checker.proofs.Good.{via-here}
+use Rattle.overloads.proofs.Good.{via-here}
 use Rattle.checker.proofs.Marking.{mark-of}
 use native.Mathlib.Omega.{arith}
 use borrow.Author.Needs.{needs}
 use Rattle.checker.proofs.marks.mark.Statement.{statement}
 use Rattle.checker.proofs.marks.mark.Tie as tie
-use Rattle.checker.proofs.marks.rises.Reads as rises-reads
-use Rattle.checker.proofs.rows.after.Reads as after-reads
-use Rattle.checker.proofs.rows.before.Reads as before-reads
-use Rattle.lists.proofs.Network.of.Reads as of-reads
-use Rattle.lists.proofs.Network.tunnel_at.Reads as tunnel-at-reads
 
 abbrev Inv-loop : tie.InvT-loop
 Inv-loop network plan i l marks₀ sizes t₀ marks t = (t ≤ sizes .tunnels) × (length marks ≡ length marks₀) × (marks ≡ marksAt (networkOf network) (planOf plan) i l t ++ drop t marks₀)

@@ -1,5 +1,5 @@
 -- `checker::sums::missed_row` meets its contract.
-use Prim.Native.Nat.{ℕ, _≤_, _<_, _-_, _+_, suc}
+use Prim.Native.Nat.{ℕ, _≤_, _-_, _+_, suc}
 use mathlib.Core.Path.{_≡_, refl, sym, ap, subst}
 use mathlib.Core.Option.{none}
 use Rattle.model.specs.Search.{first}
@@ -15,10 +15,6 @@ use native.Mathlib.Omega.{arith}
 use borrow.Author.Needs.{needs}
 use Rattle.checker.proofs.sums.missed_row.Statement.{statement}
 use Rattle.checker.proofs.sums.missed_row.Tie as tie
-use Rattle.checker.proofs.sums.missed_flow.Reads as missed-flow-reads
-use Rattle.checker.proofs.sums.row_sums.Reads as row-sums-reads
-use Rattle.lists.proofs.Network.of.Reads as Network-of-reads
-use Rattle.lists.proofs.PlanSizes.of.Reads as PlanSizes-of-reads
 
 abbrev Inv-loop : tie.InvT-loop
 Inv-loop network plan flows parts steps a₀ a = (a ≤ steps) × (1 ≤ a) × (first a (λ b. first (networkOf network .flows) (missedIn (networkOf network) (planOf plan) b)) ≡ none)

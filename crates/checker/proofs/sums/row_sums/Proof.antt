@@ -1,24 +1,21 @@
 -- `checker::sums::row_sums` meets its contract.
-use Prim.Native.Nat.{ℕ, suc, _≤_, _<_, _-_, _+_, _*_, _^_}
-use mathlib.Core.Path.{_≡_, ap, _∙_, sym}
+use Prim.Native.Nat.{suc, _≤_, _-_, _*_}
+use mathlib.Core.Path.{ap, _∙_, sym}
 use native.Mathlib.Nat.{lt-of-lt-of-le}
 use lib.ListN.{length}
-use Rattle.model.specs.Limits.{mostFlows, mostTunnels, mostSteps, mostAmount}
+use Rattle.model.specs.Limits.{mostSteps, mostAmount}
 use Rattle.model.specs.Net.{row}
-use Rattle.lists.specs.Lists.{at, networkSizes, networkOf, planOf}
+use Rattle.lists.specs.Lists.{networkOf, planOf}
 use Rattle.lists.specs.declared.Network as counts
 use Rattle.lists.proofs.Positions.{tunnel-place, limited, head-in}
 use Rattle.judges.specs.Sums.{Gathered}
 use Rattle.judges.proofs.Gathering.{gathered-none, gathered-more, gathered-fits}
 use Rattle.checker.proofs.Totals.{gathered-at}
-use Rattle.checker.proofs.Good.{flow-here, flow-low, row-small}
+use Rattle.overloads.proofs.Good.{flow-here, flow-low, row-small}
 use native.Mathlib.Omega.{arith}
 use borrow.Author.Needs.{needs}
 use Rattle.checker.proofs.sums.row_sums.Statement.{statement}
 use Rattle.checker.proofs.sums.row_sums.Tie as tie
-use Rattle.checker.proofs.rows.after.Reads as after-reads
-use Rattle.lists.proofs.Network.of.Reads as of-reads
-use Rattle.lists.proofs.Network.tunnel_at.Reads as tunnel-at-reads
 
 abbrev Inv-loop : tie.InvT-loop
 Inv-loop network plan i sums₀ sizes t₀ sums t = record { low : t ≤ sizes .tunnels; gathered : Gathered (networkOf network) (row (networkOf network) (planOf plan) (suc i)) t sums }

@@ -1,5 +1,5 @@
 -- `loads::gather::add_tunnel` meets its contract: the links below one are passed, and what is left of the set falls.
-use Prim.Native.Nat.{_+_, _*_, _^_, _<_}
+use Prim.Native.Nat.{_<_}
 use borrow.Author.Tests.{eqb-true}
 use lib.Count.{trailing-le, trailingZeros}
 use Rattle.model.proofs.Sets.{set-within, next-set, next-less}
@@ -10,7 +10,6 @@ use native.Mathlib.Omega.{arith}
 use borrow.Author.Needs.{needs}
 use Rattle.loads.proofs.gather.add_tunnel.Statement.{statement}
 use Rattle.loads.proofs.gather.add_tunnel.Tie as tie
-use Rattle.loads.proofs.gather.add_vector.Reads as add-vector-reads
 
 abbrev Inv-loop : tie.InvT-loop
 Inv-loop links amounts t via part loads₀ set₀ loads set = Passing links part via (λ k. at amounts (amountAt t k)) loads₀ set loads

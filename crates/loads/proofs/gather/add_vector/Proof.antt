@@ -1,5 +1,5 @@
 -- `loads::gather::add_vector` meets its contract.
-use Prim.Native.Nat.{_≤_, _-_, _+_}
+use Prim.Native.Nat.{_≤_, _-_}
 use Rattle.lists.specs.Lists.{at}
 use Rattle.loads.specs.Tables.{blockSteps, amountAt}
 use Rattle.loads.proofs.Vectors.{Adding, adding-none, adding-more, adding-end}

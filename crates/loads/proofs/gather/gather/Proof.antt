@@ -1,14 +1,11 @@
 -- `loads::gather::gather` meets its contract.
-use Prim.Native.Nat.{ℕ, _+_, _-_, _≤_}
+use Prim.Native.Nat.{_+_, _-_, _≤_}
 use Rattle.loads.specs.Tables.{Loads}
 use Rattle.loads.proofs.Passes.{loads-none, loads-more, loads-within, loads-at, fewer-within}
 use native.Mathlib.Omega.{arith}
 use borrow.Author.Needs.{needs}
 use Rattle.loads.proofs.gather.gather.Statement.{statement}
 use Rattle.loads.proofs.gather.gather.Tie as tie
-use Rattle.loads.proofs.gather.add_tunnel.Reads as add-tunnel-reads
-use Rattle.loads.proofs.gather.clear.Reads as clear-reads
-use Rattle.loads.proofs.gather.part_of.Reads as part-of-reads
 
 abbrev Inv-loop : tie.InvT-loop
 Inv-loop links vias classes n amounts loads₀ t₀ loads t = record { low : t ≤ n; loads : Loads links vias classes t amounts loads }

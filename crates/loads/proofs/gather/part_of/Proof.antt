@@ -1,7 +1,6 @@
 -- `loads::gather::part_of` meets its contract.
 use borrow.Author.Tests.{le-leb, lt-leb}
 use native.Mathlib.Omega.{arith}
-use borrow.Author.Needs.{needs}
 use Rattle.loads.proofs.gather.part_of.Statement.{statement}
 use Rattle.loads.proofs.gather.part_of.Tie as tie
 

@@ -1,0 +1,4 @@
+pub mod Laws
+pub mod Good
+pub mod Overloads
+pub mod Blocks

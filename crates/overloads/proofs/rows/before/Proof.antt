@@ -1,0 +1,67 @@
+-- `overloads::rows::before` meets its contract.
+use mathlib.Core.Path.{ap, _∙_}
+use Rattle.lists.specs.Lists.{rowAt}
+use Rattle.lists.specs.declared.PlanSizes as lengths
+use Rattle.lists.proofs.Positions.{tunnel-place, limited, head-in}
+use Rattle.overloads.proofs.Good.{old-fits, old-amount, listed-amount, listed-in, listed-few, own-tunnel}
+use native.Mathlib.Omega.{arith}
+use borrow.Author.Needs.{needs}
+use Rattle.overloads.proofs.rows.before.Statement.{statement}
+use Rattle.overloads.proofs.rows.before.Tie as tie
+
+of-requires : tie.Need-of-requires
+of-requires c κs = search needs
+
+of-requires-2 : tie.Need-of-requires-2
+of-requires-2 c κs = head-in _ (c .before .before .before .before .pre .0 .network .ranges .sized .size)
+
+tunnel-at-requires : tie.Need-tunnel-at-requires
+tunnel-at-requires c κs = (limited _ (c .before .before .before .before .before .pre .0 .network .ranges .sized) _ (c .of2 .ensures), omega (arith, own-tunnel _ _ _ (c .of2 .ensures) (c .before .before .before .before .before .pre .2)))
+
+add-result : tie.Need-add-result
+add-result c = let p = tunnel-place _ (c .before .before .before .before .before .before .pre .0 .network .ranges .sized) _ (c .before .of2 .ensures) _ _ (own-tunnel _ _ _ (c .before .of2 .ensures) (c .before .before .before .before .before .before .pre .2)) (c .tunnel-at .ensures) in record { fits = omega (arith, p .few) }
+
+mul-result : tie.Need-mul-result
+mul-result c = let p = tunnel-place _ (c .before .before .before .before .before .before .pre .0 .network .ranges .sized) _ (c .before .of2 .ensures) _ _ (own-tunnel _ _ _ (c .before .of2 .ensures) (c .before .before .before .before .before .before .pre .2)) (c .tunnel-at .ensures) in record { fits = omega (arith, p .few) }
+
+shared-slice-read-result : tie.Need-shared-slice-read-result
+shared-slice-read-result c = let p = tunnel-place _ (c .before .before .before .before .before .before .before .pre .0 .network .ranges .sized) _ (c .before .before .of2 .ensures) _ _ (own-tunnel _ _ _ (c .before .before .of2 .ensures) (c .before .before .before .before .before .before .before .pre .2)) (c .before .tunnel-at .ensures) in omega (arith, p .within)
+
+mul-result-2 : tie.Need-mul-result-2
+mul-result-2 c = let p = tunnel-place _ (c .before .before .before .before .before .before .before .before .pre .0 .network .ranges .sized) _ (c .before .before .before .of2 .ensures) _ _ (own-tunnel _ _ _ (c .before .before .before .of2 .ensures) (c .before .before .before .before .before .before .before .before .pre .2)) (c .before .before .tunnel-at .ensures) in record { fits = old-fits _ (c .before .before .before .before .before .before .before .before .pre .0 .network) _ _ p _ (omega (arith, ap (λ (n : lengths.PlanSizes). n .parts) (c .before .before .before .before .before .of .ensures), c .before .before .before .before .before .before .before .before .pre .0 .plan .parts)) }
+
+returns : tie.Need-returns
+returns c = let p = tunnel-place _ (c .before .before .before .before .before .before .before .before .pre .0 .network .ranges .sized) _ (c .before .before .before .of2 .ensures) _ _ (own-tunnel _ _ _ (c .before .before .before .of2 .ensures) (c .before .before .before .before .before .before .before .before .pre .2)) (c .before .before .tunnel-at .ensures) in old-amount _ _ (c .before .before .before .before .before .before .before .before .pre .0) _ _ _ _ p (ap (λ (n : lengths.PlanSizes). n .parts) (c .before .before .before .before .before .of .ensures)) (c .before .before .before .before .if1 .taken)
+
+row-at-requires : tie.Need-row-at-requires
+row-at-requires c κs = (omega (arith, c .if1 .left), omega (arith, c .before .before .before .before .pre .1, c .before .before .before .before .pre .0 .plan .steps), omega (arith, c .before .before .before .before .pre .0 .plan .tunnels, ap (λ (n : lengths.PlanSizes). n .tunnels) (c .before .of .ensures)))
+
+add-result-2 : tie.Need-add-result-2
+add-result-2 c = record { fits = omega (arith, listed-few _ _ (c .before .before .before .before .before .pre .0) _ _ _ (omega (arith, c .before .if1 .left)) (c .before .before .before .before .before .pre .1) (c .before .before .before .before .before .pre .2) (c .row-at .ensures ∙ ap (λ (n : lengths.PlanSizes). rowAt n (c .before .before .before .before .before .args .i)) (c .before .before .of .ensures))) }
+
+mul-result-3 : tie.Need-mul-result-3
+mul-result-3 c = record { fits = omega (arith, listed-few _ _ (c .before .before .before .before .before .pre .0) _ _ _ (omega (arith, c .before .if1 .left)) (c .before .before .before .before .before .pre .1) (c .before .before .before .before .before .pre .2) (c .row-at .ensures ∙ ap (λ (n : lengths.PlanSizes). rowAt n (c .before .before .before .before .before .args .i)) (c .before .before .of .ensures))) }
+
+shared-slice-read-result-2 : tie.Need-shared-slice-read-result-2
+shared-slice-read-result-2 c = listed-in _ _ (c .before .before .before .before .before .before .pre .0) _ _ _ (omega (arith, c .before .before .if1 .left)) (c .before .before .before .before .before .before .pre .1) (c .before .before .before .before .before .before .pre .2) (c .before .row-at .ensures ∙ ap (λ (n : lengths.PlanSizes). rowAt n (c .before .before .before .before .before .before .args .i)) (c .before .before .before .of .ensures))
+
+returns-2 : tie.Need-returns-2
+returns-2 c = listed-amount _ _ (c .before .before .before .before .before .before .pre .0) _ _ _ (omega (arith, c .before .before .if1 .left)) (c .before .before .before .before .before .before .pre .1) (c .before .before .before .before .before .before .pre .2) (c .before .row-at .ensures ∙ ap (λ (n : lengths.PlanSizes). rowAt n (c .before .before .before .before .before .before .args .i)) (c .before .before .before .of .ensures))
+
+pub before-spec : {M : Type 1} → statement M
+before-spec =
+    tie.close
+    (tie.spec
+    of-requires
+    of-requires-2
+    tunnel-at-requires
+    add-result
+    mul-result
+    shared-slice-read-result
+    mul-result-2
+    returns
+    row-at-requires
+    add-result-2
+    mul-result-3
+    shared-slice-read-result-2
+    returns-2)

@@ -1,0 +1,173 @@
+-- `overloads::steps::first_overload` meets its contract. The invariants: no step before this one, and no link before this one in it, breaks a bound.
+use Prim.Native.Nat.{ℕ, _≤_, _-_}
+use mathlib.Core.Path.{_≡_, refl, sym, ap, _∙_, subst}
+use mathlib.Core.Option.{none}
+use lib.ListN.{length-replicate}
+use Rattle.model.specs.Search.{first}
+use Rattle.model.specs.Scan.{testLink}
+use Rattle.model.specs.Rule.{worstOver, firstOverload, stepCount}
+use Rattle.model.proofs.Searches.{first-zero, first-on}
+use Rattle.model.proofs.Scans.{step-on, scan-at, scan-end, testStep}
+use Rattle.lists.specs.Lists.{networkOf, planOf}
+use Rattle.lists.specs.declared.Network as counts
+use Rattle.lists.specs.declared.PlanSizes as lengths
+use Rattle.lists.proofs.Positions.{head-in}
+use Rattle.loads.specs.Tables.{loadsSize}
+use Rattle.overloads.specs.declared.steps.Found.the-variants.{At, Nothing}
+use Rattle.overloads.specs.Inner.{foundOf}
+use Rattle.overloads.specs.Blocks.{AmountTable, InBlock}
+use Rattle.overloads.proofs.Overloads.{overIn, over-none, over-some}
+use Rattle.overloads.proofs.Blocks.{no-amounts, in-first, in-next, fewer-links, number-in}
+use native.Mathlib.Omega.{arith}
+use borrow.Author.Needs.{needs}
+use Rattle.overloads.proofs.steps.first_overload.Statement.{statement}
+use Rattle.overloads.proofs.steps.first_overload.Tie as tie
+
+abbrev Inv-loop : tie.InvT-loop
+Inv-loop network plan links steps vias classes capacities raised amounts loads found₀ i k l₀ found l = (l ≤ links) × (found ≡ Nothing) × (first l (testLink (worstOver (networkOf network) (planOf plan)) i) ≡ none)
+
+abbrev μ-loop : tie.MeasureT-loop
+μ-loop network plan links steps vias classes capacities raised amounts loads found₀ i k l₀ found l = links - l
+
+abbrev Inv-steps : tie.InvT-steps
+Inv-steps network plan links steps vias classes capacities raised amounts₀ loads₀ found₀ i₀ amounts loads found i = (i ≤ steps) × (found ≡ Nothing) × AmountTable network amounts × InBlock (networkOf network) (planOf plan) i loads × (first i (testStep (networkOf network .links) (worstOver (networkOf network) (planOf plan))) ≡ none)
+
+abbrev μ-steps : tie.MeasureT-steps
+μ-steps network plan links steps vias classes capacities raised amounts₀ loads₀ found₀ i₀ amounts loads found i = steps - i
+
+of-requires : tie.Need-of-requires Inv-loop μ-loop Inv-steps μ-steps
+of-requires c κs = head-in _ (c .before .before .pre .network .ranges .sized .size)
+
+of-requires-2 : tie.Need-of-requires-2 Inv-loop μ-loop Inv-steps μ-steps
+of-requires-2 c κs = search needs
+
+slice-aggregate-tunnels : tie.Need-slice-aggregate-tunnels Inv-loop μ-loop Inv-steps μ-steps
+slice-aggregate-tunnels c = search needs
+
+slice-aggregate-tunnels-2 : tie.Need-slice-aggregate-tunnels-2 Inv-loop μ-loop Inv-steps μ-steps
+slice-aggregate-tunnels-2 c = search needs
+
+tunnels-requires : tie.Need-tunnels-requires Inv-loop μ-loop Inv-steps μ-steps
+tunnels-requires c κs = search needs
+
+slice-aggregate-links : tie.Need-slice-aggregate-links Inv-loop μ-loop Inv-steps μ-steps
+slice-aggregate-links c = search needs
+
+slice-aggregate-links-2 : tie.Need-slice-aggregate-links-2 Inv-loop μ-loop Inv-steps μ-steps
+slice-aggregate-links-2 c = search needs
+
+links-requires : tie.Need-links-requires Inv-loop μ-loop Inv-steps μ-steps
+links-requires c κs = (c .before .before .before .before .before .before .before .before .before .before .before .pre .network, omega (arith, ap (λ (m : lengths.PlanSizes). m .parts) (c .before .before .before .before .before .before .before .of2 .ensures), c .before .before .before .before .before .before .before .before .before .before .before .pre .plan .parts), omega arith, omega arith)
+
+steps-holds : tie.Need-steps-holds Inv-loop μ-loop Inv-steps μ-steps
+steps-holds c = (omega arith, refl, no-amounts _ (c .before .before .before .before .before .before .before .before .before .before .before .before .before .before .pre .network .ranges .sized .counts .tunnels), in-first _ _ _ (length-replicate {A = ℕ} loadsSize 0), first-zero _)
+
+slice-aggregate-block-loads :
+    tie.Need-slice-aggregate-block-loads Inv-loop μ-loop Inv-steps μ-steps
+slice-aggregate-block-loads c = search needs
+
+slice-aggregate-block-loads-2 :
+    tie.Need-slice-aggregate-block-loads-2 Inv-loop μ-loop Inv-steps μ-steps
+slice-aggregate-block-loads-2 c = search needs
+
+slice-aggregate-block-loads-3 :
+    tie.Need-slice-aggregate-block-loads-3 Inv-loop μ-loop Inv-steps μ-steps
+slice-aggregate-block-loads-3 c = search needs
+
+slice-aggregate-block-loads-4 :
+    tie.Need-slice-aggregate-block-loads-4 Inv-loop μ-loop Inv-steps μ-steps
+slice-aggregate-block-loads-4 c = search needs
+
+block-loads-requires : tie.Need-block-loads-requires Inv-loop μ-loop Inv-steps μ-steps
+block-loads-requires c κs = (c .before .before .before .before .before .before .before .before .before .before .before .before .before .before .before .before .before .before .before .before .pre, omega (arith, c .before .before .before .before .steps-test .taken, ap (λ (m : lengths.PlanSizes). m .steps) (c .before .before .before .before .before .before .before .before .before .before .before .before .before .before .before .before .of2 .ensures)), record { size = (omega (arith, c .before .before .before .before .before .before .before .before .before .before .before .before .before .tunnels .kept), omega (arith, c .before .before .before .before .before .before .before .before .before .before .before .before .before .tunnels .kept)); via = c .before .before .before .before .before .before .before .before .before .before .before .before .before .tunnels .ensures .0; class = c .before .before .before .before .before .before .before .before .before .before .before .before .before .tunnels .ensures .1 }, c .before .before .before .before .before .steps .inv .2, c .before .before .before .before .before .steps .inv .3)
+
+loop-holds : tie.Need-loop-holds Inv-loop μ-loop Inv-steps μ-steps
+loop-holds c = (omega arith, c .before .before .before .before .before .before .before .before .steps .inv .1, first-zero _)
+
+slice-aggregate-over : tie.Need-slice-aggregate-over Inv-loop μ-loop Inv-steps μ-steps
+slice-aggregate-over c = search needs
+
+slice-aggregate-over-2 : tie.Need-slice-aggregate-over-2 Inv-loop μ-loop Inv-steps μ-steps
+slice-aggregate-over-2 c = search needs
+
+slice-aggregate-over-3 : tie.Need-slice-aggregate-over-3 Inv-loop μ-loop Inv-steps μ-steps
+slice-aggregate-over-3 c = search needs
+
+over-requires : tie.Need-over-requires Inv-loop μ-loop Inv-steps μ-steps
+unfolding networkOf
+over-requires c κs = (omega (arith, c .before .before .before .loop-test .taken, ap (λ (m : counts.Network). m .links) (c .before .before .before .before .before .before .before .before .before .before .before .before .before .before .before .before .before .before .before .before .before .before .before .before .before .of .ensures), c .before .before .before .before .before .before .before .before .before .before .before .before .before .before .before .before .before .before .before .before .before .before .before .before .before .before .before .before .pre .network .ranges .sized .counts), omega arith, omega (arith, c .before .before .before .before .before .before .before .before .before .before .before .before .before .before .before .before .links .kept), omega (arith, c .before .before .before .before .before .before .before .before .before .before .before .before .before .before .before .before .links .kept), fewer-links _ _ _ _ (omega (arith, c .before .before .before .loop-test .taken, ap (λ (m : counts.Network). m .links) (c .before .before .before .before .before .before .before .before .before .before .before .before .before .before .before .before .before .before .before .before .before .before .before .before .before .of .ensures))) (c .before .before .before .before .before .before .before .block-loads .ensures .1 .within))
+
+add-l : tie.Need-add-l Inv-loop μ-loop Inv-steps μ-steps
+add-l c = record { fits = omega (arith, c .before .before .before .before .before .loop-test .taken, ap (λ (m : counts.Network). m .links) (c .before .before .before .before .before .before .before .before .before .before .before .before .before .before .before .before .before .before .before .before .before .before .before .before .before .before .before .of .ensures), c .before .before .before .before .before .before .before .before .before .before .before .before .before .before .before .before .before .before .before .before .before .before .before .before .before .before .before .before .before .before .pre .network .ranges .sized .counts) }
+
+loop-less : tie.Need-loop-less Inv-loop μ-loop Inv-steps μ-steps
+loop-less c = search needs
+
+loop-again : tie.Need-loop-again Inv-loop μ-loop Inv-steps μ-steps
+unfolding networkOf planOf
+loop-again c = (omega (arith, c .before .before .before .before .before .loop-test .taken), c .before .before .before .before .before .before .loop .inv .1, first-on _ _ (c .before .before .before .before .before .before .loop .inv .2) (over-none (networkOf (c .before .before .before .before .before .before .before .before .before .before .before .before .before .before .before .before .before .before .before .before .before .before .before .before .before .before .before .before .before .before .args .network .now)) (planOf (c .before .before .before .before .before .before .before .before .before .before .before .before .before .before .before .before .before .before .before .before .before .before .before .before .before .before .before .before .before .before .args .plan .now)) _ _ (sym (c .before .over .ensures ∙ number-in (networkOf (c .before .before .before .before .before .before .before .before .before .before .before .before .before .before .before .before .before .before .before .before .before .before .before .before .before .before .before .before .before .before .args .network .now)) (planOf (c .before .before .before .before .before .before .before .before .before .before .before .before .before .before .before .before .before .before .before .before .before .before .before .before .before .before .before .before .before .before .args .plan .now)) (c .before .before .before .before .before .before .before .before .before .before .before .before .before .before .before .steps .i) (c .before .before .before .before .before .before .loop .l) (omega (arith, c .before .before .before .before .before .before .before .before .before .before .before .before .before .before .steps-test .taken, ap (λ (m : lengths.PlanSizes). m .steps) (c .before .before .before .before .before .before .before .before .before .before .before .before .before .before .before .before .before .before .before .before .before .before .before .before .before .before .of2 .ensures))) (omega (arith, c .before .before .before .before .before .loop-test .taken, ap (λ (m : counts.Network). m .links) (c .before .before .before .before .before .before .before .before .before .before .before .before .before .before .before .before .before .before .before .before .before .before .before .before .before .before .before .of .ensures))) _ _ _ (rw (ap (λ (m : lengths.PlanSizes). m .parts) (c .before .before .before .before .before .before .before .before .before .before .before .before .before .before .before .before .before .before .before .before .before .before .before .before .before .before .of2 .ensures)) at (c .before .before .before .before .before .before .before .before .before .before .before .before .before .before .before .before .before .before .links .ensures .0)) (rw (ap (λ (m : lengths.PlanSizes). m .parts) (c .before .before .before .before .before .before .before .before .before .before .before .before .before .before .before .before .before .before .before .before .before .before .before .before .before .before .of2 .ensures)) at (c .before .before .before .before .before .before .before .before .before .before .before .before .before .before .before .before .before .before .links .ensures .1)) (c .before .before .before .before .before .before .before .before .before .block-loads .ensures .1)) ∙ c .if1 .left)))
+
+add-i : tie.Need-add-i Inv-loop μ-loop Inv-steps μ-steps
+add-i c = record { fits = omega (arith, c .before .before .before .before .before .before .before .before .before .steps-test .taken, ap (λ (m : lengths.PlanSizes). m .steps) (c .before .before .before .before .before .before .before .before .before .before .before .before .before .before .before .before .before .before .before .before .before .of2 .ensures), c .before .before .before .before .before .before .before .before .before .before .before .before .before .before .before .before .before .before .before .before .before .before .before .before .before .pre .plan .steps) }
+
+steps-less : tie.Need-steps-less Inv-loop μ-loop Inv-steps μ-steps
+steps-less c = search needs
+
+steps-again : tie.Need-steps-again Inv-loop μ-loop Inv-steps μ-steps
+unfolding networkOf
+steps-again c = let e : c .before .loop .l ≡ (networkOf (c .before .before .before .before .before .before .before .before .before .before .before .before .before .before .before .before .before .before .before .before .before .before .before .before .before .args .network .now)) .links = omega (arith, c .loop-test .left, c .before .loop .inv .0, ap (λ (m : counts.Network). m .links) (c .before .before .before .before .before .before .before .before .before .before .before .before .before .before .before .before .before .before .before .before .before .before .of .ensures)) in (
+  omega (arith, c .before .before .before .before .before .before .before .before .before .steps-test .taken),
+  c .before .loop .inv .1,
+  c .before .before .before .before .block-loads .ensures .0,
+  in-next _ _ _ _ (c .before .before .before .before .block-loads .ensures .1),
+  step-on (c .before .before .before .before .before .before .before .before .before .before .steps .i) _ _ _ (c .before .before .before .before .before .before .before .before .before .before .steps .inv .4) (subst (λ (n : ℕ). first n (testLink (worstOver (networkOf (c .before .before .before .before .before .before .before .before .before .before .before .before .before .before .before .before .before .before .before .before .before .before .before .before .before .args .network .now)) (planOf (c .before .before .before .before .before .before .before .before .before .before .before .before .before .before .before .before .before .before .before .before .before .before .before .before .before .args .plan .now))) (c .before .before .before .before .before .before .before .before .before .before .steps .i)) ≡ none) e (c .before .loop .inv .2)),
+)
+
+returns : tie.Need-returns Inv-loop μ-loop Inv-steps μ-steps
+unfolding firstOverload stepCount planOf
+returns c = let e : c .before .steps .i ≡ (planOf (c .before .before .before .before .before .before .before .before .before .before .before .before .before .before .before .before .args .plan .now)) .steps = omega (arith, c .steps-test .left, c .before .steps .inv .0, ap (λ (m : lengths.PlanSizes). m .steps) (c .before .before .before .before .before .before .before .before .before .before .before .before .of2 .ensures)) in
+    c .before .steps .inv .1 ∙ ap foundOf (sym (scan-end _ _ (worstOver (networkOf (c .before .before .before .before .before .before .before .before .before .before .before .before .before .before .before .before .args .network .now)) (planOf (c .before .before .before .before .before .before .before .before .before .before .before .before .before .before .before .before .args .plan .now))) (subst (λ (n : ℕ). first n (testStep ((networkOf (c .before .before .before .before .before .before .before .before .before .before .before .before .before .before .before .before .args .network .now)) .links) (worstOver (networkOf (c .before .before .before .before .before .before .before .before .before .before .before .before .before .before .before .before .args .network .now)) (planOf (c .before .before .before .before .before .before .before .before .before .before .before .before .before .before .before .before .args .plan .now)))) ≡ none) e (c .before .steps .inv .4))))
+
+returns-2 : tie.Need-returns-2 Inv-loop μ-loop Inv-steps μ-steps
+unfolding firstOverload stepCount networkOf planOf
+returns-2 c = let number : c .before .over .result ≡ overIn (networkOf (c .before .before .before .before .before .before .before .before .before .before .before .before .before .before .before .before .before .before .before .before .before .before .before .before .before .before .before .before .before .before .args .network .now)) (planOf (c .before .before .before .before .before .before .before .before .before .before .before .before .before .before .before .before .before .before .before .before .before .before .before .before .before .before .before .before .before .before .args .plan .now)) (c .before .before .before .before .before .before .before .before .before .before .before .before .before .before .before .steps .i) (c .before .before .before .before .before .before .loop .l) = c .before .over .ensures ∙ number-in (networkOf (c .before .before .before .before .before .before .before .before .before .before .before .before .before .before .before .before .before .before .before .before .before .before .before .before .before .before .before .before .before .before .args .network .now)) (planOf (c .before .before .before .before .before .before .before .before .before .before .before .before .before .before .before .before .before .before .before .before .before .before .before .before .before .before .before .before .before .before .args .plan .now)) (c .before .before .before .before .before .before .before .before .before .before .before .before .before .before .before .steps .i) (c .before .before .before .before .before .before .loop .l) (omega (arith, c .before .before .before .before .before .before .before .before .before .before .before .before .before .before .steps-test .taken, ap (λ (m : lengths.PlanSizes). m .steps) (c .before .before .before .before .before .before .before .before .before .before .before .before .before .before .before .before .before .before .before .before .before .before .before .before .before .before .of2 .ensures))) (omega (arith, c .before .before .before .before .before .loop-test .taken, ap (λ (m : counts.Network). m .links) (c .before .before .before .before .before .before .before .before .before .before .before .before .before .before .before .before .before .before .before .before .before .before .before .before .before .before .before .of .ensures))) _ _ _ (rw (ap (λ (m : lengths.PlanSizes). m .parts) (c .before .before .before .before .before .before .before .before .before .before .before .before .before .before .before .before .before .before .before .before .before .before .before .before .before .before .of2 .ensures)) at (c .before .before .before .before .before .before .before .before .before .before .before .before .before .before .before .before .before .before .links .ensures .0)) (rw (ap (λ (m : lengths.PlanSizes). m .parts) (c .before .before .before .before .before .before .before .before .before .before .before .before .before .before .before .before .before .before .before .before .before .before .before .before .before .before .of2 .ensures)) at (c .before .before .before .before .before .before .before .before .before .before .before .before .before .before .before .before .before .before .links .ensures .1)) (c .before .before .before .before .before .before .before .before .before .block-loads .ensures .1) in
+    let o = over-some (networkOf (c .before .before .before .before .before .before .before .before .before .before .before .before .before .before .before .before .before .before .before .before .before .before .before .before .before .before .before .before .before .before .args .network .now)) (planOf (c .before .before .before .before .before .before .before .before .before .before .before .before .before .before .before .before .before .before .before .before .before .before .before .before .before .before .before .before .before .before .args .plan .now)) (c .before .before .before .before .before .before .before .before .before .before .before .before .before .before .before .steps .i) (c .before .before .before .before .before .before .loop .l) (λ z. c .if1 .taken (number ∙ z)) in
+    ap (λ (n : ℕ). At n (c .before .before .before .before .before .before .before .before .before .before .before .before .before .before .before .steps .i) (c .before .before .before .before .before .before .loop .l)) number
+    ∙ sym (o .2)
+    ∙ ap foundOf (sym (scan-at _ _ (worstOver (networkOf (c .before .before .before .before .before .before .before .before .before .before .before .before .before .before .before .before .before .before .before .before .before .before .before .before .before .before .before .before .before .before .args .network .now)) (planOf (c .before .before .before .before .before .before .before .before .before .before .before .before .before .before .before .before .before .before .before .before .before .before .before .before .before .before .before .before .before .before .args .plan .now))) (c .before .before .before .before .before .before .before .before .before .before .before .before .before .before .before .steps .i) (c .before .before .before .before .before .before .loop .l) (o .0) (c .before .before .before .before .before .before .before .before .before .before .before .before .before .before .before .steps .inv .4) (c .before .before .before .before .before .before .loop .inv .2) (o .1) (omega (arith, c .before .before .before .before .before .before .before .before .before .before .before .before .before .before .steps-test .taken, ap (λ (m : lengths.PlanSizes). m .steps) (c .before .before .before .before .before .before .before .before .before .before .before .before .before .before .before .before .before .before .before .before .before .before .before .before .before .before .of2 .ensures))) (omega (arith, c .before .before .before .before .before .loop-test .taken, ap (λ (m : counts.Network). m .links) (c .before .before .before .before .before .before .before .before .before .before .before .before .before .before .before .before .before .before .before .before .before .before .before .before .before .before .before .of .ensures)))))
+
+pub first-overload-spec : {M : Type 1} → statement M
+first-overload-spec =
+    tie.close
+    (tie.spec
+    Inv-loop
+    μ-loop
+    Inv-steps
+    μ-steps
+    of-requires
+    of-requires-2
+    slice-aggregate-tunnels
+    slice-aggregate-tunnels-2
+    tunnels-requires
+    slice-aggregate-links
+    slice-aggregate-links-2
+    links-requires
+    steps-holds
+    slice-aggregate-block-loads
+    slice-aggregate-block-loads-2
+    slice-aggregate-block-loads-3
+    slice-aggregate-block-loads-4
+    block-loads-requires
+    loop-holds
+    slice-aggregate-over
+    slice-aggregate-over-2
+    slice-aggregate-over-3
+    over-requires
+    add-l
+    loop-less
+    loop-again
+    add-i
+    steps-less
+    steps-again
+    returns
+    returns-2)

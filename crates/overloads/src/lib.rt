@@ -1,0 +1,4 @@
+// The first overload of a plan, found step by step and link by link. Inner functions of the checker.
+mod columns;
+pub mod rows;
+pub mod steps;

@@ -1,0 +1,77 @@
+// The amounts in the rows of a plan, and the worst amounts in its steps.
+ghost use mathlib.Core.Path.{_≡_};
+ghost use Prim.Native.Nat.{suc, _<_, max};
+ghost use lib.ListN.{length};
+ghost use Rattle.model.specs.Net;
+ghost use Rattle.lists.specs.Lists.{networkSizes, networkOf, planSizes, planOf};
+ghost use Rattle.loads.specs.Claim.{worstAmount};
+ghost use Rattle.loads.specs.Tables.{blockSteps, amountsSize};
+ghost use Rattle.overloads.specs.Inner.{Checkable};
+ghost use Rattle.overloads.specs.Blocks.{Placed, AmountTable, WorstAmounts};
+use lists::Network;
+use lists::PlanSizes;
+use loads::gather;
+use loads::gather::STEPS;
+
+fn larger(x: u64, y: u64) -> u64
+    ensures { λ r. ⌜ r ≡ max x y ⌝ }
+{
+    if x < y { y } else { x }
+}
+
+// The amount of tunnel t before the step from row i: the first row is the network's, in parts.
+pub fn before(network: &[u64], plan: &[u64], i: usize, t: usize) -> u64
+    requires { ⌜ Checkable (now network) (now plan) × (i < planSizes (now plan) .steps) × (t < networkSizes (now network) .tunnels) ⌝ }
+    ensures { λ r. ⌜ r ≡ Net.row (networkOf (now (network .entry))) (planOf (now (plan .entry))) i t ⌝ }
+{
+    let sizes = PlanSizes::of(plan);
+    if i == 0 {
+        let at = Network::of(network).tunnel_at(t);
+        return sizes.parts * network[at + Network::OLD];
+    }
+    plan[sizes.row_at(i) + t]
+}
+
+// And after it: the last row is the network's, in parts.
+pub fn after(network: &[u64], plan: &[u64], i: usize, t: usize) -> u64
+    requires { ⌜ Checkable (now network) (now plan) × (i < planSizes (now plan) .steps) × (t < networkSizes (now network) .tunnels) ⌝ }
+    ensures { λ r. ⌜ r ≡ Net.row (networkOf (now (network .entry))) (planOf (now (plan .entry))) (suc i) t ⌝ }
+{
+    let sizes = PlanSizes::of(plan);
+    if i + 1 == sizes.steps {
+        let at = Network::of(network).tunnel_at(t);
+        return sizes.parts * network[at + Network::NEW];
+    }
+    plan[sizes.row_at(i + 1) + t]
+}
+
+// Puts the worst amounts in the step from row i at step k of a block.
+fn place(network: &[u64], plan: &[u64], i: usize, k: usize, amounts: &mut [u64])
+    requires { ⌜ Checkable (now network) (now plan) × (i < planSizes (now plan) .steps) × (k < blockSteps) × (length (now amounts) ≡ amountsSize) ⌝ }
+    ensures { λ _. ⌜ Placed (worstAmount (networkOf (now (network .entry))) (planOf (now (plan .entry))) i) (networkSizes (now (network .entry)) .tunnels) k (now (amounts .entry)) (now (amounts .exit)) ⌝ }
+{
+    let n = Network::of(network).tunnels;
+    let mut t = 0;
+    while t < n {
+        let earlier = before(network, plan, i, t);
+        let later = after(network, plan, i, t);
+        amounts[gather::amount_at(t, k)] = larger(earlier, later);
+        t += 1;
+    }
+}
+
+// The worst amounts in the steps from row i on, as many as a block has.
+pub(crate) fn worst_amounts(network: &[u64], plan: &[u64], i: usize, amounts: &mut [u64])
+    requires { ⌜ Checkable (now network) (now plan) × (i < planSizes (now plan) .steps) × AmountTable (now network) (now amounts) ⌝ }
+    ensures { λ _. ⌜ WorstAmounts (now (network .entry)) (now (plan .entry)) i blockSteps (now (amounts .exit)) ⌝ }
+{
+    let steps = PlanSizes::of(plan).steps;
+    let mut k = 0;
+    while k < STEPS {
+        if steps <= i + k {
+            return;
+        }
+        place(network, plan, i + k, k, amounts);
+        k += 1;
+    }
+}
