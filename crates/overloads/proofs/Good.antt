@@ -57,15 +57,12 @@ module _ (l p : List ℕ) (k : Checkable l p) where
 
   -- the others are listed
   module _ (a t start : ℕ) (some : 0 < a) (inner : a < planSizes p .steps) (ht : t < networkSizes l .tunnels) (e : start ≡ rowAt (planSizes p) a) where
-    pub listed-amount : at p (start + t) ≡ row (networkOf l) (planOf p) a t
+    inside : start + t < length p
+    inside = omega (arith, e, row-in p (k .plan) a some inner, k .tunnels)
+
+    pub listed-amount : (at p (start + t) ≡ row (networkOf l) (planOf p) a t) × (start + t < length p) × (start + t < mostPlan)
     unfolding planOf
-    listed-amount = rw e (sym (row-between (networkOf l) (planOf p) a t some inner))
-
-    pub listed-in : start + t < length p
-    listed-in = omega (arith, e, row-in p (k .plan) a some inner, k .tunnels)
-
-    pub listed-few : start + t < mostPlan
-    listed-few = omega (arith, listed-in, short-plan p (k .plan))
+    listed-amount = (rw e (sym (row-between (networkOf l) (planOf p) a t some inner)), inside, omega (arith, inside, short-plan p (k .plan)))
 
   -- no amount is over the largest, in as many parts as there can be
   pub row-small : (a t : ℕ) → a ≤ planSizes p .steps → t < networkSizes l .tunnels → row (networkOf l) (planOf p) a t ≤ mostAmount * mostSteps

@@ -5,7 +5,7 @@ use mathlib.Core.List.{_++_}
 use lib.ListN.{length, drop, length-set}
 use Rattle.lists.specs.Lists.{networkOf, planOf}
 use Rattle.lists.specs.declared.Network as counts
-use Rattle.lists.proofs.Positions.{tunnel-place, limited, head-in}
+use Rattle.lists.proofs.Positions.{TunnelPlace, tunnel-place, limited, head-in}
 use Rattle.model.proofs.Listed.{listed-none, listed-on, listed-to}
 use Rattle.checker.specs.Inner.{marksAt}
 use Rattle.overloads.proofs.Good.{via-here}
@@ -21,6 +21,9 @@ Inv-loop network plan i l marks₀ sizes t₀ marks t = (t ≤ sizes .tunnels) �
 abbrev μ-loop : tie.MeasureT-loop
 μ-loop network plan i l marks₀ sizes t₀ marks t = sizes .tunnels - t
 
+place : (c : tie.After-tunnel-at Inv-loop μ-loop) → TunnelPlace (c .before .before .before .before .before .before .before .before .args .network .now) (c .before .before .before .loop .t) (c .tunnel-at .result)
+place c = tunnel-place _ (c .before .before .before .before .before .before .before .before .pre .0 .network .ranges .sized) _ (c .before .before .before .before .of .ensures) _ _ (c .before .if1 .taken) (c .tunnel-at .ensures)
+
 of-requires : tie.Need-of-requires Inv-loop μ-loop
 of-requires c κs = head-in _ (c .before .before .before .pre .0 .network .ranges .sized .size)
 
@@ -31,25 +34,25 @@ tunnel-at-requires : tie.Need-tunnel-at-requires Inv-loop μ-loop
 tunnel-at-requires c κs = (limited _ (c .before .before .before .before .before .before .before .pre .0 .network .ranges .sized) _ (c .before .before .before .of .ensures), omega (arith, c .if1 .taken))
 
 add-via : tie.Need-add-via Inv-loop μ-loop
-add-via c = let p = tunnel-place _ (c .before .before .before .before .before .before .before .before .pre .0 .network .ranges .sized) _ (c .before .before .before .before .of .ensures) _ _ (c .before .if1 .taken) (c .tunnel-at .ensures) in record { fits = omega (arith, p .few) }
+add-via c = record { fits = omega (arith, place c .few) }
 
 mul-via : tie.Need-mul-via Inv-loop μ-loop
-mul-via c = let p = tunnel-place _ (c .before .before .before .before .before .before .before .before .pre .0 .network .ranges .sized) _ (c .before .before .before .before .of .ensures) _ _ (c .before .if1 .taken) (c .tunnel-at .ensures) in record { fits = omega (arith, p .few) }
+mul-via c = record { fits = omega (arith, place c .few) }
 
 shared-slice-read-via : tie.Need-shared-slice-read-via Inv-loop μ-loop
-shared-slice-read-via c = let p = tunnel-place _ (c .before .before .before .before .before .before .before .before .before .pre .0 .network .ranges .sized) _ (c .before .before .before .before .before .of .ensures) _ _ (c .before .before .if1 .taken) (c .before .tunnel-at .ensures) in omega (arith, p .within)
+shared-slice-read-via c = omega (arith, place (c .before) .within)
 
 before-requires : tie.Need-before-requires Inv-loop μ-loop
-before-requires c κs = let p = tunnel-place _ (c .before .before .before .before .before .before .before .before .before .pre .0 .network .ranges .sized) _ (c .before .before .before .before .before .of .ensures) _ _ (c .before .before .if1 .taken) (c .before .tunnel-at .ensures) in (c .before .before .before .before .before .before .before .before .before .pre .0, c .before .before .before .before .before .before .before .before .before .pre .1, p .there)
+before-requires c κs = (c .before .before .before .before .before .before .before .before .before .pre .0, c .before .before .before .before .before .before .before .before .before .pre .1, place (c .before) .there)
 
 after-requires : tie.Need-after-requires Inv-loop μ-loop
-after-requires c κs = let p = tunnel-place _ (c .before .before .before .before .before .before .before .before .before .before .pre .0 .network .ranges .sized) _ (c .before .before .before .before .before .before .of .ensures) _ _ (c .before .before .before .if1 .taken) (c .before .before .tunnel-at .ensures) in (c .before .before .before .before .before .before .before .before .before .before .pre .0, c .before .before .before .before .before .before .before .before .before .before .pre .1, p .there)
+after-requires c κs = (c .before .before .before .before .before .before .before .before .before .before .pre .0, c .before .before .before .before .before .before .before .before .before .before .pre .1, place (c .before .before) .there)
 
 rises-requires : tie.Need-rises-requires Inv-loop μ-loop
 rises-requires c κs = omega (arith, c .before .before .before .before .before .before .before .before .before .before .before .pre .2, c .before .before .before .before .before .before .before .before .before .before .before .pre .0 .network .ranges .sized .counts)
 
 slice-write-marks : tie.Need-slice-write-marks Inv-loop μ-loop
-slice-write-marks c = let p = tunnel-place _ (c .before .before .before .before .before .before .before .before .before .before .before .before .pre .0 .network .ranges .sized) _ (c .before .before .before .before .before .before .before .before .of .ensures) _ _ (c .before .before .before .before .before .if1 .taken) (c .before .before .before .before .tunnel-at .ensures) in omega (arith, c .before .before .before .before .before .before .before .loop .inv .1, p .there, c .before .before .before .before .before .before .before .before .before .before .before .before .pre .3)
+slice-write-marks c = let p = place (c .before .before .before .before) in omega (arith, c .before .before .before .before .before .before .before .loop .inv .1, p .there, c .before .before .before .before .before .before .before .before .before .before .before .before .pre .3)
 
 add-t : tie.Need-add-t Inv-loop μ-loop
 add-t c = search needs
@@ -58,7 +61,7 @@ loop-less : tie.Need-loop-less Inv-loop μ-loop
 loop-less c = search needs
 
 loop-again : tie.Need-loop-again Inv-loop μ-loop
-loop-again c = let p = tunnel-place _ (c .before .before .before .before .before .before .before .before .before .before .before .before .pre .0 .network .ranges .sized) _ (c .before .before .before .before .before .before .before .before .of .ensures) _ _ (c .before .before .before .before .before .if1 .taken) (c .before .before .before .before .tunnel-at .ensures) in
+loop-again c = let p = place (c .before .before .before .before) in
     let m = mark-of (networkOf (c .before .before .before .before .before .before .before .before .before .before .before .before .args .network .now)) (planOf (c .before .before .before .before .before .before .before .before .before .before .before .before .args .plan .now)) (c .before .before .before .before .before .before .before .before .before .before .before .before .args .i) (c .before .before .before .before .before .before .before .before .before .before .before .before .args .l) (c .before .before .before .before .before .before .before .loop .t) _ _ _ _ (via-here _ (c .before .before .before .before .before .before .before .before .before .before .before .before .pre .0 .network) _ _ p) (c .before .before .before2 .ensures) (c .before .after .ensures) (c .rises .ensures) in
     (omega (arith, c .before .before .before .before .before .if1 .taken), simp length-set (c .before .before .before .before .before .before .before .loop .inv .1), listed-on _ _ _ _ _ (c .before .before .before .before .before .before .before .loop .inv .2) (omega (arith, p .there, c .before .before .before .before .before .before .before .before .before .before .before .before .pre .3)) m)
 

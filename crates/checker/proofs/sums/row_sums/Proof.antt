@@ -7,7 +7,7 @@ use Rattle.model.specs.Limits.{mostSteps, mostAmount}
 use Rattle.model.specs.Net.{row}
 use Rattle.lists.specs.Lists.{networkOf, planOf}
 use Rattle.lists.specs.declared.Network as counts
-use Rattle.lists.proofs.Positions.{tunnel-place, limited, head-in}
+use Rattle.lists.proofs.Positions.{TunnelPlace, tunnel-place, limited, head-in}
 use Rattle.judges.specs.Sums.{Gathered}
 use Rattle.judges.proofs.Gathering.{gathered-none, gathered-more, gathered-fits}
 use Rattle.checker.proofs.Totals.{gathered-at}
@@ -23,6 +23,9 @@ Inv-loop network plan i sums₀ sizes t₀ sums t = record { low : t ≤ sizes .
 abbrev μ-loop : tie.MeasureT-loop
 μ-loop network plan i sums₀ sizes t₀ sums t = sizes .tunnels - t
 
+place : (c : tie.After-tunnel-at Inv-loop μ-loop) → TunnelPlace (c .before .before .before .before .before .before .before .before .args .network .now) (c .before .before .before .loop .t) (c .tunnel-at .result)
+place c = tunnel-place _ (c .before .before .before .before .before .before .before .before .pre .0 .network .ranges .sized) _ (c .before .before .before .before .of .ensures) _ _ (c .before .if1 .taken) (c .tunnel-at .ensures)
+
 of-requires : tie.Need-of-requires Inv-loop μ-loop
 of-requires c κs = head-in _ (c .before .before .before .pre .0 .network .ranges .sized .size)
 
@@ -33,26 +36,26 @@ tunnel-at-requires : tie.Need-tunnel-at-requires Inv-loop μ-loop
 tunnel-at-requires c κs = (limited _ (c .before .before .before .before .before .before .before .pre .0 .network .ranges .sized) _ (c .before .before .before .of .ensures), omega (arith, c .if1 .taken))
 
 mul-flow : tie.Need-mul-flow Inv-loop μ-loop
-mul-flow c = let p = tunnel-place _ (c .before .before .before .before .before .before .before .before .pre .0 .network .ranges .sized) _ (c .before .before .before .before .of .ensures) _ _ (c .before .if1 .taken) (c .tunnel-at .ensures) in record { fits = omega (arith, p .few) }
+mul-flow c = record { fits = omega (arith, place c .few) }
 
 shared-slice-read-flow : tie.Need-shared-slice-read-flow Inv-loop μ-loop
-shared-slice-read-flow c = let p = tunnel-place _ (c .before .before .before .before .before .before .before .before .before .pre .0 .network .ranges .sized) _ (c .before .before .before .before .before .of .ensures) _ _ (c .before .before .if1 .taken) (c .before .tunnel-at .ensures) in omega (arith, p .within)
+shared-slice-read-flow c = omega (arith, place (c .before) .within)
 
 after-requires : tie.Need-after-requires Inv-loop μ-loop
-after-requires c κs = let p = tunnel-place _ (c .before .before .before .before .before .before .before .before .before .pre .0 .network .ranges .sized) _ (c .before .before .before .before .before .of .ensures) _ _ (c .before .before .if1 .taken) (c .before .tunnel-at .ensures) in (c .before .before .before .before .before .before .before .before .before .pre .0, c .before .before .before .before .before .before .before .before .before .pre .1, p .there)
+after-requires c κs = (c .before .before .before .before .before .before .before .before .before .pre .0, c .before .before .before .before .before .before .before .before .before .pre .1, place (c .before) .there)
 
 mul-sums : tie.Need-mul-sums Inv-loop μ-loop
-mul-sums c = let p = tunnel-place _ (c .before .before .before .before .before .before .before .before .before .before .pre .0 .network .ranges .sized) _ (c .before .before .before .before .before .before .of .ensures) _ _ (c .before .before .before .if1 .taken) (c .before .before .tunnel-at .ensures) in record { fits = omega (arith, flow-low _ (c .before .before .before .before .before .before .before .before .before .before .pre .0 .network) _ _ p, c .before .before .before .before .before .before .before .before .before .before .pre .0 .network .ranges .sized .counts) }
+mul-sums c = let p = place (c .before .before) in record { fits = omega (arith, flow-low _ (c .before .before .before .before .before .before .before .before .before .before .pre .0 .network) _ _ p, c .before .before .before .before .before .before .before .before .before .before .pre .0 .network .ranges .sized .counts) }
 
 slice-read-sums : tie.Need-slice-read-sums Inv-loop μ-loop
-slice-read-sums c = let p = tunnel-place _ (c .before .before .before .before .before .before .before .before .before .before .before .pre .0 .network .ranges .sized) _ (c .before .before .before .before .before .before .before .of .ensures) _ _ (c .before .before .before .before .if1 .taken) (c .before .before .before .tunnel-at .ensures) in omega (arith, c .before .before .before .before .before .before .loop .inv .gathered .size, flow-low _ (c .before .before .before .before .before .before .before .before .before .before .before .pre .0 .network) _ _ p, c .before .before .before .before .before .before .before .before .before .before .before .pre .0 .network .ranges .sized .counts)
+slice-read-sums c = let p = place (c .before .before .before) in omega (arith, c .before .before .before .before .before .before .loop .inv .gathered .size, flow-low _ (c .before .before .before .before .before .before .before .before .before .before .before .pre .0 .network) _ _ p, c .before .before .before .before .before .before .before .before .before .before .before .pre .0 .network .ranges .sized .counts)
 
 add-sums : tie.Need-add-sums Inv-loop μ-loop
-add-sums c = let p = tunnel-place _ (c .before .before .before .before .before .before .before .before .before .before .before .pre .0 .network .ranges .sized) _ (c .before .before .before .before .before .before .before .of .ensures) _ _ (c .before .before .before .before .if1 .taken) (c .before .before .before .tunnel-at .ensures) in
+add-sums c = let p = place (c .before .before .before) in
     record { fits = rw (flow-here _ (c .before .before .before .before .before .before .before .before .before .before .before .pre .0 .network) _ _ p, c .before .after .ensures) (gathered-fits (networkOf (c .before .before .before .before .before .before .before .before .before .before .before .args .network .now)) _ (mostAmount * mostSteps) (c .before .before .before .before .before .before .loop .t) _ _ (omega arith) (c .before .before .before .before .before .before .loop .inv .gathered) (lt-of-lt-of-le (rw (← flow-here _ (c .before .before .before .before .before .before .before .before .before .before .before .pre .0 .network) _ _ p) (flow-low _ (c .before .before .before .before .before .before .before .before .before .before .before .pre .0 .network) _ _ p)) (c .before .before .before .before .before .before .before .before .before .before .before .pre .0 .network .ranges .sized .counts .flows)) (omega (arith, p .there, c .before .before .before .before .before .before .before .before .before .before .before .pre .0 .network .ranges .sized .counts)) (λ u h. row-small _ _ (c .before .before .before .before .before .before .before .before .before .before .before .pre .0) _ u (c .before .before .before .before .before .before .before .before .before .before .before .pre .1) (omega (arith, p .there)))) }
 
 slice-write-sums : tie.Need-slice-write-sums Inv-loop μ-loop
-slice-write-sums c = let p = tunnel-place _ (c .before .before .before .before .before .before .before .before .before .before .before .pre .0 .network .ranges .sized) _ (c .before .before .before .before .before .before .before .of .ensures) _ _ (c .before .before .before .before .if1 .taken) (c .before .before .before .tunnel-at .ensures) in omega (arith, c .before .before .before .before .before .before .loop .inv .gathered .size, flow-low _ (c .before .before .before .before .before .before .before .before .before .before .before .pre .0 .network) _ _ p, c .before .before .before .before .before .before .before .before .before .before .before .pre .0 .network .ranges .sized .counts)
+slice-write-sums c = let p = place (c .before .before .before) in omega (arith, c .before .before .before .before .before .before .loop .inv .gathered .size, flow-low _ (c .before .before .before .before .before .before .before .before .before .before .before .pre .0 .network) _ _ p, c .before .before .before .before .before .before .before .before .before .before .before .pre .0 .network .ranges .sized .counts)
 
 add-t : tie.Need-add-t Inv-loop μ-loop
 add-t c = search needs
@@ -61,7 +64,7 @@ loop-less : tie.Need-loop-less Inv-loop μ-loop
 loop-less c = search needs
 
 loop-again : tie.Need-loop-again Inv-loop μ-loop
-loop-again c = let p = tunnel-place _ (c .before .before .before .before .before .before .before .before .before .before .before .pre .0 .network .ranges .sized) _ (c .before .before .before .before .before .before .before .of .ensures) _ _ (c .before .before .before .before .if1 .taken) (c .before .before .before .tunnel-at .ensures) in
+loop-again c = let p = place (c .before .before .before) in
     record {
       low = omega (arith, c .before .before .before .before .if1 .taken);
       gathered = rw (flow-here _ (c .before .before .before .before .before .before .before .before .before .before .before .pre .0 .network) _ _ p, c .before .after .ensures) (gathered-more (networkOf (c .before .before .before .before .before .before .before .before .before .before .before .args .network .now)) _ (c .before .before .before .before .before .before .loop .t) _ (lt-of-lt-of-le (rw (← flow-here _ (c .before .before .before .before .before .before .before .before .before .before .before .pre .0 .network) _ _ p) (flow-low _ (c .before .before .before .before .before .before .before .before .before .before .before .pre .0 .network) _ _ p)) (c .before .before .before .before .before .before .before .before .before .before .before .pre .0 .network .ranges .sized .counts .flows)) (c .before .before .before .before .before .before .loop .inv .gathered));

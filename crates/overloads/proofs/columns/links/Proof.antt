@@ -4,7 +4,7 @@ use mathlib.Core.Path.{_≡_, refl, ap}
 use lib.ListN.{length, length-set}
 use Rattle.lists.specs.Lists.{networkSizes, networkOf}
 use Rattle.lists.specs.declared.Network as counts
-use Rattle.lists.proofs.Positions.{link-place, limited, head-in, head-size}
+use Rattle.lists.proofs.Positions.{LinkPlace, link-place, limited, head-in, head-size}
 use Rattle.overloads.specs.Columns.{Holds, capacity, raised}
 use Rattle.overloads.proofs.Good.{times-fits, capacity-here, raised-here, capacity-fits, raised-fits}
 use Rattle.overloads.proofs.Laws.{holds-none, holds-more, holds-at}
@@ -24,6 +24,9 @@ Inv-loop network parts capacities₀ all₀ sizes times l₀ capacities all l = 
 abbrev μ-loop : tie.MeasureT-loop
 μ-loop network parts capacities₀ all₀ sizes times l₀ capacities all l = sizes .links - l
 
+place : (c : tie.After-link-at Inv-loop μ-loop) → LinkPlace (c .before .before .before .before .before .before .before .before .before .args .network .now) (c .before .before .before .loop .l) (c .link-at .result)
+place c = link-place _ (c .before .before .before .before .before .before .before .before .before .pre .0 .ranges .sized) _ (c .before .before .before .before .before .of .ensures) _ _ (c .before .if1 .taken) (c .link-at .ensures)
+
 of-requires : tie.Need-of-requires Inv-loop μ-loop
 of-requires c κs = head-in _ (c .before .before .before .pre .0 .ranges .sized .size)
 
@@ -40,28 +43,28 @@ link-at-requires : tie.Need-link-at-requires Inv-loop μ-loop
 link-at-requires c κs = (limited _ (c .before .before .before .before .before .before .before .before .pre .0 .ranges .sized) _ (c .before .before .before .before .of .ensures), omega (arith, c .if1 .taken))
 
 mul-capacity : tie.Need-mul-capacity Inv-loop μ-loop
-mul-capacity c = let p = link-place _ (c .before .before .before .before .before .before .before .before .before .pre .0 .ranges .sized) _ (c .before .before .before .before .before .of .ensures) _ _ (c .before .if1 .taken) (c .link-at .ensures) in record { fits = omega (arith, p .few) }
+mul-capacity c = record { fits = omega (arith, place c .few) }
 
 shared-slice-read-capacity : tie.Need-shared-slice-read-capacity Inv-loop μ-loop
-shared-slice-read-capacity c = let p = link-place _ (c .before .before .before .before .before .before .before .before .before .before .pre .0 .ranges .sized) _ (c .before .before .before .before .before .before .of .ensures) _ _ (c .before .before .if1 .taken) (c .before .link-at .ensures) in omega (arith, p .within)
+shared-slice-read-capacity c = omega (arith, place (c .before) .within)
 
 mul-capacity-2 : tie.Need-mul-capacity-2 Inv-loop μ-loop
-mul-capacity-2 c = let p = link-place _ (c .before .before .before .before .before .before .before .before .before .before .pre .0 .ranges .sized) _ (c .before .before .before .before .before .before .of .ensures) _ _ (c .before .before .if1 .taken) (c .before .link-at .ensures) in record { fits = capacity-fits _ (c .before .before .before .before .before .before .before .before .before .before .pre .0) _ _ _ p (c .before .before .before .before .before .before .before .before .before .before .pre .1) }
+mul-capacity-2 c = let p = place (c .before) in record { fits = capacity-fits _ (c .before .before .before .before .before .before .before .before .before .before .pre .0) _ _ _ p (c .before .before .before .before .before .before .before .before .before .before .pre .1) }
 
 mul-capacities : tie.Need-mul-capacities Inv-loop μ-loop
-mul-capacities c = let p = link-place _ (c .before .before .before .before .before .before .before .before .before .before .pre .0 .ranges .sized) _ (c .before .before .before .before .before .before .of .ensures) _ _ (c .before .before .if1 .taken) (c .before .link-at .ensures) in record { fits = omega (arith, p .there, c .before .before .before .before .before .before .before .before .before .before .pre .0 .ranges .sized .counts) }
+mul-capacities c = let p = place (c .before) in record { fits = omega (arith, p .there, c .before .before .before .before .before .before .before .before .before .before .pre .0 .ranges .sized .counts) }
 
 slice-write-capacities : tie.Need-slice-write-capacities Inv-loop μ-loop
-slice-write-capacities c = let p = link-place _ (c .before .before .before .before .before .before .before .before .before .before .pre .0 .ranges .sized) _ (c .before .before .before .before .before .before .of .ensures) _ _ (c .before .before .if1 .taken) (c .before .link-at .ensures) in omega (arith, c .before .before .before .before .loop .inv .size, p .there, c .before .before .before .before .before .before .before .before .before .before .pre .0 .ranges .sized .counts, c .before .before .before .before .before .before .before .before .before .before .pre .2)
+slice-write-capacities c = let p = place (c .before) in omega (arith, c .before .before .before .before .loop .inv .size, p .there, c .before .before .before .before .before .before .before .before .before .before .pre .0 .ranges .sized .counts, c .before .before .before .before .before .before .before .before .before .before .pre .2)
 
 mul-all : tie.Need-mul-all Inv-loop μ-loop
-mul-all c = let p = link-place _ (c .before .before .before .before .before .before .before .before .before .before .pre .0 .ranges .sized) _ (c .before .before .before .before .before .before .of .ensures) _ _ (c .before .before .if1 .taken) (c .before .link-at .ensures) in record { fits = raised-fits _ (c .before .before .before .before .before .before .before .before .before .before .pre .0) _ _ _ p (c .before .before .before .before .before .before .before .before .before .before .pre .1) }
+mul-all c = let p = place (c .before) in record { fits = raised-fits _ (c .before .before .before .before .before .before .before .before .before .before .pre .0) _ _ _ p (c .before .before .before .before .before .before .before .before .before .before .pre .1) }
 
 mul-all-2 : tie.Need-mul-all-2 Inv-loop μ-loop
-mul-all-2 c = let p = link-place _ (c .before .before .before .before .before .before .before .before .before .before .pre .0 .ranges .sized) _ (c .before .before .before .before .before .before .of .ensures) _ _ (c .before .before .if1 .taken) (c .before .link-at .ensures) in record { fits = omega (arith, p .there, c .before .before .before .before .before .before .before .before .before .before .pre .0 .ranges .sized .counts) }
+mul-all-2 c = let p = place (c .before) in record { fits = omega (arith, p .there, c .before .before .before .before .before .before .before .before .before .before .pre .0 .ranges .sized .counts) }
 
 slice-write-all : tie.Need-slice-write-all Inv-loop μ-loop
-slice-write-all c = let p = link-place _ (c .before .before .before .before .before .before .before .before .before .before .pre .0 .ranges .sized) _ (c .before .before .before .before .before .before .of .ensures) _ _ (c .before .before .if1 .taken) (c .before .link-at .ensures) in omega (arith, c .before .before .before .before .loop .inv .size, p .there, c .before .before .before .before .before .before .before .before .before .before .pre .0 .ranges .sized .counts, c .before .before .before .before .before .before .before .before .before .before .pre .3)
+slice-write-all c = let p = place (c .before) in omega (arith, c .before .before .before .before .loop .inv .size, p .there, c .before .before .before .before .before .before .before .before .before .before .pre .0 .ranges .sized .counts, c .before .before .before .before .before .before .before .before .before .before .pre .3)
 
 add-l : tie.Need-add-l Inv-loop μ-loop
 add-l c = search needs
@@ -70,7 +73,7 @@ loop-less : tie.Need-loop-less Inv-loop μ-loop
 loop-less c = search needs
 
 loop-again : tie.Need-loop-again Inv-loop μ-loop
-loop-again c = let p = link-place _ (c .before .before .before .before .before .before .before .before .before .before .pre .0 .ranges .sized) _ (c .before .before .before .before .before .before .of .ensures) _ _ (c .before .before .if1 .taken) (c .before .link-at .ensures) in
+loop-again c = let p = place (c .before) in
     record {
       low = omega (arith, c .before .before .if1 .taken);
       size = (simp length-set (c .before .before .before .before .loop .inv .size .0), simp length-set (c .before .before .before .before .loop .inv .size .1));

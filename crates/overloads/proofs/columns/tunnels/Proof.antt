@@ -2,9 +2,9 @@
 use Prim.Native.Nat.{_≤_, _-_}
 use mathlib.Core.Path.{_≡_, refl, ap}
 use lib.ListN.{length, length-set}
-use Rattle.lists.specs.Lists.{networkOf}
+use Rattle.lists.specs.Lists.{networkOf, at}
 use Rattle.lists.specs.declared.Network as counts
-use Rattle.lists.proofs.Positions.{tunnel-place, flow-place, limited, head-in}
+use Rattle.lists.proofs.Positions.{TunnelPlace, tunnel-place, flow-place, limited, head-in, FlowPlace}
 use Rattle.overloads.specs.Columns.{Holds, classOf}
 use Rattle.overloads.proofs.Good.{flow-low, via-here, class-here}
 use Rattle.overloads.proofs.Laws.{holds-none, holds-more, holds-at}
@@ -24,6 +24,13 @@ Inv-loop network vias₀ classes₀ sizes t₀ vias classes t = record {
 abbrev μ-loop : tie.MeasureT-loop
 μ-loop network vias₀ classes₀ sizes t₀ vias classes t = sizes .tunnels - t
 
+place : (c : tie.After-tunnel-at Inv-loop μ-loop) → TunnelPlace (c .before .before .before .before .before .before .before .before .args .network .now) (c .before .before .before .loop .t) (c .tunnel-at .result)
+place c = tunnel-place _ (c .before .before .before .before .before .before .before .before .pre .0 .ranges .sized) _ (c .before .before .before .before .of .ensures) _ _ (c .before .if1 .taken) (c .tunnel-at .ensures)
+
+-- and its flow's
+flow : (c : tie.After-flow-at Inv-loop μ-loop) → FlowPlace (c .before .before .before .before .before .before .before .before .before .before .before .args .network .now) (at (c .before .before .before .before .before .before .before .before .before .before .before .args .network .now) (c .before .before .before .tunnel-at .result)) (c .flow-at .result)
+flow c = flow-place _ (c .before .before .before .before .before .before .before .before .before .before .before .pre .0 .ranges .sized) _ (c .before .before .before .before .before .before .before .of .ensures) _ _ (omega (arith, flow-low _ (c .before .before .before .before .before .before .before .before .before .before .before .pre .0) _ _ (place (c .before .before .before)), ap (λ (n : counts.Network). n .flows) (c .before .before .before .before .before .before .before .of .ensures))) (c .flow-at .ensures)
+
 of-requires : tie.Need-of-requires Inv-loop μ-loop
 of-requires c κs = head-in _ (c .before .before .before .pre .0 .ranges .sized .size)
 
@@ -34,42 +41,40 @@ tunnel-at-requires : tie.Need-tunnel-at-requires Inv-loop μ-loop
 tunnel-at-requires c κs = (limited _ (c .before .before .before .before .before .before .before .pre .0 .ranges .sized) _ (c .before .before .before .of .ensures), omega (arith, c .if1 .taken))
 
 add-vias : tie.Need-add-vias Inv-loop μ-loop
-add-vias c = let p = tunnel-place _ (c .before .before .before .before .before .before .before .before .pre .0 .ranges .sized) _ (c .before .before .before .before .of .ensures) _ _ (c .before .if1 .taken) (c .tunnel-at .ensures) in record { fits = omega (arith, p .few) }
+add-vias c = record { fits = omega (arith, place c .few) }
 
 mul-vias : tie.Need-mul-vias Inv-loop μ-loop
-mul-vias c = let p = tunnel-place _ (c .before .before .before .before .before .before .before .before .pre .0 .ranges .sized) _ (c .before .before .before .before .of .ensures) _ _ (c .before .if1 .taken) (c .tunnel-at .ensures) in record { fits = omega (arith, p .few) }
+mul-vias c = record { fits = omega (arith, place c .few) }
 
 shared-slice-read-vias : tie.Need-shared-slice-read-vias Inv-loop μ-loop
-shared-slice-read-vias c = let p = tunnel-place _ (c .before .before .before .before .before .before .before .before .before .pre .0 .ranges .sized) _ (c .before .before .before .before .before .of .ensures) _ _ (c .before .before .if1 .taken) (c .before .tunnel-at .ensures) in omega (arith, p .within)
+shared-slice-read-vias c = omega (arith, place (c .before) .within)
 
 mul-vias-2 : tie.Need-mul-vias-2 Inv-loop μ-loop
-mul-vias-2 c = let p = tunnel-place _ (c .before .before .before .before .before .before .before .before .before .pre .0 .ranges .sized) _ (c .before .before .before .before .before .of .ensures) _ _ (c .before .before .if1 .taken) (c .before .tunnel-at .ensures) in record { fits = omega (arith, p .there, c .before .before .before .before .before .before .before .before .before .pre .0 .ranges .sized .counts) }
+mul-vias-2 c = let p = place (c .before) in record { fits = omega (arith, p .there, c .before .before .before .before .before .before .before .before .before .pre .0 .ranges .sized .counts) }
 
 slice-write-vias : tie.Need-slice-write-vias Inv-loop μ-loop
-slice-write-vias c = let p = tunnel-place _ (c .before .before .before .before .before .before .before .before .before .pre .0 .ranges .sized) _ (c .before .before .before .before .before .of .ensures) _ _ (c .before .before .if1 .taken) (c .before .tunnel-at .ensures) in omega (arith, c .before .before .before .before .loop .inv .size, p .there, c .before .before .before .before .before .before .before .before .before .pre .0 .ranges .sized .counts, c .before .before .before .before .before .before .before .before .before .pre .1)
+slice-write-vias c = let p = place (c .before) in omega (arith, c .before .before .before .before .loop .inv .size, p .there, c .before .before .before .before .before .before .before .before .before .pre .0 .ranges .sized .counts, c .before .before .before .before .before .before .before .before .before .pre .1)
 
 mul-flow-at : tie.Need-mul-flow-at Inv-loop μ-loop
-mul-flow-at c = let p = tunnel-place _ (c .before .before .before .before .before .before .before .before .before .pre .0 .ranges .sized) _ (c .before .before .before .before .before .of .ensures) _ _ (c .before .before .if1 .taken) (c .before .tunnel-at .ensures) in record { fits = omega (arith, p .few) }
+mul-flow-at c = record { fits = omega (arith, place (c .before) .few) }
 
 shared-slice-read-flow-at : tie.Need-shared-slice-read-flow-at Inv-loop μ-loop
-shared-slice-read-flow-at c = let p = tunnel-place _ (c .before .before .before .before .before .before .before .before .before .before .pre .0 .ranges .sized) _ (c .before .before .before .before .before .before .of .ensures) _ _ (c .before .before .before .if1 .taken) (c .before .before .tunnel-at .ensures) in omega (arith, p .within)
+shared-slice-read-flow-at c = omega (arith, place (c .before .before) .within)
 
 flow-at-requires : tie.Need-flow-at-requires Inv-loop μ-loop
-flow-at-requires c κs = let p = tunnel-place _ (c .before .before .before .before .before .before .before .before .before .before .pre .0 .ranges .sized) _ (c .before .before .before .before .before .before .of .ensures) _ _ (c .before .before .before .if1 .taken) (c .before .before .tunnel-at .ensures) in (limited _ (c .before .before .before .before .before .before .before .before .before .before .pre .0 .ranges .sized) _ (c .before .before .before .before .before .before .of .ensures), omega (arith, flow-low _ (c .before .before .before .before .before .before .before .before .before .before .pre .0) _ _ p, ap (λ (n : counts.Network). n .flows) (c .before .before .before .before .before .before .of .ensures)))
+flow-at-requires c κs = let p = place (c .before .before) in (limited _ (c .before .before .before .before .before .before .before .before .before .before .pre .0 .ranges .sized) _ (c .before .before .before .before .before .before .of .ensures), omega (arith, flow-low _ (c .before .before .before .before .before .before .before .before .before .before .pre .0) _ _ p, ap (λ (n : counts.Network). n .flows) (c .before .before .before .before .before .before .of .ensures)))
 
 mul-classes : tie.Need-mul-classes Inv-loop μ-loop
-mul-classes c = let p = tunnel-place _ (c .before .before .before .before .before .before .before .before .before .before .before .pre .0 .ranges .sized) _ (c .before .before .before .before .before .before .before .of .ensures) _ _ (c .before .before .before .before .if1 .taken) (c .before .before .before .tunnel-at .ensures) in
-    let f = flow-place _ (c .before .before .before .before .before .before .before .before .before .before .before .pre .0 .ranges .sized) _ (c .before .before .before .before .before .before .before .of .ensures) _ _ (omega (arith, flow-low _ (c .before .before .before .before .before .before .before .before .before .before .before .pre .0) _ _ p, ap (λ (n : counts.Network). n .flows) (c .before .before .before .before .before .before .before .of .ensures))) (c .flow-at .ensures) in record { fits = omega (arith, f .few) }
+mul-classes c = record { fits = omega (arith, flow c .few) }
 
 shared-slice-read-classes : tie.Need-shared-slice-read-classes Inv-loop μ-loop
-shared-slice-read-classes c = let p = tunnel-place _ (c .before .before .before .before .before .before .before .before .before .before .before .before .pre .0 .ranges .sized) _ (c .before .before .before .before .before .before .before .before .of .ensures) _ _ (c .before .before .before .before .before .if1 .taken) (c .before .before .before .before .tunnel-at .ensures) in
-    let f = flow-place _ (c .before .before .before .before .before .before .before .before .before .before .before .before .pre .0 .ranges .sized) _ (c .before .before .before .before .before .before .before .before .of .ensures) _ _ (omega (arith, flow-low _ (c .before .before .before .before .before .before .before .before .before .before .before .before .pre .0) _ _ p, ap (λ (n : counts.Network). n .flows) (c .before .before .before .before .before .before .before .before .of .ensures))) (c .before .flow-at .ensures) in omega (arith, f .within)
+shared-slice-read-classes c = omega (arith, flow (c .before) .within)
 
 mul-classes-2 : tie.Need-mul-classes-2 Inv-loop μ-loop
-mul-classes-2 c = let p = tunnel-place _ (c .before .before .before .before .before .before .before .before .before .before .before .before .pre .0 .ranges .sized) _ (c .before .before .before .before .before .before .before .before .of .ensures) _ _ (c .before .before .before .before .before .if1 .taken) (c .before .before .before .before .tunnel-at .ensures) in record { fits = omega (arith, p .there, c .before .before .before .before .before .before .before .before .before .before .before .before .pre .0 .ranges .sized .counts) }
+mul-classes-2 c = let p = place (c .before .before .before .before) in record { fits = omega (arith, p .there, c .before .before .before .before .before .before .before .before .before .before .before .before .pre .0 .ranges .sized .counts) }
 
 slice-write-classes : tie.Need-slice-write-classes Inv-loop μ-loop
-slice-write-classes c = let p = tunnel-place _ (c .before .before .before .before .before .before .before .before .before .before .before .before .pre .0 .ranges .sized) _ (c .before .before .before .before .before .before .before .before .of .ensures) _ _ (c .before .before .before .before .before .if1 .taken) (c .before .before .before .before .tunnel-at .ensures) in omega (arith, c .before .before .before .before .before .before .before .loop .inv .size, p .there, c .before .before .before .before .before .before .before .before .before .before .before .before .pre .0 .ranges .sized .counts, c .before .before .before .before .before .before .before .before .before .before .before .before .pre .2)
+slice-write-classes c = let p = place (c .before .before .before .before) in omega (arith, c .before .before .before .before .before .before .before .loop .inv .size, p .there, c .before .before .before .before .before .before .before .before .before .before .before .before .pre .0 .ranges .sized .counts, c .before .before .before .before .before .before .before .before .before .before .before .before .pre .2)
 
 add-t : tie.Need-add-t Inv-loop μ-loop
 add-t c = search needs
@@ -78,13 +83,12 @@ loop-less : tie.Need-loop-less Inv-loop μ-loop
 loop-less c = search needs
 
 loop-again : tie.Need-loop-again Inv-loop μ-loop
-loop-again c = let p = tunnel-place _ (c .before .before .before .before .before .before .before .before .before .before .before .before .pre .0 .ranges .sized) _ (c .before .before .before .before .before .before .before .before .of .ensures) _ _ (c .before .before .before .before .before .if1 .taken) (c .before .before .before .before .tunnel-at .ensures) in
-    let f = flow-place _ (c .before .before .before .before .before .before .before .before .before .before .before .before .pre .0 .ranges .sized) _ (c .before .before .before .before .before .before .before .before .of .ensures) _ _ (omega (arith, flow-low _ (c .before .before .before .before .before .before .before .before .before .before .before .before .pre .0) _ _ p, ap (λ (n : counts.Network). n .flows) (c .before .before .before .before .before .before .before .before .of .ensures))) (c .before .flow-at .ensures) in
+loop-again c = let p = place (c .before .before .before .before) in
     record {
       low = omega (arith, c .before .before .before .before .before .if1 .taken);
       size = (simp length-set (c .before .before .before .before .before .before .before .loop .inv .size .0), simp length-set (c .before .before .before .before .before .before .before .loop .inv .size .1));
       via = holds-more _ _ _ _ (omega (arith, c .before .before .before .before .before .before .before .loop .inv .size, p .there, c .before .before .before .before .before .before .before .before .before .before .before .before .pre .0 .ranges .sized .counts, c .before .before .before .before .before .before .before .before .before .before .before .before .pre .1)) (via-here _ (c .before .before .before .before .before .before .before .before .before .before .before .before .pre .0) _ _ p) (c .before .before .before .before .before .before .before .loop .inv .via);
-      class = holds-more _ _ _ _ (omega (arith, c .before .before .before .before .before .before .before .loop .inv .size, p .there, c .before .before .before .before .before .before .before .before .before .before .before .before .pre .0 .ranges .sized .counts, c .before .before .before .before .before .before .before .before .before .before .before .before .pre .2)) (class-here _ (c .before .before .before .before .before .before .before .before .before .before .before .before .pre .0) _ _ p _ (f .here)) (c .before .before .before .before .before .before .before .loop .inv .class);
+      class = holds-more _ _ _ _ (omega (arith, c .before .before .before .before .before .before .before .loop .inv .size, p .there, c .before .before .before .before .before .before .before .before .before .before .before .before .pre .0 .ranges .sized .counts, c .before .before .before .before .before .before .before .before .before .before .before .before .pre .2)) (class-here _ (c .before .before .before .before .before .before .before .before .before .before .before .before .pre .0) _ _ p _ (flow (c .before) .here)) (c .before .before .before .before .before .before .before .loop .inv .class);
     }
 
 same-length : tie.Need-same-length Inv-loop μ-loop

@@ -1,15 +1,25 @@
 -- `overloads::rows::after` meets its contract.
-use Prim.Native.Nat.{_+_}
-use mathlib.Core.Path.{ap, _∙_}
-use Rattle.lists.specs.Lists.{rowAt}
+use Prim.Native.Nat.{_+_, _<_}
+use mathlib.Core.Path.{ap, _∙_, _≡_}
+use Rattle.lists.specs.Lists.{rowAt, at, networkOf, planOf, mostPlan}
 use Rattle.lists.specs.declared.PlanSizes as lengths
-use Rattle.lists.proofs.Positions.{tunnel-place, limited, head-in}
-use Rattle.overloads.proofs.Good.{new-fits, new-amount, listed-amount, listed-in, listed-few, own-tunnel}
+use Rattle.lists.proofs.Positions.{TunnelPlace, tunnel-place, limited, head-in}
+use Rattle.overloads.proofs.Good.{new-fits, new-amount, listed-amount, own-tunnel}
 use native.Mathlib.Numerals.{add-one}
+use lib.ListN.{length}
+use Rattle.model.specs.Net.{row}
 use native.Mathlib.Omega.{arith}
 use borrow.Author.Needs.{needs}
 use Rattle.overloads.proofs.rows.after.Statement.{statement}
 use Rattle.overloads.proofs.rows.after.Tie as tie
+
+place : (c : tie.After-tunnel-at) → TunnelPlace (c .before .before .before .before .before .before .before .args .network .now) (c .before .before .before .before .before .before .before .args .t) (c .tunnel-at .result)
+place c = tunnel-place _ (c .before .before .before .before .before .before .before .pre .0 .network .ranges .sized) _ (c .before .of2 .ensures) _ _ (own-tunnel _ _ _ (c .before .of2 .ensures) (c .before .before .before .before .before .before .before .pre .2)) (c .tunnel-at .ensures)
+
+-- the place of a listed amount
+module _ (c : tie.After-row-at) where
+  listed : (at (c .before .before .before .before .before .before .args .plan .now) (c .row-at .result + c .before .before .before .before .before .before .args .t) ≡ row (networkOf (c .before .before .before .before .before .before .args .network .now)) (planOf (c .before .before .before .before .before .before .args .plan .now)) (c .before .before .before .before .before .before .args .i + 1) (c .before .before .before .before .before .before .args .t)) × (c .row-at .result + c .before .before .before .before .before .before .args .t < length (c .before .before .before .before .before .before .args .plan .now)) × (c .row-at .result + c .before .before .before .before .before .before .args .t < mostPlan)
+  listed = listed-amount _ _ (c .before .before .before .before .before .before .pre .0) _ _ _ (omega arith) (omega (arith, c .before .if1 .left, ap (λ (n : lengths.PlanSizes). n .steps) (c .before .before .before .of .ensures), c .before .before .before .before .before .before .pre .1)) (c .before .before .before .before .before .before .pre .2) (c .row-at .ensures ∙ ap (λ (n : lengths.PlanSizes). rowAt n (c .before .before .before .before .before .before .args .i + 1)) (c .before .before .before .of .ensures))
 
 of-requires : tie.Need-of-requires
 of-requires c κs = search needs
@@ -24,19 +34,19 @@ tunnel-at-requires : tie.Need-tunnel-at-requires
 tunnel-at-requires c κs = (limited _ (c .before .before .before .before .before .before .pre .0 .network .ranges .sized) _ (c .of2 .ensures), omega (arith, own-tunnel _ _ _ (c .of2 .ensures) (c .before .before .before .before .before .before .pre .2)))
 
 add-result : tie.Need-add-result
-add-result c = let p = tunnel-place _ (c .before .before .before .before .before .before .before .pre .0 .network .ranges .sized) _ (c .before .of2 .ensures) _ _ (own-tunnel _ _ _ (c .before .of2 .ensures) (c .before .before .before .before .before .before .before .pre .2)) (c .tunnel-at .ensures) in record { fits = omega (arith, p .few) }
+add-result c = record { fits = omega (arith, place c .few) }
 
 mul-result : tie.Need-mul-result
-mul-result c = let p = tunnel-place _ (c .before .before .before .before .before .before .before .pre .0 .network .ranges .sized) _ (c .before .of2 .ensures) _ _ (own-tunnel _ _ _ (c .before .of2 .ensures) (c .before .before .before .before .before .before .before .pre .2)) (c .tunnel-at .ensures) in record { fits = omega (arith, p .few) }
+mul-result c = record { fits = omega (arith, place c .few) }
 
 shared-slice-read-result : tie.Need-shared-slice-read-result
-shared-slice-read-result c = let p = tunnel-place _ (c .before .before .before .before .before .before .before .before .pre .0 .network .ranges .sized) _ (c .before .before .of2 .ensures) _ _ (own-tunnel _ _ _ (c .before .before .of2 .ensures) (c .before .before .before .before .before .before .before .before .pre .2)) (c .before .tunnel-at .ensures) in omega (arith, p .within)
+shared-slice-read-result c = omega (arith, place (c .before) .within)
 
 mul-result-2 : tie.Need-mul-result-2
-mul-result-2 c = let p = tunnel-place _ (c .before .before .before .before .before .before .before .before .before .pre .0 .network .ranges .sized) _ (c .before .before .before .of2 .ensures) _ _ (own-tunnel _ _ _ (c .before .before .before .of2 .ensures) (c .before .before .before .before .before .before .before .before .before .pre .2)) (c .before .before .tunnel-at .ensures) in record { fits = new-fits _ (c .before .before .before .before .before .before .before .before .before .pre .0 .network) _ _ p _ (omega (arith, ap (λ (n : lengths.PlanSizes). n .parts) (c .before .before .before .before .before .before .of .ensures), c .before .before .before .before .before .before .before .before .before .pre .0 .plan .parts)) }
+mul-result-2 c = let p = place (c .before .before) in record { fits = new-fits _ (c .before .before .before .before .before .before .before .before .before .pre .0 .network) _ _ p _ (omega (arith, ap (λ (n : lengths.PlanSizes). n .parts) (c .before .before .before .before .before .before .of .ensures), c .before .before .before .before .before .before .before .before .before .pre .0 .plan .parts)) }
 
 returns : tie.Need-returns
-returns c = let p = tunnel-place _ (c .before .before .before .before .before .before .before .before .before .pre .0 .network .ranges .sized) _ (c .before .before .before .of2 .ensures) _ _ (own-tunnel _ _ _ (c .before .before .before .of2 .ensures) (c .before .before .before .before .before .before .before .before .before .pre .2)) (c .before .before .tunnel-at .ensures) in new-amount _ _ (c .before .before .before .before .before .before .before .before .before .pre .0) _ _ _ _ p (ap (λ (n : lengths.PlanSizes). n .parts) (c .before .before .before .before .before .before .of .ensures)) (omega (arith, c .before .before .before .before .if1 .taken, ap (λ (n : lengths.PlanSizes). n .steps) (c .before .before .before .before .before .before .of .ensures))) (omega arith)
+returns c = let p = place (c .before .before) in new-amount _ _ (c .before .before .before .before .before .before .before .before .before .pre .0) _ _ _ _ p (ap (λ (n : lengths.PlanSizes). n .parts) (c .before .before .before .before .before .before .of .ensures)) (omega (arith, c .before .before .before .before .if1 .taken, ap (λ (n : lengths.PlanSizes). n .steps) (c .before .before .before .before .before .before .of .ensures))) (omega arith)
 
 add-row-at : tie.Need-add-row-at
 add-row-at c = search needs
@@ -45,16 +55,16 @@ row-at-requires : tie.Need-row-at-requires
 row-at-requires c κs = (omega arith, omega (arith, c .before .before .before .before .before .pre .1, c .before .before .before .before .before .pre .0 .plan .steps), omega (arith, c .before .before .before .before .before .pre .0 .plan .tunnels, ap (λ (n : lengths.PlanSizes). n .tunnels) (c .before .before .of .ensures)))
 
 add-result-2 : tie.Need-add-result-2
-add-result-2 c = record { fits = omega (arith, listed-few _ _ (c .before .before .before .before .before .before .pre .0) _ _ _ (omega arith) (omega (arith, c .before .if1 .left, ap (λ (n : lengths.PlanSizes). n .steps) (c .before .before .before .of .ensures), c .before .before .before .before .before .before .pre .1)) (c .before .before .before .before .before .before .pre .2) (c .row-at .ensures ∙ ap (λ (n : lengths.PlanSizes). rowAt n (c .before .before .before .before .before .before .args .i + 1)) (c .before .before .before .of .ensures))) }
+add-result-2 c = record { fits = omega (arith, listed c .2) }
 
 mul-result-3 : tie.Need-mul-result-3
-mul-result-3 c = record { fits = omega (arith, listed-few _ _ (c .before .before .before .before .before .before .pre .0) _ _ _ (omega arith) (omega (arith, c .before .if1 .left, ap (λ (n : lengths.PlanSizes). n .steps) (c .before .before .before .of .ensures), c .before .before .before .before .before .before .pre .1)) (c .before .before .before .before .before .before .pre .2) (c .row-at .ensures ∙ ap (λ (n : lengths.PlanSizes). rowAt n (c .before .before .before .before .before .before .args .i + 1)) (c .before .before .before .of .ensures))) }
+mul-result-3 c = record { fits = omega (arith, listed c .2) }
 
 shared-slice-read-result-2 : tie.Need-shared-slice-read-result-2
-shared-slice-read-result-2 c = listed-in _ _ (c .before .before .before .before .before .before .before .pre .0) _ _ _ (omega arith) (omega (arith, c .before .before .if1 .left, ap (λ (n : lengths.PlanSizes). n .steps) (c .before .before .before .before .of .ensures), c .before .before .before .before .before .before .before .pre .1)) (c .before .before .before .before .before .before .before .pre .2) (c .before .row-at .ensures ∙ ap (λ (n : lengths.PlanSizes). rowAt n (c .before .before .before .before .before .before .before .args .i + 1)) (c .before .before .before .before .of .ensures))
+shared-slice-read-result-2 c = listed (c .before) .1
 
 returns-2 : tie.Need-returns-2
-returns-2 c = rw (← add-one (c .before .before .before .before .before .before .before .args .i)) (listed-amount _ _ (c .before .before .before .before .before .before .before .pre .0) _ _ _ (omega arith) (omega (arith, c .before .before .if1 .left, ap (λ (n : lengths.PlanSizes). n .steps) (c .before .before .before .before .of .ensures), c .before .before .before .before .before .before .before .pre .1)) (c .before .before .before .before .before .before .before .pre .2) (c .before .row-at .ensures ∙ ap (λ (n : lengths.PlanSizes). rowAt n (c .before .before .before .before .before .before .before .args .i + 1)) (c .before .before .before .before .of .ensures)))
+returns-2 c = rw (← add-one (c .before .before .before .before .before .before .before .args .i)) (listed (c .before) .0)
 
 pub after-spec : {M : Type 1} → statement M
 after-spec =

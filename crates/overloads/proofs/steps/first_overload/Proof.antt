@@ -1,5 +1,5 @@
 -- `overloads::steps::first_overload` meets its contract. The invariants: no step before this one, and no link before this one in it, breaks a bound.
-use Prim.Native.Nat.{ℕ, _≤_, _-_}
+use Prim.Native.Nat.{ℕ, _≤_, _-_, _<_}
 use mathlib.Core.Path.{_≡_, refl, sym, ap, _∙_, subst}
 use mathlib.Core.Option.{none}
 use lib.ListN.{length-replicate}
@@ -18,6 +18,7 @@ use Rattle.overloads.specs.Inner.{foundOf}
 use Rattle.overloads.specs.Blocks.{AmountTable, InBlock}
 use Rattle.overloads.proofs.Overloads.{overIn, over-none, over-some}
 use Rattle.overloads.proofs.Blocks.{no-amounts, in-first, in-next, fewer-links, number-in}
+use Rattle.model.specs.Net.{Net, Plan}
 use native.Mathlib.Omega.{arith}
 use borrow.Author.Needs.{needs}
 use Rattle.overloads.proofs.steps.first_overload.Statement.{statement}
@@ -34,6 +35,57 @@ Inv-steps network plan links steps vias classes capacities raised amounts₀ loa
 
 abbrev μ-steps : tie.MeasureT-steps
 μ-steps network plan links steps vias classes capacities raised amounts₀ loads₀ found₀ i₀ amounts loads found i = steps - i
+
+-- the network's own links, the plan's own parts and steps
+module _ (c : tie.After-of2 Inv-loop μ-loop Inv-steps μ-steps) where
+  abbrev start : tie.Start Inv-loop μ-loop Inv-steps μ-steps
+  start = (c .before .before .before .before)
+
+  abbrev N : Net
+  N = networkOf (start .args .network .now)
+
+  abbrev P : Plan
+  P = planOf (start .args .plan .now)
+
+  links : c .before .of .result .links ≡ N .links
+  unfolding networkOf
+  links = ap (λ (n : counts.Network). n .links) (c .before .of .ensures)
+
+  parts : c .of2 .result .parts ≡ P .parts
+  unfolding planOf
+  parts = ap (λ (n : lengths.PlanSizes). n .parts) (c .of2 .ensures)
+
+  steps : c .of2 .result .steps ≡ P .steps
+  unfolding planOf
+  steps = ap (λ (n : lengths.PlanSizes). n .steps) (c .of2 .ensures)
+
+-- what is known while the links of a step are looked at
+module _ (c : tie.In-loop Inv-loop μ-loop Inv-steps μ-steps) where
+  abbrev sizes : tie.After-of2 Inv-loop μ-loop Inv-steps μ-steps
+  sizes = (c .before .before .before .before .before .before .before .before .before .before .before .before .before .before .before .before .before .before .before .before .before)
+
+  abbrev around : tie.At-steps Inv-loop μ-loop Inv-steps μ-steps
+  around = (c .before .before .before .before .before .before .before .before .before .before)
+
+  abbrev within : tie.At-loop Inv-loop μ-loop Inv-steps μ-steps
+  within = (c .before)
+
+  in-steps : around .steps .i < P sizes .steps
+  in-steps = omega (arith, c .before .before .before .before .before .before .before .before .before .steps-test .taken, steps sizes)
+
+  in-links : within .loop .l < N sizes .links
+  in-links = omega (arith, c .loop-test .taken, links sizes)
+
+-- the number that is found on a link is the rule's
+number : (c : tie.After-over Inv-loop μ-loop Inv-steps μ-steps)
+    → let k = (c .before .before .before .before) in
+    c .over .result ≡ overIn (N (sizes k)) (P (sizes k)) (around k .steps .i) (within k .loop .l)
+unfolding networkOf
+number c =
+    let k = (c .before .before .before .before) in
+    let s = sizes k in
+    c .over .ensures
+    ∙ number-in (N s) (P s) (around k .steps .i) (within k .loop .l) (in-steps k) (in-links k) _ _ _ (rw (parts s) at (c .before .before .before .before .before .before .before .before .before .before .before .before .before .before .before .before .before .links .ensures .0)) (rw (parts s) at (c .before .before .before .before .before .before .before .before .before .before .before .before .before .before .before .before .before .links .ensures .1)) (c .before .before .before .before .before .before .before .before .block-loads .ensures .1)
 
 of-requires : tie.Need-of-requires Inv-loop μ-loop Inv-steps μ-steps
 of-requires c κs = head-in _ (c .before .before .pre .network .ranges .sized .size)
@@ -57,7 +109,8 @@ slice-aggregate-links-2 : tie.Need-slice-aggregate-links-2 Inv-loop μ-loop Inv-
 slice-aggregate-links-2 c = search needs
 
 links-requires : tie.Need-links-requires Inv-loop μ-loop Inv-steps μ-steps
-links-requires c κs = (c .before .before .before .before .before .before .before .before .before .before .before .pre .network, omega (arith, ap (λ (m : lengths.PlanSizes). m .parts) (c .before .before .before .before .before .before .before .of2 .ensures), c .before .before .before .before .before .before .before .before .before .before .before .pre .plan .parts), omega arith, omega arith)
+unfolding planOf
+links-requires c κs = (c .before .before .before .before .before .before .before .before .before .before .before .pre .network, omega (arith, parts (c .before .before .before .before .before .before .before), c .before .before .before .before .before .before .before .before .before .before .before .pre .plan .parts), omega arith, omega arith)
 
 steps-holds : tie.Need-steps-holds Inv-loop μ-loop Inv-steps μ-steps
 steps-holds c = (omega arith, refl, no-amounts _ (c .before .before .before .before .before .before .before .before .before .before .before .before .before .before .pre .network .ranges .sized .counts .tunnels), in-first _ _ _ (length-replicate {A = ℕ} loadsSize 0), first-zero _)
@@ -79,7 +132,8 @@ slice-aggregate-block-loads-4 :
 slice-aggregate-block-loads-4 c = search needs
 
 block-loads-requires : tie.Need-block-loads-requires Inv-loop μ-loop Inv-steps μ-steps
-block-loads-requires c κs = (c .before .before .before .before .before .before .before .before .before .before .before .before .before .before .before .before .before .before .before .before .pre, omega (arith, c .before .before .before .before .steps-test .taken, ap (λ (m : lengths.PlanSizes). m .steps) (c .before .before .before .before .before .before .before .before .before .before .before .before .before .before .before .before .of2 .ensures)), record { size = (omega (arith, c .before .before .before .before .before .before .before .before .before .before .before .before .before .tunnels .kept), omega (arith, c .before .before .before .before .before .before .before .before .before .before .before .before .before .tunnels .kept)); via = c .before .before .before .before .before .before .before .before .before .before .before .before .before .tunnels .ensures .0; class = c .before .before .before .before .before .before .before .before .before .before .before .before .before .tunnels .ensures .1 }, c .before .before .before .before .before .steps .inv .2, c .before .before .before .before .before .steps .inv .3)
+unfolding planOf
+block-loads-requires c κs = (c .before .before .before .before .before .before .before .before .before .before .before .before .before .before .before .before .before .before .before .before .pre, omega (arith, c .before .before .before .before .steps-test .taken, steps (c .before .before .before .before .before .before .before .before .before .before .before .before .before .before .before .before)), record { size = (omega (arith, c .before .before .before .before .before .before .before .before .before .before .before .before .before .tunnels .kept), omega (arith, c .before .before .before .before .before .before .before .before .before .before .before .before .before .tunnels .kept)); via = c .before .before .before .before .before .before .before .before .before .before .before .before .before .tunnels .ensures .0; class = c .before .before .before .before .before .before .before .before .before .before .before .before .before .tunnels .ensures .1 }, c .before .before .before .before .before .steps .inv .2, c .before .before .before .before .before .steps .inv .3)
 
 loop-holds : tie.Need-loop-holds Inv-loop μ-loop Inv-steps μ-steps
 loop-holds c = (omega arith, c .before .before .before .before .before .before .before .before .steps .inv .1, first-zero _)
@@ -95,46 +149,52 @@ slice-aggregate-over-3 c = search needs
 
 over-requires : tie.Need-over-requires Inv-loop μ-loop Inv-steps μ-steps
 unfolding networkOf
-over-requires c κs = (omega (arith, c .before .before .before .loop-test .taken, ap (λ (m : counts.Network). m .links) (c .before .before .before .before .before .before .before .before .before .before .before .before .before .before .before .before .before .before .before .before .before .before .before .before .before .of .ensures), c .before .before .before .before .before .before .before .before .before .before .before .before .before .before .before .before .before .before .before .before .before .before .before .before .before .before .before .before .pre .network .ranges .sized .counts), omega arith, omega (arith, c .before .before .before .before .before .before .before .before .before .before .before .before .before .before .before .before .links .kept), omega (arith, c .before .before .before .before .before .before .before .before .before .before .before .before .before .before .before .before .links .kept), fewer-links _ _ _ _ (omega (arith, c .before .before .before .loop-test .taken, ap (λ (m : counts.Network). m .links) (c .before .before .before .before .before .before .before .before .before .before .before .before .before .before .before .before .before .before .before .before .before .before .before .before .before .of .ensures))) (c .before .before .before .before .before .before .before .block-loads .ensures .1 .within))
+over-requires c κs = let k = (c .before .before .before) in (omega (arith, in-links k, c .before .before .before .before .before .before .before .before .before .before .before .before .before .before .before .before .before .before .before .before .before .before .before .before .before .before .before .before .pre .network .ranges .sized .counts), omega arith, omega (arith, c .before .before .before .before .before .before .before .before .before .before .before .before .before .before .before .before .links .kept), omega (arith, c .before .before .before .before .before .before .before .before .before .before .before .before .before .before .before .before .links .kept), fewer-links _ _ _ _ (omega (arith, in-links k)) (c .before .before .before .before .before .before .before .block-loads .ensures .1 .within))
 
 add-l : tie.Need-add-l Inv-loop μ-loop Inv-steps μ-steps
-add-l c = record { fits = omega (arith, c .before .before .before .before .before .loop-test .taken, ap (λ (m : counts.Network). m .links) (c .before .before .before .before .before .before .before .before .before .before .before .before .before .before .before .before .before .before .before .before .before .before .before .before .before .before .before .of .ensures), c .before .before .before .before .before .before .before .before .before .before .before .before .before .before .before .before .before .before .before .before .before .before .before .before .before .before .before .before .before .before .pre .network .ranges .sized .counts) }
+unfolding networkOf
+add-l c = record { fits = omega (arith, in-links (c .before .before .before .before .before), c .before .before .before .before .before .before .before .before .before .before .before .before .before .before .before .before .before .before .before .before .before .before .before .before .before .before .before .before .before .before .pre .network .ranges .sized .counts) }
 
 loop-less : tie.Need-loop-less Inv-loop μ-loop Inv-steps μ-steps
 loop-less c = search needs
 
 loop-again : tie.Need-loop-again Inv-loop μ-loop Inv-steps μ-steps
-unfolding networkOf planOf
-loop-again c = (omega (arith, c .before .before .before .before .before .loop-test .taken), c .before .before .before .before .before .before .loop .inv .1, first-on _ _ (c .before .before .before .before .before .before .loop .inv .2) (over-none (networkOf (c .before .before .before .before .before .before .before .before .before .before .before .before .before .before .before .before .before .before .before .before .before .before .before .before .before .before .before .before .before .before .args .network .now)) (planOf (c .before .before .before .before .before .before .before .before .before .before .before .before .before .before .before .before .before .before .before .before .before .before .before .before .before .before .before .before .before .before .args .plan .now)) _ _ (sym (c .before .over .ensures ∙ number-in (networkOf (c .before .before .before .before .before .before .before .before .before .before .before .before .before .before .before .before .before .before .before .before .before .before .before .before .before .before .before .before .before .before .args .network .now)) (planOf (c .before .before .before .before .before .before .before .before .before .before .before .before .before .before .before .before .before .before .before .before .before .before .before .before .before .before .before .before .before .before .args .plan .now)) (c .before .before .before .before .before .before .before .before .before .before .before .before .before .before .before .steps .i) (c .before .before .before .before .before .before .loop .l) (omega (arith, c .before .before .before .before .before .before .before .before .before .before .before .before .before .before .steps-test .taken, ap (λ (m : lengths.PlanSizes). m .steps) (c .before .before .before .before .before .before .before .before .before .before .before .before .before .before .before .before .before .before .before .before .before .before .before .before .before .before .of2 .ensures))) (omega (arith, c .before .before .before .before .before .loop-test .taken, ap (λ (m : counts.Network). m .links) (c .before .before .before .before .before .before .before .before .before .before .before .before .before .before .before .before .before .before .before .before .before .before .before .before .before .before .before .of .ensures))) _ _ _ (rw (ap (λ (m : lengths.PlanSizes). m .parts) (c .before .before .before .before .before .before .before .before .before .before .before .before .before .before .before .before .before .before .before .before .before .before .before .before .before .before .of2 .ensures)) at (c .before .before .before .before .before .before .before .before .before .before .before .before .before .before .before .before .before .before .links .ensures .0)) (rw (ap (λ (m : lengths.PlanSizes). m .parts) (c .before .before .before .before .before .before .before .before .before .before .before .before .before .before .before .before .before .before .before .before .before .before .before .before .before .before .of2 .ensures)) at (c .before .before .before .before .before .before .before .before .before .before .before .before .before .before .before .before .before .before .links .ensures .1)) (c .before .before .before .before .before .before .before .before .before .block-loads .ensures .1)) ∙ c .if1 .left)))
+loop-again c = let k = (c .before .before .before .before .before) in
+    let s = sizes k in
+    (omega (arith, c .before .before .before .before .before .loop-test .taken), c .before .before .before .before .before .before .loop .inv .1, first-on _ _ (c .before .before .before .before .before .before .loop .inv .2) (over-none (N s) (P s) _ _ (sym (number (c .before)) ∙ c .if1 .left)))
 
 add-i : tie.Need-add-i Inv-loop μ-loop Inv-steps μ-steps
-add-i c = record { fits = omega (arith, c .before .before .before .before .before .before .before .before .before .steps-test .taken, ap (λ (m : lengths.PlanSizes). m .steps) (c .before .before .before .before .before .before .before .before .before .before .before .before .before .before .before .before .before .before .before .before .before .of2 .ensures), c .before .before .before .before .before .before .before .before .before .before .before .before .before .before .before .before .before .before .before .before .before .before .before .before .before .pre .plan .steps) }
+unfolding planOf
+add-i c = record { fits = omega (arith, c .before .before .before .before .before .before .before .before .before .steps-test .taken, steps (c .before .before .before .before .before .before .before .before .before .before .before .before .before .before .before .before .before .before .before .before .before), c .before .before .before .before .before .before .before .before .before .before .before .before .before .before .before .before .before .before .before .before .before .before .before .before .before .pre .plan .steps) }
 
 steps-less : tie.Need-steps-less Inv-loop μ-loop Inv-steps μ-steps
 steps-less c = search needs
 
 steps-again : tie.Need-steps-again Inv-loop μ-loop Inv-steps μ-steps
-unfolding networkOf
-steps-again c = let e : c .before .loop .l ≡ (networkOf (c .before .before .before .before .before .before .before .before .before .before .before .before .before .before .before .before .before .before .before .before .before .before .before .before .before .args .network .now)) .links = omega (arith, c .loop-test .left, c .before .loop .inv .0, ap (λ (m : counts.Network). m .links) (c .before .before .before .before .before .before .before .before .before .before .before .before .before .before .before .before .before .before .before .before .before .before .of .ensures)) in (
-  omega (arith, c .before .before .before .before .before .before .before .before .before .steps-test .taken),
-  c .before .loop .inv .1,
-  c .before .before .before .before .block-loads .ensures .0,
-  in-next _ _ _ _ (c .before .before .before .before .block-loads .ensures .1),
-  step-on (c .before .before .before .before .before .before .before .before .before .before .steps .i) _ _ _ (c .before .before .before .before .before .before .before .before .before .before .steps .inv .4) (subst (λ (n : ℕ). first n (testLink (worstOver (networkOf (c .before .before .before .before .before .before .before .before .before .before .before .before .before .before .before .before .before .before .before .before .before .before .before .before .before .args .network .now)) (planOf (c .before .before .before .before .before .before .before .before .before .before .before .before .before .before .before .before .before .before .before .before .before .before .before .before .before .args .plan .now))) (c .before .before .before .before .before .before .before .before .before .before .steps .i)) ≡ none) e (c .before .loop .inv .2)),
-)
+steps-again c = let s = (c .before .before .before .before .before .before .before .before .before .before .before .before .before .before .before .before .before .before .before .before .before) in
+    let e : c .before .loop .l ≡ N s .links = omega (arith, c .loop-test .left, c .before .loop .inv .0, links s) in (
+      omega (arith, c .before .before .before .before .before .before .before .before .before .steps-test .taken),
+      c .before .loop .inv .1,
+      c .before .before .before .before .block-loads .ensures .0,
+      in-next _ _ _ _ (c .before .before .before .before .block-loads .ensures .1),
+      step-on (c .before .before .before .before .before .before .before .before .before .before .steps .i) _ _ _ (c .before .before .before .before .before .before .before .before .before .before .steps .inv .4) (subst (λ (n : ℕ). first n (testLink (worstOver (N s) (P s)) (c .before .before .before .before .before .before .before .before .before .before .steps .i)) ≡ none) e (c .before .loop .inv .2)),
+    )
 
 returns : tie.Need-returns Inv-loop μ-loop Inv-steps μ-steps
-unfolding firstOverload stepCount planOf
-returns c = let e : c .before .steps .i ≡ (planOf (c .before .before .before .before .before .before .before .before .before .before .before .before .before .before .before .before .args .plan .now)) .steps = omega (arith, c .steps-test .left, c .before .steps .inv .0, ap (λ (m : lengths.PlanSizes). m .steps) (c .before .before .before .before .before .before .before .before .before .before .before .before .of2 .ensures)) in
-    c .before .steps .inv .1 ∙ ap foundOf (sym (scan-end _ _ (worstOver (networkOf (c .before .before .before .before .before .before .before .before .before .before .before .before .before .before .before .before .args .network .now)) (planOf (c .before .before .before .before .before .before .before .before .before .before .before .before .before .before .before .before .args .plan .now))) (subst (λ (n : ℕ). first n (testStep ((networkOf (c .before .before .before .before .before .before .before .before .before .before .before .before .before .before .before .before .args .network .now)) .links) (worstOver (networkOf (c .before .before .before .before .before .before .before .before .before .before .before .before .before .before .before .before .args .network .now)) (planOf (c .before .before .before .before .before .before .before .before .before .before .before .before .before .before .before .before .args .plan .now)))) ≡ none) e (c .before .steps .inv .4))))
+unfolding firstOverload stepCount
+returns c = let s = (c .before .before .before .before .before .before .before .before .before .before .before .before) in
+    let e : c .before .steps .i ≡ P s .steps = omega (arith, c .steps-test .left, c .before .steps .inv .0, steps s) in
+    c .before .steps .inv .1 ∙ ap foundOf (sym (scan-end _ _ (worstOver (N s) (P s)) (subst (λ (n : ℕ). first n (testStep (N s .links) (worstOver (N s) (P s))) ≡ none) e (c .before .steps .inv .4))))
 
 returns-2 : tie.Need-returns-2 Inv-loop μ-loop Inv-steps μ-steps
-unfolding firstOverload stepCount networkOf planOf
-returns-2 c = let number : c .before .over .result ≡ overIn (networkOf (c .before .before .before .before .before .before .before .before .before .before .before .before .before .before .before .before .before .before .before .before .before .before .before .before .before .before .before .before .before .before .args .network .now)) (planOf (c .before .before .before .before .before .before .before .before .before .before .before .before .before .before .before .before .before .before .before .before .before .before .before .before .before .before .before .before .before .before .args .plan .now)) (c .before .before .before .before .before .before .before .before .before .before .before .before .before .before .before .steps .i) (c .before .before .before .before .before .before .loop .l) = c .before .over .ensures ∙ number-in (networkOf (c .before .before .before .before .before .before .before .before .before .before .before .before .before .before .before .before .before .before .before .before .before .before .before .before .before .before .before .before .before .before .args .network .now)) (planOf (c .before .before .before .before .before .before .before .before .before .before .before .before .before .before .before .before .before .before .before .before .before .before .before .before .before .before .before .before .before .before .args .plan .now)) (c .before .before .before .before .before .before .before .before .before .before .before .before .before .before .before .steps .i) (c .before .before .before .before .before .before .loop .l) (omega (arith, c .before .before .before .before .before .before .before .before .before .before .before .before .before .before .steps-test .taken, ap (λ (m : lengths.PlanSizes). m .steps) (c .before .before .before .before .before .before .before .before .before .before .before .before .before .before .before .before .before .before .before .before .before .before .before .before .before .before .of2 .ensures))) (omega (arith, c .before .before .before .before .before .loop-test .taken, ap (λ (m : counts.Network). m .links) (c .before .before .before .before .before .before .before .before .before .before .before .before .before .before .before .before .before .before .before .before .before .before .before .before .before .before .before .of .ensures))) _ _ _ (rw (ap (λ (m : lengths.PlanSizes). m .parts) (c .before .before .before .before .before .before .before .before .before .before .before .before .before .before .before .before .before .before .before .before .before .before .before .before .before .before .of2 .ensures)) at (c .before .before .before .before .before .before .before .before .before .before .before .before .before .before .before .before .before .before .links .ensures .0)) (rw (ap (λ (m : lengths.PlanSizes). m .parts) (c .before .before .before .before .before .before .before .before .before .before .before .before .before .before .before .before .before .before .before .before .before .before .before .before .before .before .of2 .ensures)) at (c .before .before .before .before .before .before .before .before .before .before .before .before .before .before .before .before .before .before .links .ensures .1)) (c .before .before .before .before .before .before .before .before .before .block-loads .ensures .1) in
-    let o = over-some (networkOf (c .before .before .before .before .before .before .before .before .before .before .before .before .before .before .before .before .before .before .before .before .before .before .before .before .before .before .before .before .before .before .args .network .now)) (planOf (c .before .before .before .before .before .before .before .before .before .before .before .before .before .before .before .before .before .before .before .before .before .before .before .before .before .before .before .before .before .before .args .plan .now)) (c .before .before .before .before .before .before .before .before .before .before .before .before .before .before .before .steps .i) (c .before .before .before .before .before .before .loop .l) (λ z. c .if1 .taken (number ∙ z)) in
-    ap (λ (n : ℕ). At n (c .before .before .before .before .before .before .before .before .before .before .before .before .before .before .before .steps .i) (c .before .before .before .before .before .before .loop .l)) number
+unfolding firstOverload stepCount
+returns-2 c = let k = (c .before .before .before .before .before) in
+    let s = sizes k in
+    let n = number (c .before) in
+    let o = over-some (N s) (P s) (c .before .before .before .before .before .before .before .before .before .before .before .before .before .before .before .steps .i) (c .before .before .before .before .before .before .loop .l) (λ z. c .if1 .taken (n ∙ z)) in
+    ap (λ (m : ℕ). At m (c .before .before .before .before .before .before .before .before .before .before .before .before .before .before .before .steps .i) (c .before .before .before .before .before .before .loop .l)) n
     ∙ sym (o .2)
-    ∙ ap foundOf (sym (scan-at _ _ (worstOver (networkOf (c .before .before .before .before .before .before .before .before .before .before .before .before .before .before .before .before .before .before .before .before .before .before .before .before .before .before .before .before .before .before .args .network .now)) (planOf (c .before .before .before .before .before .before .before .before .before .before .before .before .before .before .before .before .before .before .before .before .before .before .before .before .before .before .before .before .before .before .args .plan .now))) (c .before .before .before .before .before .before .before .before .before .before .before .before .before .before .before .steps .i) (c .before .before .before .before .before .before .loop .l) (o .0) (c .before .before .before .before .before .before .before .before .before .before .before .before .before .before .before .steps .inv .4) (c .before .before .before .before .before .before .loop .inv .2) (o .1) (omega (arith, c .before .before .before .before .before .before .before .before .before .before .before .before .before .before .steps-test .taken, ap (λ (m : lengths.PlanSizes). m .steps) (c .before .before .before .before .before .before .before .before .before .before .before .before .before .before .before .before .before .before .before .before .before .before .before .before .before .before .of2 .ensures))) (omega (arith, c .before .before .before .before .before .loop-test .taken, ap (λ (m : counts.Network). m .links) (c .before .before .before .before .before .before .before .before .before .before .before .before .before .before .before .before .before .before .before .before .before .before .before .before .before .before .before .of .ensures)))))
+    ∙ ap foundOf (sym (scan-at _ _ (worstOver (N s) (P s)) (c .before .before .before .before .before .before .before .before .before .before .before .before .before .before .before .steps .i) (c .before .before .before .before .before .before .loop .l) (o .0) (c .before .before .before .before .before .before .before .before .before .before .before .before .before .before .before .steps .inv .4) (c .before .before .before .before .before .before .loop .inv .2) (o .1) (in-steps k) (in-links k)))
 
 pub first-overload-spec : {M : Type 1} → statement M
 first-overload-spec =
