@@ -10,7 +10,7 @@ use lib.ListN.{length, length-append}
 use native.Mathlib.Decide.{decLt}
 use borrow.Author.Tests.{lt-ltb, le-ltb, lt-leb}
 use Rattle.model.specs.Outcome.{Outcome, good, refused, Cause, malformed, outOfRange, missing}
-use Rattle.model.proofs.Searches.{both}
+use Rattle.model.proofs.Searches.{both, and-false}
 use Rattle.forms.specs.Line.{lines, beforeFeed, isRemark, fits, mostInRemark, mostRemarks, plain, lineValue, isPassed}
 use Rattle.forms.specs.Form.{fieldOf, admitsOf, secondOf, hasRemarks}
 use Rattle.forms.specs.Read.{walk, numberIn, moved, firstBad, orEarlier, readLines, onField}
@@ -22,7 +22,6 @@ use Rattle.forms.specs.declared.form.Field.{Field}
 use Rattle.forms.specs.declared.form.Field.the-variants.{Line, End}
 use Rattle.forms.proofs.Lines.{last-feed}
 use Rattle.forms.proofs.Texts.{filter, lines-flatten, lines-filter}
-use Rattle.forms.proofs.Values.{and-false}
 
 -- ---- the real lines of a text, and its remarks
 

@@ -7,6 +7,7 @@ use Prim.Native.Nat.{ℕ, zero, suc, _+_, _/_, _%_, _^_, _<_}
 use native.Mathlib.Omega.{arith}
 use lib.Dec.{T, ltb, eqb}
 use borrow.Author.Tests.{ne-eqb}
+use Rattle.model.proofs.Searches.{and-false}
 use Rattle.forms.specs.Keys.{prefixOf}
 use Rattle.forms.specs.Line.{lines, isRemark, valuePart, decimalOf, hexOf, lineValue}
 use Rattle.forms.specs.Turns.{hashed, no-feeds}
@@ -95,10 +96,6 @@ line-real k r v = real-append (prefixOf k) _ (key-real k) (real-append (valueDig
 off : (b : Bool) → T (not b) → b ≡ false
 off true t = absurd t
 off false t = refl
-
-pub and-false : (b : Bool) → (b && false) ≡ false
-and-false true = refl
-and-false false = refl
 
 -- nor is a line that has a value
 pub value-real-line : (form : Form) (k : ℕ) (r : Range) (l : List ℕ) (v : ℕ) → lineValue k r l ≡ some v → isRemark form l ≡ false

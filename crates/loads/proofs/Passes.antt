@@ -11,10 +11,10 @@ use Rattle.model.specs.Limits.{mostSteps, mostAmount}
 use Rattle.model.specs.Sets.{inSet}
 use Rattle.model.specs.Sum.{sumOver}
 use Rattle.model.proofs.Sums.{sum-both}
+use Rattle.model.proofs.Searches.{cond-most}
 use Rattle.lists.specs.Lists.{at}
 use Rattle.loads.specs.Gathered.{addedOn, gathered}
 use Rattle.loads.specs.Tables.{amountAt, loadAt, partOf, inPart, AmountsWithin, SetAdded, LoadsWithin, Cleared, Loads}
-use Rattle.loads.proofs.Vectors.{cond-most}
 
 cond-swap : (a b : Bool) (x : ℕ) → cond (a && b) x 0 ≡ cond b (cond a x 0) 0
 cond-swap true true x = refl

@@ -1,21 +1,17 @@
 -- Laws of tables of vectors: what the loops that clear them and add to them prove at each turn.
-use Prim.Native.Nat.{ℕ, _+_, _-_, _*_, _/_, _^_, _≤_, _<_}
+use Prim.Native.Nat.{ℕ, _+_, _-_, _*_, _≤_, _<_}
 use mathlib.Core.Path.{_≡_, refl, sym, ap, _∙_}
-use mathlib.Core.Logic.{_≢_, ⊎-elim}
+use mathlib.Core.Logic.{⊎-elim}
 use mathlib.Core.Bool.{Bool, true, false, cond, _&&_}
 use mathlib.Core.List.{List}
 use native.Mathlib.Omega.{arith}
-use native.Mathlib.Nat.{add-zero, mul-one, div-one, eq-or-lt-of-le}
+use native.Mathlib.Nat.{add-zero, eq-or-lt-of-le}
 use lib.Dec.{eqb}
-use lib.Bits.{bitAnd}
-use lib.Count.{trailingZeros}
 use lib.ListN.{length, set, length-set}
 use lib.Seq.{getD-set-same, getD-set-other}
 use borrow.Author.Tests.{eq-eqb, ne-eqb, eqb-true, eqb-false}
 use Rattle.model.specs.Limits.{mostLinks, mostTunnels}
-use Rattle.model.specs.Sets.{inSet}
-use Rattle.model.proofs.Searches.{bool-cases}
-use Rattle.model.proofs.Sets.{none-left, next-from, next-set, next-below, next-left, passed, passed-on, passed-none, passed-all}
+use Rattle.model.proofs.Searches.{bool-cases, and-false, cond-most}
 use Rattle.lists.specs.Lists.{at}
 use Rattle.loads.specs.Tables.{blockSteps, amountAt, amountsSize, loadAt, loadsSize, AmountsWithin, Addable, VectorAdded, SetAdded, LoadsWithin}
 
@@ -98,16 +94,8 @@ cond-both : (b c d e : Bool) (x : ℕ) → cond c x 0 + cond d x 0 ≡ cond e x 
 cond-both true c d e x h = h
 cond-both false c d e x h = refl
 
-and-false : (b : Bool) → (b && false) ≡ false
-and-false true = refl
-and-false false = refl
-
-pub cond-most : (b : Bool) (x : ℕ) → cond b x 0 ≤ x
-cond-most true x = omega arith
-cond-most false x = omega arith
-
 module _ (links p : ℕ) (x : ℕ → ℕ) where
-  set-both : (c e : ℕ → Bool) (z : ℕ) (s s₁ s₂ : List ℕ) → p < 2 → SetAdded links p c x s s₁ → VectorAdded (2 * z + p) x s₁ s₂
+  pub set-both : (c e : ℕ → Bool) (z : ℕ) (s s₁ s₂ : List ℕ) → p < 2 → SetAdded links p c x s s₁ → VectorAdded (2 * z + p) x s₁ s₂
       → ((l y : ℕ) → cond (c l) y 0 + cond (eqb l z) y 0 ≡ cond (e l) y 0) → SetAdded links p e x s s₂
   set-both c e z s s₁ s₂ hp a b h = record {
     size = b .size ∙ a .size;
@@ -121,42 +109,8 @@ module _ (links p : ℕ) (x : ℕ → ℕ) where
         );
   }
 
-  set-cong : (c d : ℕ → Bool) (s s₁ : List ℕ) → SetAdded links p c x s s₁ → ((l : ℕ) → c l ≡ d l) → SetAdded links p d x s s₁
-  set-cong c d s s₁ a h = record {
-    size = a .size;
-    each = λ q l k hq hl hk. a .each q l k hq hl hk ∙ ap (λ (b : Bool). at s (loadAt l q k) + cond (eqb p q && b) (x k) 0) (h l);
-  }
-
-  set-none : (s : List ℕ) → SetAdded links p (λ l. false) x s s
+  pub set-none : (s : List ℕ) → SetAdded links p (λ l. false) x s s
   set-none s = record { size = refl; each = λ q l k hq hl hk. sym (ap (λ (b : Bool). at s (loadAt l q k) + cond b (x k) 0) (and-false (eqb p q)) ∙ add-zero _) }
-
--- the loads where the links of a set below a link are passed, and those from it on are left
-pub record Passing (links p via : ℕ) (x : ℕ → ℕ) (s : List ℕ) (left : ℕ) (s′ : List ℕ) : Type 0 where
-  pub link : ℕ
-  pub left-from : left ≡ via / 2 ^ link * 2 ^ link
-  pub added : SetAdded links p (passed via link) x s s′
-
-module _ (links p via : ℕ) (x : ℕ → ℕ) (s : List ℕ) where
-  pub passing-start : Passing links p via x s via s
-  passing-start =
-      record { link = 0; left-from = sym (mul-one _ ∙ div-one via); added = set-cong links p x (λ l. false) (passed via 0) s s (set-none links p x s) (passed-none via) }
-
-  pub passing-on : (left : ℕ) (s₁ s₂ : List ℕ) → via < 2 ^ 64 → left ≢ 0 → p < 2 → Passing links p via x s left s₁
-      → VectorAdded (2 * trailingZeros 64 left + p) x s₁ s₂ → Passing links p via x s (bitAnd left (left - 1)) s₂
-  passing-on left s₁ s₂ fits some hp P a =
-      let z : ℕ = trailingZeros 64 left in
-      let l : ℕ = P .link in
-      let e = P .left-from in
-      record {
-        link = z + 1;
-        left-from = next-left via l left fits e some;
-        added = set-both links p x (passed via l) (passed via (z + 1)) z s s₁ s₂ hp (P .added) a
-            (λ k y. passed-on via l z (next-from via l left fits e some) (next-below via l left fits e some) (next-set via l left fits e some) k y);
-      }
-
-  pub passing-end : (left : ℕ) (s₁ : List ℕ) → Passing links p via x s left s₁ → left ≡ 0 → SetAdded links p (inSet via) x s s₁
-  passing-end left s₁ P z =
-      set-cong links p x (passed via (P .link)) (inSet via) s s₁ (P .added) (passed-all via (P .link) (none-left via (P .link) (sym (P .left-from) ∙ z)))
 
 -- what is left of a set can be added on its lowest link
 pub addable : (links : ℕ) (amounts : List ℕ) (t p z : ℕ) (c : ℕ → Bool) (s s₁ : List ℕ) → links ≤ mostLinks → t < mostTunnels → p < 2 → z < links → length amounts ≡ amountsSize

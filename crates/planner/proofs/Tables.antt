@@ -1,15 +1,13 @@
 -- The laws of the tables of sums.
-use Prim.Native.Nat.{ℕ, suc, _+_, _-_, _*_, _/_, _^_, _≤_, _<_, max}
+use Prim.Native.Nat.{ℕ, suc, _+_, _-_, _*_, _≤_, _<_, max}
 use mathlib.Core.Path.{_≡_, refl, sym, ap, subst, _∙_}
-use mathlib.Core.Logic.{_≢_, ⊎-elim}
+use mathlib.Core.Logic.{⊎-elim}
 use mathlib.Core.Bool.{Bool, true, false, cond, not}
 use mathlib.Core.List.{List}
 use native.Mathlib.Omega.{arith}
 use native.Mathlib.Decide.{decLt}
-use native.Mathlib.Nat.{add-zero, mul-one, div-one, mul-le-mul, mul-le-mul-right}
+use native.Mathlib.Nat.{add-zero, mul-le-mul, mul-le-mul-right}
 use lib.Dec.{eqb, ltb}
-use lib.Bits.{bitAnd}
-use lib.Count.{trailingZeros}
 use lib.ListN.{length, getD, set, replicate, length-set, length-replicate, getD-replicate}
 use lib.Seq.{getD-set-same, getD-set-other}
 use borrow.Author.Tests.{eq-eqb, ne-eqb, eqb-true, eqb-false, lt-ltb, le-ltb}
@@ -20,9 +18,8 @@ use Rattle.model.specs.Net.{Net}
 use Rattle.model.specs.Scan.{Bound}
 use Rattle.model.specs.Rule.{crosses, onLink, counts}
 use Rattle.model.proofs.Sums.{sum-zero, sum-take, sum-skip, sum-bound, sum-both}
-use Rattle.model.proofs.Searches.{bool-cases}
+use Rattle.model.proofs.Searches.{bool-cases, cond-most}
 use Rattle.model.specs.Sets.{inSet}
-use Rattle.model.proofs.Sets.{none-left, next-from, next-set, next-below, next-left, passed, passed-on, passed-none, passed-all}
 use Rattle.planner.specs.Tables.{Part, tableSize, sumAt, amount, Room, Added, onPart, Table, unprotected, Loads, Joined, stepSum, endSum}
 
 -- ---- one link
@@ -78,18 +75,15 @@ module _ (s s₁ s₂ s₃ : List ℕ) (link o n m : ℕ) (size : length s ≡ t
 -- ---- several links
 
 -- amounts that are added on some links and then on others
-added-both : (c d e : ℕ → Bool) (o n : ℕ) (s s₁ s₂ : List ℕ) → Added c o n s s₁ → Added d o n s₁ s₂
+pub added-both : (c d e : ℕ → Bool) (o n : ℕ) (s s₁ s₂ : List ℕ) → Added c o n s s₁ → Added d o n s₁ s₂
     → ((l x : ℕ) → l < mostLinks → cond (c l) x 0 + cond (d l) x 0 ≡ cond (e l) x 0) → Added e o n s s₂
 added-both c d e o n s s₁ s₂ a b h = record {
   size = b .size ∙ a .size;
   each = λ p l k. omega (arith, a .each p l k, b .each p l k, h l (amount o n p) k);
 }
 
-added-none : (o n : ℕ) (s : List ℕ) → Added (λ l. false) o n s s
+pub added-none : (o n : ℕ) (s : List ℕ) → Added (λ l. false) o n s s
 added-none o n s = record { size = refl; each = λ p l k. sym (add-zero _) }
-
-added-cong : (c d : ℕ → Bool) (o n : ℕ) (s s′ : List ℕ) → Added c o n s s′ → ((l : ℕ) → l < mostLinks → c l ≡ d l) → Added d o n s s′
-added-cong c d o n s s′ a h = record { size = a .size; each = λ p l k. a .each p l k ∙ ap (λ (b : Bool). sumAt s p l + cond b (amount o n p) 0) (h l k) }
 
 -- a tunnel's amounts make the sums those of one amount more
 amount-most : (o n : ℕ) → o ≤ mostAmount → n ≤ mostAmount → (p : Part) → amount o n p ≤ mostAmount
@@ -97,43 +91,11 @@ amount-most o n ho hn Part.old = ho
 amount-most o n ho hn Part.new = hn
 amount-most o n ho hn Part.peak = omega arith
 
-cond-most : (b : Bool) (x : ℕ) → cond b x 0 ≤ x
-cond-most true x = omega arith
-cond-most false x = omega arith
-
 pub added-room : (c : ℕ → Bool) (o n : ℕ) (s s′ : List ℕ) → Added c o n s s′ → Room mostTunnels s → o ≤ mostAmount → n ≤ mostAmount → Room (mostTunnels + 1) s′
 added-room c o n s s′ a r ho hn = record {
   size = a .size ∙ r .size;
   most = λ p l h. omega (arith, a .each p l h, r .most p l h, cond-most (c l) (amount o n p), amount-most o n ho hn p);
 }
-
--- the table where the links of a set below a link are passed, and those from it on are left
-pub record Passing (via o n : ℕ) (s : List ℕ) (left : ℕ) (s′ : List ℕ) : Type 0 where
-  pub link : ℕ
-  pub left-from : left ≡ via / 2 ^ link * 2 ^ link
-  pub added : Added (passed via link) o n s s′
-
-module _ (via o n : ℕ) (s : List ℕ) where
-  pub passing-start : Passing via o n s via s
-  passing-start =
-      record { link = 0; left-from = sym (mul-one _ ∙ div-one via); added = added-cong (λ l. false) (passed via 0) o n s s (added-none o n s) (λ l h. passed-none via l) }
-
-  pub passing-on : (left : ℕ) (s₁ s₂ : List ℕ) → via < 2 ^ 64 → left ≢ 0 → Passing via o n s left s₁ → Added (λ l. eqb l (trailingZeros 64 left)) o n s₁ s₂
-      → Passing via o n s (bitAnd left (left - 1)) s₂
-  passing-on left s₁ s₂ fits some P a =
-      let z : ℕ = trailingZeros 64 left in
-      let l : ℕ = P .link in
-      let e = P .left-from in
-      record {
-        link = z + 1;
-        left-from = next-left via l left fits e some;
-        added = added-both (passed via l) (λ k. eqb k z) (passed via (z + 1)) o n s s₁ s₂ (P .added) a
-            (λ k x h. passed-on via l z (next-from via l left fits e some) (next-below via l left fits e some) (next-set via l left fits e some) k x);
-      }
-
-  pub passing-end : (left : ℕ) (s₁ : List ℕ) → Passing via o n s left s₁ → left ≡ 0 → Added (inSet via) o n s s₁
-  passing-end left s₁ P z =
-      added-cong (passed via (P .link)) (inSet via) o n s s₁ (P .added) (λ l h. passed-all via (P .link) (none-left via (P .link) (sym (P .left-from) ∙ z)) l)
 
 -- ---- two tables joined, place by place
 

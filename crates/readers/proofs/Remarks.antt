@@ -10,10 +10,10 @@ use lib.Dec.{T, leb, eqb→eq}
 use lib.ListN.{length, getD, drop, length-drop, length-append, drop-of-length-le}
 use lib.Seq.{length-take-le, getD-take, getD-drop}
 use borrow.Author.Tests.{lt-ltb, le-ltb, le-leb, lt-leb}
+use Rattle.model.proofs.Searches.{and-false}
 use Rattle.forms.specs.Line.{beforeFeed, fits, mostRemarks, mostInRemark}
 use Rattle.forms.specs.Turns.{hashed}
 use Rattle.forms.proofs.Remarks.{unfit}
-use Rattle.forms.proofs.Values.{and-false}
 use Rattle.readers.specs.Line.{lineLen, firstLine, bytesBefore, unfed, afterRemark}
 use Rattle.readers.specs.declared.line.Remark.the-variants.{Ends, OutOfOrder}
 use Rattle.readers.proofs.Lines.{line-some, line-within}

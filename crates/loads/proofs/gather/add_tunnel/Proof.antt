@@ -2,23 +2,23 @@
 use Prim.Native.Nat.{_<_}
 use borrow.Author.Tests.{eqb-true}
 use lib.Count.{trailing-le, trailingZeros}
-use Rattle.model.proofs.Sets.{set-within, next-set, next-less}
+use Rattle.model.proofs.Sets.{set-within, next-set, next-less, Passing, passing-start, passing-on, passing-end}
 use Rattle.lists.specs.Lists.{at}
-use Rattle.loads.specs.Tables.{amountAt}
-use Rattle.loads.proofs.Vectors.{addable, Passing, passing-start, passing-on, passing-end}
+use Rattle.loads.specs.Tables.{amountAt, SetAdded}
+use Rattle.loads.proofs.Vectors.{addable, set-both, set-none}
 use native.Mathlib.Omega.{arith}
 use borrow.Author.Needs.{needs}
 use Rattle.loads.proofs.gather.add_tunnel.Statement.{statement}
 use Rattle.loads.proofs.gather.add_tunnel.Tie as tie
 
 abbrev Inv-loop : tie.InvT-loop
-Inv-loop links amounts t via part loads₀ set₀ loads set = Passing links part via (λ k. at amounts (amountAt t k)) loads₀ set loads
+Inv-loop links amounts t via part loads₀ set₀ loads set = Passing (λ c s. SetAdded links part c (λ k. at amounts (amountAt t k)) loads₀ s) via set loads
 
 abbrev μ-loop : tie.MeasureT-loop
 μ-loop links amounts t via part loads₀ set₀ loads set = set
 
 loop-holds : tie.Need-loop-holds Inv-loop μ-loop
-loop-holds c = passing-start _ _ _ _ _
+loop-holds c = passing-start _ _ _ (set-none _ _ _ _)
 
 cast-link : tie.Need-cast-link Inv-loop μ-loop
 cast-link c = record { fits = omega (arith, trailing-le 64 (c .before .loop .set)) }
@@ -33,7 +33,7 @@ add-vector-requires : tie.Need-add-vector-requires Inv-loop μ-loop
 add-vector-requires c κs = let i = c .before .before .loop .inv in
     let z : trailingZeros 64 (c .before .before .loop .set) < c .before .before .before .before .before .args .links =
     set-within (c .before .before .before .before .before .args .via) (c .before .before .before .before .before .args .links) (trailingZeros 64 (c .before .before .loop .set)) (c .before .before .before .before .before .pre .3) (eqb-true _ _ (next-set (c .before .before .before .before .before .args .via) (i .link) (c .before .before .loop .set) (c .before .before .before .before .before .fits .via .fits) (i .left-from) (c .before .loop-test .taken))) in
-    addable _ _ _ _ _ _ _ _ (c .before .before .before .before .before .pre .0) (c .before .before .before .before .before .pre .1) (c .before .before .before .before .before .pre .2) z (c .before .before .before .before .before .pre .4) (c .before .before .before .before .before .pre .5) (c .before .before .before .before .before .pre .6) (i .added)
+    addable _ _ _ _ _ _ _ _ (c .before .before .before .before .before .pre .0) (c .before .before .before .before .before .pre .1) (c .before .before .before .before .before .pre .2) z (c .before .before .before .before .before .pre .4) (c .before .before .before .before .before .pre .5) (c .before .before .before .before .before .pre .6) (i .done)
 
 sub-set : tie.Need-sub-set Inv-loop μ-loop
 sub-set c = search needs
@@ -42,13 +42,13 @@ loop-less : tie.Need-loop-less Inv-loop μ-loop
 loop-less c = next-less (c .before .before .before .before .before .before .before .before .args .via) (c .before .before .before .before .before .loop .inv .link) (c .before .before .before .before .before .loop .set) (c .before .before .before .before .before .before .before .before .fits .via .fits) (c .before .before .before .before .before .loop .inv .left-from) (c .before .before .before .before .loop-test .taken)
 
 loop-again : tie.Need-loop-again Inv-loop μ-loop
-loop-again c = passing-on _ _ _ _ _ (c .before .before .before .before .before .loop .set) _ _ (c .before .before .before .before .before .before .before .before .fits .via .fits) (c .before .before .before .before .loop-test .taken) (c .before .before .before .before .before .before .before .before .pre .2) (c .before .before .before .before .before .loop .inv) (c .before .before .add-vector .ensures)
+loop-again c = passing-on _ _ (c .before .before .before .before .before .loop .set) _ _ (c .before .before .before .before .before .before .before .before .fits .via .fits) (c .before .before .before .before .loop-test .taken) (c .before .before .before .before .before .loop .inv) (λ a e h d. set-both _ _ _ a e _ _ _ _ (c .before .before .before .before .before .before .before .before .pre .2) d (c .before .before .add-vector .ensures) h)
 
 same-length : tie.Need-same-length Inv-loop μ-loop
 same-length c = search needs
 
 returns : tie.Need-returns Inv-loop μ-loop
-returns c = passing-end _ _ _ _ _ _ _ (c .before .loop .inv) (c .loop-test .left)
+returns c = passing-end _ _ _ _ (c .before .loop .inv) (c .loop-test .left)
 
 pub add-tunnel-spec : {M : Type 1} → statement M
 add-tunnel-spec =
