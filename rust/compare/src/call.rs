@@ -73,6 +73,14 @@ fn named(refusal: Refusal) -> String {
     format!("refusal {}{cause}", refusal.number)
 }
 
+/// An answer with the edition by which its network was judged; by none, the answer itself.
+pub fn by_edition(answer: &str, edition: Option<u64>) -> String {
+    match edition {
+        Some(edition) => format!("{answer}, edition {edition}"),
+        None => answer.to_string(),
+    }
+}
+
 /// A buffer with the pattern of this case.
 fn pattern<T>(rng: &mut Rng, length: usize, make: fn(u64) -> T) -> Vec<T> {
     let base = rng.any();
@@ -114,6 +122,7 @@ fn lend<T: Copy + PartialEq + Debug>(
 fn convert<I: Copy + PartialEq + Debug, O: Copy + PartialEq + Debug>(
     rng: &mut Rng,
     name: &str,
+    edition: Option<u64>,
     input: &[I],
     make: fn(u64) -> O,
     ours: impl Fn(&[I], &mut [O]) -> Answer,
@@ -141,6 +150,7 @@ fn convert<I: Copy + PartialEq + Debug, O: Copy + PartialEq + Debug>(
         Answer::Plan(_) => "plan".to_string(),
         Answer::Refused(refusal) => named(refusal),
     };
+    let answer = by_edition(&answer, edition);
     Ok(Reached::one(name, &answer, room_name(room, needed.ok())))
 }
 
@@ -157,6 +167,7 @@ pub fn read_network(rng: &mut Rng) -> Outcome {
     convert(
         rng,
         "read_network",
+        inputs::edition_of_text(&text),
         &text,
         number,
         pavuneshil::read_network,
@@ -170,6 +181,7 @@ pub fn read_plan(rng: &mut Rng) -> Outcome {
     convert(
         rng,
         "read_plan",
+        None,
         &text,
         number,
         pavuneshil::read_plan,
@@ -183,6 +195,7 @@ pub fn write_network(rng: &mut Rng) -> Outcome {
     convert(
         rng,
         "write_network",
+        inputs::edition_of_list(&list),
         &list,
         byte,
         pavuneshil::write_network,
@@ -196,6 +209,7 @@ pub fn write_plan(rng: &mut Rng) -> Outcome {
     convert(
         rng,
         "write_plan",
+        None,
         &list,
         byte,
         pavuneshil::write_plan,
@@ -209,6 +223,7 @@ pub fn make_plan(rng: &mut Rng) -> Outcome {
     convert(
         rng,
         "make_plan",
+        inputs::edition_of_list(&list),
         &list,
         number,
         pavuneshil::make_plan,
@@ -248,6 +263,7 @@ pub fn check_plan(rng: &mut Rng) -> Outcome {
         Answer::Refused(refusal) => (named(refusal), matches!(refusal.number, 7 | 8 | 10)),
         _ => ("done".to_string(), true),
     };
+    let answer = by_edition(&answer, inputs::edition_of_list(&network));
     let how = room_name(room, counts.then_some(needed));
     Ok(Reached::one("check_plan", &answer, how))
 }
@@ -283,6 +299,7 @@ pub fn share(rng: &mut Rng) -> Outcome {
     convert(
         rng,
         name,
+        None,
         &demands,
         number,
         |demands, out| pavuneshil::share(rate, demands, out),
@@ -297,6 +314,7 @@ pub fn read_rules(rng: &mut Rng) -> Outcome {
     convert(
         rng,
         "read_rules",
+        None,
         &text,
         number,
         pavuneshil::read_rules,
@@ -310,6 +328,7 @@ pub fn write_rules(rng: &mut Rng) -> Outcome {
     convert(
         rng,
         "write_rules",
+        None,
         &list,
         byte,
         pavuneshil::write_rules,
@@ -332,6 +351,7 @@ pub fn stage_rules(rng: &mut Rng) -> Outcome {
     convert(
         rng,
         name,
+        None,
         &list,
         number,
         pavuneshil::stage_rules,

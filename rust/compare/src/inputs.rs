@@ -1,27 +1,77 @@
 //! Inputs, good and damaged: valid, one edge off, truncated, random.
 
+use crate::LANDED;
 use second::gen::*;
-use second::{write_network, write_plan, write_rules};
+use second::{write_network_by, write_plan, write_rules};
 
 const ROOM: usize = usize::MAX;
+
+/// "amounts up to 10,000,000 (Mbit/s)"
+const AMOUNT: u64 = 10_000_000;
 
 /// The bytes that texts are made of, and some others.
 const BYTES: &[u8] = b"0123456789=\nabcdefnetscrahvilowpkug \r#\0\xff";
 
 /// The keys of all texts.
-const KEYS: [&str; 23] = [
-    "net", "scratch", "overrun", "links", "flows", "tunnels", "cap", "class", "rate", "flow",
-    "via", "old", "new", "plan", "parts", "steps", "at", "", "rules", "slack", "switches", "room",
-    "kind",
+const KEYS: [&str; 24] = [
+    "net", "scratch", "overrun", "links", "flows", "tunnels", "cap", "class", "rate", "next",
+    "flow", "via", "old", "new", "plan", "parts", "steps", "at", "", "rules", "slack", "switches",
+    "room", "kind",
 ];
 
-/// A valid network of any size, the largest more often than `any_network` has them.
+/// A valid network of any size, of either edition.
 pub fn network(rng: &mut Rng) -> Vec<u64> {
+    match rng.below(20) {
+        0..=8 => edition_1(rng),
+        // one that says the same in edition 2
+        9..=10 => to_edition(&edition_1(rng), 2),
+        _ => edition_2(rng),
+    }
+}
+
+/// One of edition 1, the largest more often than `any_network` has them.
+fn edition_1(rng: &mut Rng) -> Vec<u64> {
     match rng.below(50) {
         0 => maximal(rng),
         1..=20 => tiny(rng),
         _ => any_network(rng),
     }
+}
+
+/// One of edition 2, in the same sizes. Of its flows that have tunnels some grow, some shrink and
+/// some stay, and now and then one begins or ends: a rate of 0.
+fn edition_2(rng: &mut Rng) -> Vec<u64> {
+    let with_overrun = rng.percent(50);
+    match rng.below(50) {
+        0 => maximal_of(rng, 2, 1),
+        1 => to_edition(&no_flows(rng), 2),
+        2..=6 => full_of(rng, 2),
+        7..=13 => keeping_scratch_of(rng, 2, with_overrun),
+        14..=22 => medium_of(rng, 2, 1),
+        _ => tiny_of(rng, 2, 1),
+    }
+}
+
+/// The edition that a list is judged by, if there is one.
+pub fn edition_of_list(list: &[u64]) -> Option<u64> {
+    list.first().copied().filter(|&net| is_edition(net))
+}
+
+/// The edition that a text is judged by, if there is one: what its first line that is no remark says.
+pub fn edition_of_text(text: &[u8]) -> Option<u64> {
+    let first = text
+        .split_inclusive(|&byte| byte == b'\n')
+        .find(|line| line[0] != b'#')?;
+    match first {
+        [b'n', b'e', b't', b'=', digit @ b'0'..=b'9', b'\n'] => {
+            Some(u64::from(digit - b'0')).filter(|&net| is_edition(net))
+        }
+        _ => None,
+    }
+}
+
+fn is_edition(net: u64) -> bool {
+    (1..=LANDED.newest_edition).contains(&net)
 }
 
 /// A valid plan list, for this network or for none.
@@ -30,8 +80,53 @@ fn plan_list(rng: &mut Rng, network: &[u64]) -> Vec<u64> {
         0 => longest_plan(rng),
         1..=20 => stray_plan(rng),
         21..=50 => broken_plan(rng, network),
+        51..=65 => at_an_end(rng, network),
         _ => any_plan(rng, network),
     }
+}
+
+/// An amount cut into so many, at least one.
+fn spread(rng: &mut Rng, amount: u64, count: usize) -> Vec<u64> {
+    let mut all = vec![0; count];
+    let mut left = amount;
+    for _ in 0..rng.below(count as u64) {
+        let some = rng.below(left + 1);
+        all[rng.below(count as u64) as usize] += some;
+        left -= some;
+    }
+    all[rng.below(count as u64) as usize] += left;
+    all
+}
+
+/// A plan with a flow's sum in a listed row at an end of what it may be, or one beside it: parts x
+/// the lesser of its two rates, parts x the greater. In more than one row now and then.
+fn at_an_end(rng: &mut Rng, network: &[u64]) -> Vec<u64> {
+    let shape = Shape::of(network);
+    let (parts, steps) = (rng.between(1, 4), rng.between(2, 6));
+    let mut plan = plan_like(rng, network, parts, steps);
+    if shape.tunnels == 0 {
+        return plan;
+    }
+    let flow_of = |t: usize| network[shape.tunnel(t)];
+    for _ in 0..rng.pick(&[1, 1, 1, 2, 3]) {
+        let flow = flow_of(rng.below(shape.tunnels as u64) as usize);
+        let mine: Vec<usize> = (0..shape.tunnels).filter(|&t| flow_of(t) == flow).collect();
+        let rates = [shape.rate(flow as usize), shape.next(flow as usize)].map(|at| network[at]);
+        let least = parts * rates[0].min(rates[1]);
+        let most = parts * rates[0].max(rates[1]);
+        let sum = match rng.below(4) {
+            0 => least,
+            1 => most,
+            2 => least.saturating_sub(1),
+            // a tunnel's amount stays in its range
+            _ => (most + 1).min(parts * AMOUNT),
+        };
+        let row = 4 + (rng.below(steps - 1) * plan[3]) as usize;
+        for (t, amount) in mine.iter().zip(spread(rng, sum, mine.len())) {
+            plan[row + t] = amount;
+        }
+    }
+    plan
 }
 
 /// A list changed by one damage or more, cut anywhere, far too long, or of random numbers.
@@ -56,9 +151,10 @@ fn damaged(rng: &mut Rng, list: &[u64]) -> Vec<u64> {
 /// A network's list, two in five valid.
 pub fn any_network_list(rng: &mut Rng) -> Vec<u64> {
     let list = network(rng);
-    match rng.below(5) {
-        0..=1 => list,
-        2 => off_rate(rng, list),
+    match rng.below(20) {
+        0..=7 => list,
+        8..=11 => off_rate(rng, list),
+        12..=13 => off_edition(rng, list),
         _ => damaged(rng, &list),
     }
 }
@@ -73,10 +169,19 @@ pub fn any_plan_list(rng: &mut Rng) -> Vec<u64> {
     }
 }
 
-/// A network with one `rate`, `old` or `new` off by one or a little, in its range.
+/// A network with one `rate`, `next`, `old` or `new` off by one or a little, in its range; or with a
+/// flow's `rate` and `next` changed over, so that its old amounts add up to `next`.
 fn off_rate(rng: &mut Rng, mut list: Vec<u64>) -> Vec<u64> {
     let shape = Shape::of(&list);
-    let mut places: Vec<usize> = (0..shape.flows).map(|f| shape.rate(f)).collect();
+    if shape.flows > 0 && rng.percent(15) {
+        let flow = rng.below(shape.flows as u64) as usize;
+        list.swap(shape.rate(flow), shape.next(flow));
+        return list;
+    }
+    let mut places = Vec::new();
+    for f in 0..shape.flows {
+        places.extend([shape.rate(f), shape.next(f)]);
+    }
     for t in 0..shape.tunnels {
         places.extend([shape.tunnel(t) + 2, shape.tunnel(t) + 3]);
     }
@@ -85,9 +190,19 @@ fn off_rate(rng: &mut Rng, mut list: Vec<u64>) -> Vec<u64> {
     }
     let at = rng.pick(&places);
     list[at] = match rng.below(3) {
-        0 => (list[at] + 1).min(10_000_000),
+        0 => (list[at] + 1).min(AMOUNT),
         1 => list[at].saturating_sub(1),
-        _ => rng.below(10_000_001),
+        _ => rng.below(AMOUNT + 1),
+    };
+    list
+}
+
+/// A network with the `net` of the other edition or of none, the other numbers as they are: a flow
+/// then has a number too many or too few.
+fn off_edition(rng: &mut Rng, mut list: Vec<u64>) -> Vec<u64> {
+    list[0] = match rng.below(3) {
+        0 => rng.pick(&[0, 3, 4, 10, 1 << 32, 9_999_999_999, 1 << 63, u64::MAX]),
+        _ => 3 - list[0],
     };
     list
 }
@@ -95,20 +210,22 @@ fn off_rate(rng: &mut Rng, mut list: Vec<u64>) -> Vec<u64> {
 /// A network and a plan, mostly both valid and mostly made for each other.
 pub fn pair(rng: &mut Rng) -> (Vec<u64>, Vec<u64>) {
     let network = network(rng);
-    let plan = match rng.below(10) {
-        0 => stray_plan(rng),
-        1..=2 => broken_plan(rng, &network),
-        3 => any_even_plan(rng, &network),
+    let plan = match rng.below(20) {
+        0..=1 => stray_plan(rng),
+        2..=4 => broken_plan(rng, &network),
+        5..=7 => at_an_end(rng, &network),
+        8..=9 => any_even_plan(rng, &network),
         _ => any_plan(rng, &network),
     };
-    match rng.below(20) {
-        0 => (damaged(rng, &network), plan),
-        1..=2 => {
+    match rng.below(40) {
+        0..=1 => (damaged(rng, &network), plan),
+        2..=5 => {
             let damaged = damaged(rng, &plan);
             (network, damaged)
         }
-        3 => (damaged(rng, &network), damaged(rng, &plan)),
-        4 => (off_rate(rng, network), plan),
+        6..=7 => (damaged(rng, &network), damaged(rng, &plan)),
+        8..=9 => (off_rate(rng, network), plan),
+        10 => (off_edition(rng, network), plan),
         _ => (network, plan),
     }
 }
@@ -186,7 +303,8 @@ fn random_lines(rng: &mut Rng) -> Vec<u8> {
         text += "=";
         text += &match key {
             "via" => format!("{:016x}", rng.any() >> rng.below(64)),
-            "net" | "plan" | "rules" => "1".to_string(),
+            "net" => rng.between(1, 2).to_string(),
+            "plan" | "rules" => "1".to_string(),
             _ => (rng.any() >> rng.between(20, 63)).to_string(),
         };
         text += "\n";
@@ -197,13 +315,14 @@ fn random_lines(rng: &mut Rng) -> Vec<u8> {
 /// What a network text reader may meet.
 pub fn network_text(rng: &mut Rng) -> Vec<u8> {
     let list = network(rng);
+    let shape = Shape::of(&list);
     let plan = any_plan(rng, &list);
     let other = write_plan(&plan, ROOM).expect("a valid plan");
-    // now and then a valid form whose amounts miss a rate: lines that the writer refuses
-    let text = if rng.percent(15) {
-        lines(&off_rate(rng, list))
-    } else {
-        write_network(&list, ROOM).expect("a valid network")
+    // now and then amounts that miss a rate, or another edition: lines that the writer refuses
+    let text = match rng.below(20) {
+        0..=2 => lines(&off_rate(rng, list), shape),
+        3..=4 => lines(&off_edition(rng, list), shape),
+        _ => written(&list),
     };
     any_text(rng, text, other)
 }
@@ -213,27 +332,36 @@ pub fn plan_text(rng: &mut Rng) -> Vec<u8> {
     let network = network(rng);
     let plan = plan_list(rng, &network);
     let text = write_plan(&plan, ROOM).expect("a valid plan");
-    let other = write_network(&network, ROOM).expect("a valid network");
+    let other = written(&network);
     any_text(rng, text, other)
 }
 
-/// The lines of a list that has the shape of a network.
-fn lines(list: &[u64]) -> Vec<u8> {
-    let shape = Shape::of(list);
+/// The text of a valid network.
+pub fn written(network: &[u64]) -> Vec<u8> {
+    write_network_by(&LANDED, network, ROOM).expect("a valid network")
+}
+
+/// The lines of a list that has this shape, whatever its numbers are.
+fn lines(list: &[u64], shape: Shape) -> Vec<u8> {
+    let head = ["net", "scratch", "overrun", "links", "flows", "tunnels"];
+    let flow = ["class", "rate", "next"];
+    let tunnel = ["flow", "via", "old", "new"];
     let mut text = String::new();
     for (i, number) in list.iter().enumerate() {
-        if i < 6 {
-            text += &format!("{}={number}\n", KEYS[i]);
+        let key = if i < shape.cap(0) {
+            head[i]
         } else if i < shape.class(0) {
-            text += &format!("cap={number}\n");
+            "cap"
         } else if i < shape.tunnel(0) {
-            text += &format!("{}={number}\n", KEYS[7 + (i - shape.class(0)) % 2]);
+            let each = shape.class(1) - shape.class(0);
+            flow[(i - shape.class(0)) % each]
         } else {
-            match (i - shape.tunnel(0)) % 4 {
-                1 => text += &format!("via={number:016x}\n"),
-                other => text += &format!("{}={number}\n", KEYS[9 + other]),
-            }
-        }
+            tunnel[(i - shape.tunnel(0)) % 4]
+        };
+        text += &match key {
+            "via" => format!("{key}={number:016x}\n"),
+            _ => format!("{key}={number}\n"),
+        };
     }
     text.into_bytes()
 }
@@ -384,7 +512,7 @@ pub fn any_rules_list(rng: &mut Rng) -> Vec<u64> {
 pub fn rules_text(rng: &mut Rng) -> Vec<u8> {
     let list = rule_tables(rng);
     let other = match rng.below(2) {
-        0 => write_network(&network(rng), ROOM).expect("a valid network"),
+        0 => written(&network(rng)),
         _ => write_rules(&rule_tables(rng), ROOM).expect("valid rule tables"),
     };
     // now and then a value beside its range, in lines that the writer refuses

@@ -1,6 +1,8 @@
 //! The kinds of cases, and the answers that each of them has to reach.
 
+use crate::call::by_edition;
 use crate::{call, choices, desks, Outcome};
+use compare::LANDED;
 use second::gen::Rng;
 use std::collections::{BTreeMap, BTreeSet};
 
@@ -14,6 +16,8 @@ pub struct Kind {
     /// By the papers the answers that the operation can give, all of them and no others. A refusal
     /// has its number and, where it has several causes, which of them.
     answers: &'static [&'static str],
+    /// Those that it gives of networks of every edition.
+    of_each_edition: &'static [&'static str],
 }
 
 const DESKS: &[&str] = &[
@@ -29,7 +33,13 @@ pub static KINDS: [Kind; 14] = [
         name: "read_network",
         share: 3,
         case: call::read_network,
+        // before a line tells the edition, or where it tells none
         answers: &[
+            "refusal 1, network",
+            "refusal 2, network",
+            "refusal 3, network",
+        ],
+        of_each_edition: &[
             "done",
             "refusal 1, network",
             "refusal 2, network",
@@ -50,12 +60,14 @@ pub static KINDS: [Kind; 14] = [
             "refusal 3, plan",
             "refusal 10",
         ],
+        of_each_edition: &[],
     },
     Kind {
         name: "write_network",
         share: 2,
         case: call::write_network,
-        answers: &[
+        answers: &["refusal 2, network", "refusal 3, network"],
+        of_each_edition: &[
             "done",
             "refusal 2, network",
             "refusal 3, network",
@@ -69,12 +81,14 @@ pub static KINDS: [Kind; 14] = [
         share: 2,
         case: call::write_plan,
         answers: &["done", "refusal 2, plan", "refusal 3, plan", "refusal 10"],
+        of_each_edition: &[],
     },
     Kind {
         name: "make_plan",
         share: 2,
         case: call::make_plan,
-        answers: &[
+        answers: &["refusal 2, network", "refusal 3, network"],
+        of_each_edition: &[
             "plan",
             "refusal 2, network",
             "refusal 3, network",
@@ -88,7 +102,8 @@ pub static KINDS: [Kind; 14] = [
         name: "check_plan",
         share: 3,
         case: call::check_plan,
-        answers: &[
+        answers: &["refusal 2, network", "refusal 3, network"],
+        of_each_edition: &[
             "done",
             "refusal 2, network",
             "refusal 3, network",
@@ -108,24 +123,28 @@ pub static KINDS: [Kind; 14] = [
         share: 1,
         case: call::step_bound,
         answers: &["steps", "refusal 2, scratch", "refusal 2, overrun"],
+        of_each_edition: &[],
     },
     Kind {
         name: "every choice",
         share: 1,
         case: choices::hold,
-        answers: &["done", "refusal 7", "refusal 8", "plan", "refusal 9"],
+        answers: &[],
+        of_each_edition: &["done", "refusal 7", "refusal 8", "plan", "refusal 9"],
     },
     Kind {
         name: "desks from the empty state",
         share: 1,
         case: desks::from_empty,
         answers: DESKS,
+        of_each_edition: &[],
     },
     Kind {
         name: "desks from any parts",
         share: 1,
         case: desks::from_any_parts,
         answers: DESKS,
+        of_each_edition: &[],
     },
     Kind {
         name: "share",
@@ -138,6 +157,7 @@ pub static KINDS: [Kind; 14] = [
             "refusal 21, demand",
             "refusal 10",
         ],
+        of_each_edition: &[],
     },
     Kind {
         name: "read_rules",
@@ -150,12 +170,14 @@ pub static KINDS: [Kind; 14] = [
             "refusal 3, rules",
             "refusal 10",
         ],
+        of_each_edition: &[],
     },
     Kind {
         name: "write_rules",
         share: 1,
         case: call::write_rules,
         answers: &["done", "refusal 2, rules", "refusal 3, rules", "refusal 10"],
+        of_each_edition: &[],
     },
     Kind {
         name: "stage_rules",
@@ -169,6 +191,7 @@ pub static KINDS: [Kind; 14] = [
             "refusal 18, new",
             "refusal 10",
         ],
+        of_each_edition: &[],
     },
 ];
 
@@ -216,19 +239,30 @@ impl Tally {
 }
 
 impl Kind {
+    /// Its answers, those of each edition that has landed among them.
+    fn all_answers(&self) -> Vec<String> {
+        let mut answers: Vec<String> = self.answers.iter().map(|a| a.to_string()).collect();
+        for edition in 1..=LANDED.newest_edition {
+            let of_it = self.of_each_edition.iter();
+            answers.extend(of_it.map(|answer| by_edition(answer, Some(edition))));
+        }
+        answers
+    }
+
     /// Why the kind does not pass: cases that differ, answers that are not the operation's, and, of
     /// many cases, answers that none reached.
     pub fn faults(&self, tally: &Tally, many: bool) -> Vec<String> {
+        let answers = self.all_answers();
         let mut faults = Vec::new();
         if tally.differing > 0 {
             faults.push(format!("{} of {} differ", tally.differing, tally.cases));
         }
         for answer in &tally.answers {
-            if !self.answers.contains(&answer.as_str()) {
+            if !answers.contains(answer) {
                 faults.push(format!("reached {answer}, which is no answer of it"));
             }
         }
-        for &answer in self.answers {
+        for answer in &answers {
             if many && !tally.answers.contains(answer) {
                 faults.push(format!("no case reached {answer}"));
             }
@@ -270,17 +304,32 @@ mod tests {
     #[test]
     fn faults_are_seen() {
         for kind in &KINDS {
+            let answers = kind.all_answers();
+            let all: Vec<&str> = answers.iter().map(|answer| answer.as_str()).collect();
             let faults = |answers: &[&str], differing, many| {
                 kind.faults(&tally(answers, differing), many).len()
             };
-            assert_eq!(faults(kind.answers, 0, true), 0);
-            assert_eq!(faults(kind.answers, 2, true), 1);
-            assert_eq!(faults(&kind.answers[1..], 0, true), 1);
-            assert_eq!(faults(&kind.answers[1..], 0, false), 0);
-            let one_more = [kind.answers, &["refusal 11"]].concat();
+            assert_eq!(faults(&all, 0, true), 0);
+            assert_eq!(faults(&all, 2, true), 1);
+            assert_eq!(faults(&all[1..], 0, true), 1);
+            assert_eq!(faults(&all[1..], 0, false), 0);
+            let one_more = [&all[..], &["refusal 11"]].concat();
             assert_eq!(faults(&one_more, 0, false), 1);
-            assert_eq!(faults(&[], 1, true), 1 + kind.answers.len());
+            assert_eq!(faults(&[], 1, true), 1 + all.len());
         }
+    }
+
+    /// An answer that networks of one edition alone reach is missing for the other.
+    #[test]
+    fn each_edition_reaches_its_answers() {
+        let kind = &KINDS[kind_of(0)];
+        assert!(kind.all_answers().contains(&"done, edition 2".to_string()));
+        let answers = kind.all_answers();
+        let of_one = |answer: &&str| !answer.ends_with("edition 2");
+        let all = answers.iter().map(|answer| answer.as_str());
+        let faults = kind.faults(&tally(&all.filter(of_one).collect::<Vec<_>>(), 0), true);
+        assert_eq!(faults.len(), kind.of_each_edition.len());
+        assert!(faults[0].contains("done, edition 2"));
     }
 
     /// Tallies of two threads are added up.

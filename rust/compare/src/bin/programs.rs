@@ -10,9 +10,9 @@
 
 #![forbid(unsafe_code)]
 
-use compare::inputs;
+use compare::{inputs, LANDED};
 use second::gen::Rng;
-use second::{write_network, write_plan};
+use second::{write_network_by, write_plan};
 use std::fs::{self, File, Permissions};
 use std::io::Write;
 use std::os::unix::fs::{MetadataExt, PermissionsExt};
@@ -24,12 +24,12 @@ use std::process::{Command, Output, Stdio};
 const INPUTS: u64 = 150;
 const SEED: u64 = 20_131_009;
 
-/// What the second implementation's programs are told: the first request has landed, and none after
-/// it that changes what the programs print.
-const LANDED: &str = "1";
+/// What the second implementation's programs are told: the fifth request, edition 2, has landed, and
+/// none after it that changes what the programs print.
+const REQUESTS: &str = "5";
 
 fn argument(name: &str) -> Option<&str> {
-    name.starts_with("second-").then_some(LANDED)
+    name.starts_with("second-").then_some(REQUESTS)
 }
 
 /// The user and group `nobody`, for a file that cannot be read: root can read any.
@@ -189,7 +189,7 @@ fn said(program: &str, output_closed: bool) -> String {
 /// A text of a pair of lists that are mostly valid, or one damaged.
 fn texts(rng: &mut Rng) -> (Vec<u8>, Vec<u8>) {
     let (network, plan) = inputs::pair(rng);
-    let network = match write_network(&network, usize::MAX) {
+    let network = match write_network_by(&LANDED, &network, usize::MAX) {
         Ok(text) if rng.percent(90) => text,
         _ => inputs::network_text(rng),
     };
@@ -236,7 +236,7 @@ fn main() {
     let mut rng = Rng::new(seed);
     for i in 0..count {
         let text = if rng.percent(50) {
-            write_network(&inputs::network(&mut rng), usize::MAX).expect("a valid network")
+            inputs::written(&inputs::network(&mut rng))
         } else {
             inputs::network_text(&mut rng)
         };
