@@ -169,8 +169,8 @@ pub fn any_plan_list(rng: &mut Rng) -> Vec<u64> {
     }
 }
 
-/// A network with one `rate`, `next`, `old` or `new` off by one or a little, in its range; or with a
-/// flow's `rate` and `next` changed over, so that its old amounts add up to `next`.
+/// A network with one `rate`, `next`, `old` or `new` off by one or a little, in its range or just out
+/// of it; or with a flow's `rate` and `next` changed over, so that its old amounts add up to `next`.
 fn off_rate(rng: &mut Rng, mut list: Vec<u64>) -> Vec<u64> {
     let shape = Shape::of(&list);
     if shape.flows > 0 && rng.percent(15) {
@@ -189,9 +189,10 @@ fn off_rate(rng: &mut Rng, mut list: Vec<u64>) -> Vec<u64> {
         return list;
     }
     let at = rng.pick(&places);
-    list[at] = match rng.below(3) {
-        0 => (list[at] + 1).min(AMOUNT),
-        1 => list[at].saturating_sub(1),
+    list[at] = match rng.below(12) {
+        0..=3 => (list[at] + 1).min(AMOUNT),
+        4..=7 => list[at].saturating_sub(1),
+        8 => rng.pick(&[AMOUNT, AMOUNT + 1]),
         _ => rng.below(AMOUNT + 1),
     };
     list
@@ -201,7 +202,7 @@ fn off_rate(rng: &mut Rng, mut list: Vec<u64>) -> Vec<u64> {
 /// then has a number too many or too few.
 fn off_edition(rng: &mut Rng, mut list: Vec<u64>) -> Vec<u64> {
     list[0] = match rng.below(3) {
-        0 => rng.pick(&[0, 3, 4, 10, 1 << 32, 9_999_999_999, 1 << 63, u64::MAX]),
+        0 => rng.pick(&[0, 3, 4, 10, (1 << 32) + 2, 9_999_999_999, 1 << 63, u64::MAX]),
         _ => 3 - list[0],
     };
     list
@@ -550,6 +551,172 @@ fn rules_lines(list: &[u64], switches: usize) -> Vec<u8> {
 #[cfg(test)]
 mod tests {
     use super::*;
+    use second::{check_plan_by, Checked};
+
+    /// Both editions come up, in all sizes; of the flows of edition 2 those that grow, shrink and
+    /// stay, that begin and end, and that have no tunnels.
+    #[test]
+    fn kinds_of_networks() {
+        let mut rng = Rng::new(10);
+        let mut seen = [0; 7];
+        let mut sizes = [0; 2];
+        for _ in 0..2000 {
+            let list = network(&mut rng);
+            let shape = Shape::of(&list);
+            assert_eq!(edition_of_list(&list), Some(shape.edition));
+            assert_eq!(edition_of_text(&written(&list)), Some(shape.edition));
+            sizes[list[0] as usize - 1] += u64::from(shape.tunnels == 96);
+            if shape.edition == 1 {
+                seen[0] += 1;
+                continue;
+            }
+            for f in 0..shape.flows {
+                match (list[shape.rate(f)], list[shape.next(f)]) {
+                    (0, 0) => seen[1] += 1,
+                    (0, _) => seen[2] += 1,
+                    (_, 0) => seen[3] += 1,
+                    (rate, next) if rate < next => seen[4] += 1,
+                    (rate, next) if rate > next => seen[5] += 1,
+                    _ => seen[6] += 1,
+                }
+            }
+        }
+        assert!(seen.iter().all(|&count| count > 100), "{seen:?}");
+        assert!(sizes.iter().all(|&count| count > 0), "{sizes:?}");
+    }
+
+    /// What tells the edition of a text, and what does not.
+    #[test]
+    fn editions_of_texts() {
+        for (text, edition) in [
+            (&b"net=1\n"[..], Some(1)),
+            (b"net=2\n", Some(2)),
+            (b"# net=1\n#\nnet=2\nscratch", Some(2)),
+            (b"net=0\n", None),
+            (b"net=3\n", None),
+            (b"net=12\n", None),
+            (b"net=2", None),
+            (b"#\n", None),
+            (b"", None),
+            (b"\nnet=2\n", None),
+            (b"scratch=2\n", None),
+        ] {
+            assert_eq!(edition_of_text(text), edition);
+        }
+    }
+
+    /// The lines are those of the writer.
+    #[test]
+    fn lines_of_networks() {
+        let mut rng = Rng::new(11);
+        for _ in 0..1000 {
+            let list = network(&mut rng);
+            assert_eq!(lines(&list, Shape::of(&list)), written(&list));
+        }
+    }
+
+    /// The refusal of a network, if it is refused.
+    fn refusal(list: &[u64]) -> Option<(u64, u64, u64)> {
+        let refused = write_network_by(&LANDED, list, ROOM).err();
+        refused.map(|r| (r.number, r.place, r.second))
+    }
+
+    /// Of both editions old and new amounts miss by one; in edition 2 also by `rate` alone, by `next`
+    /// alone, and with both changed over.
+    #[test]
+    fn near_misses_of_networks() {
+        let mut rng = Rng::new(12);
+        let mut seen = [0; 7];
+        for _ in 0..4000 {
+            let list = network(&mut rng);
+            let shape = Shape::of(&list);
+            let off = off_rate(&mut rng, list.clone());
+            let changed: Vec<usize> = (0..list.len()).filter(|&i| list[i] != off[i]).collect();
+            let is_rate = |at| (0..shape.flows).any(|f| shape.rate(f) == at);
+            let by_one = changed.iter().all(|&at| list[at].abs_diff(off[at]) == 1);
+            match (shape.edition, refusal(&off), &changed[..]) {
+                (1, Some((4, _, 0)), _) if by_one => seen[0] += 1,
+                (1, Some((4, _, 1)), _) if by_one => seen[1] += 1,
+                (2, Some((4, _, 0)), &[at]) if by_one && is_rate(at) => seen[2] += 1,
+                (2, Some((4, _, 0)), &[_]) if by_one => seen[3] += 1,
+                (2, Some((4, _, 1)), &[at]) if by_one && at < shape.tunnel(0) => seen[4] += 1,
+                (2, Some((4, _, 1)), &[_]) if by_one => seen[5] += 1,
+                (2, Some((4, _, 0)), &[_, _]) => seen[6] += 1,
+                _ => {}
+            }
+        }
+        assert!(seen.iter().all(|&count| count > 30), "{seen:?}");
+    }
+
+    /// Lists with two numbers a flow in edition 2 and three in edition 1, and with no edition.
+    #[test]
+    fn other_editions() {
+        let mut rng = Rng::new(13);
+        let mut seen = [0; 4];
+        for _ in 0..1000 {
+            let list = network(&mut rng);
+            let off = off_edition(&mut rng, list.clone());
+            assert_eq!(off[1..], list[1..]);
+            let refusal = refusal(&off);
+            match (list[0], off[0]) {
+                (1, 2) => seen[0] += 1,
+                (2, 1) => seen[1] += 1,
+                (_, 0 | 3) => seen[2] += 1,
+                _ => seen[3] += 1,
+            }
+            if edition_of_list(&off).is_none() {
+                assert_eq!(refusal, Some((2, 1, 0)));
+            } else if list[4] > 0 {
+                assert!(matches!(refusal, Some((2 | 3, 8.., 0))), "{off:?}");
+            }
+        }
+        assert!(seen.iter().all(|&count| count > 30), "{seen:?}");
+    }
+
+    /// Sums in a listed row at either end of the two rates are taken, and beside it meet 6; of both
+    /// editions, and in edition 2 where the ends are apart.
+    #[test]
+    fn rows_at_the_ends() {
+        let mut rng = Rng::new(14);
+        let mut seen = [[0; 4]; 3];
+        for _ in 0..6000 {
+            let network = network(&mut rng);
+            let shape = Shape::of(&network);
+            let plan = at_an_end(&mut rng, &network);
+            let (parts, tunnels) = (plan[1], shape.tunnels);
+            let mut outside = false;
+            for (f, row) in
+                (0..shape.flows).flat_map(|f| (1..plan[2] as usize).map(move |r| (f, r)))
+            {
+                let of_flow = |&t: &usize| network[shape.tunnel(t)] as usize == f;
+                let at = |t: usize| plan[4 + (row - 1) * tunnels + t];
+                let sum: u64 = (0..tunnels).filter(of_flow).map(at).sum();
+                let (rate, next) = (network[shape.rate(f)], network[shape.next(f)]);
+                let (least, most) = (parts * rate.min(next), parts * rate.max(next));
+                let kind = match shape.edition {
+                    1 => 0,
+                    _ if rate == next => 1,
+                    _ => 2,
+                };
+                if sum + 1 == least {
+                    seen[kind][0] += 1;
+                } else if sum == most + 1 {
+                    seen[kind][3] += 1;
+                }
+                seen[kind][1] += u64::from(sum == least);
+                seen[kind][2] += u64::from(sum == most);
+                outside |= sum < least || sum > most;
+            }
+            let six = match check_plan_by(&LANDED, &network, &plan, ROOM) {
+                Checked::Refused { refusal, .. } => refusal.number == 6,
+                Checked::Accepted { .. } => false,
+            };
+            assert_eq!(six, outside, "{network:?} {plan:?}");
+        }
+        for counts in seen {
+            assert!(counts.iter().all(|&count| count > 30), "{seen:?}");
+        }
+    }
 
     /// The lines are those of the writer.
     #[test]

@@ -27,7 +27,7 @@ mod desks;
 pub use desks::{Accepted, Desks, Handed};
 
 /// No valid network's list has more numbers.
-pub const NETWORK_NUMBERS: usize = 6 + 64 + 2 * 32 + 4 * 96;
+pub const NETWORK_NUMBERS: usize = 6 + 64 + 3 * 32 + 4 * 96;
 
 /// No valid plan's list has more numbers.
 pub const PLAN_NUMBERS: usize = 4 + 49 * 96;
