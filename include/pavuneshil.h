@@ -15,6 +15,9 @@
  * line feed, the # among them, at most 32 in a text, anywhere. Lists have none, what is written has none, and a rules text
  * has none.
  *
+ * A network's first number, net, is its edition. In edition 1 a flow has two numbers, class and rate; in edition 2 a third,
+ * next, the rate that it has after the move. Edition 1 is read as if next equalled rate, and its list has no number for it.
+ *
  * The answer is four numbers (the step bound and the desks have other values after PAVUNESHIL_DONE; see there):
  *   { PAVUNESHIL_DONE,    length, 0, 0 }              done; length items of the output were written
  *   { PAVUNESHIL_PLAN,    length, 0, 0 }              a plan; length numbers were written
@@ -24,9 +27,10 @@
  *   1   line not in its form                    line                         0 network, 1 plan, 2 rules
  *   2   value outside its range                 line                         0 network, 1 plan, 2 rules
  *   3   a line is missing, or is too many       first such line              0 network, 1 plan, 2 rules
- *   4   a flow's amounts miss its rate          flow                         0 old, 1 new
+ *   4   old amounts miss a flow's rate          flow                         0
+ *       new amounts miss its next rate          flow                         1
  *   5   plan has another `tunnels`              4                            1
- *   6   a row misses parts x rate               row                          flow
+ *   6   a row's sum is not between the rates    row                          flow
  *   7   protected overload                      step                         link
  *   8   overload of all classes                 step                         link
  *   9   no even plan of 1 to 50 steps fits      where the 50-step plan first overloads: step, link
@@ -40,7 +44,9 @@
  *       demand out of range                     first such service           0
  *
  * A longer remark, a 33rd one, or one that the text's end cuts meets 1. In a text, lines count remarks; of a list, a number's
- * position stands for its line.
+ * position stands for its line. A net other than 1 and 2 meets 2. A flow without tunnels whose rate or next is not 0 meets 4.
+ * A row that a plan lists meets 6 where a flow's amounts add up to less than parts x the lesser of its two rates, or to more
+ * than parts x the greater; in edition 1 the two are the same.
  * Lines, steps, stages and services count from 1, rows, links, switches, flows, tunnels and desks from 0. After a refusal
  * everything lent is left as it was, except the marks after 7 and 8. Output beyond the written length is never touched.
  */
@@ -60,7 +66,7 @@ extern "C" {
 #define PAVUNESHIL_REFUSED 2
 
 /* No valid input needs more room than this. */
-#define PAVUNESHIL_NETWORK_NUMBERS 518 /* the list of a network */
+#define PAVUNESHIL_NETWORK_NUMBERS 550 /* the list of a network */
 #define PAVUNESHIL_PLAN_NUMBERS 4708   /* the list of a plan */
 #define PAVUNESHIL_RULES_NUMBERS 260   /* the list of rule tables */
 #define PAVUNESHIL_TEXT_BYTES 65536    /* any text, with its remarks */

@@ -11,6 +11,10 @@
 //! up to 80 bytes before its line feed, at most 32 in a text, anywhere. Lists, written texts and
 //! rules texts have none.
 //!
+//! A network's first number is its edition. In edition 1 a flow has a class and a rate; in edition 2
+//! also the rate that it has after the move, `next`. Edition 1 is read as if `next` equalled `rate`,
+//! and its list has no number for it.
+//!
 //! ```
 //! use pavuneshil::{make_plan, Answer};
 //! // one link of 15 Mbit/s, no flows, no tunnels
@@ -26,7 +30,7 @@ mod desks;
 
 pub use desks::{Accepted, Desks, Handed};
 
-/// No valid network's list has more numbers.
+/// No valid network's list, of either edition, has more numbers.
 pub const NETWORK_NUMBERS: usize = 6 + 64 + 3 * 32 + 4 * 96;
 
 /// No valid plan's list has more numbers.
@@ -54,11 +58,12 @@ pub const SERVICES: usize = 16;
 #[derive(Debug, Clone, Copy, PartialEq, Eq, Hash)]
 pub struct Refusal {
     /// 1 line not in its form, 2 value outside its range, 3 a line missing or too many,
-    /// 4 amounts that miss a flow's rate, 5 another number of tunnels, 6 a row that misses
-    /// parts × rate, 7 protected overload, 8 overload of all classes, 9 no even plan of 1 to 50
-    /// steps, 10 lent output too short, 12 no such desk, 13 four jobs of the desk wait already,
-    /// 14 hand-out with nothing waiting, 18 a set of rules that does not fit, 21 count of services,
-    /// rate or demand out of range.
+    /// 4 old amounts that miss a flow's rate or new ones its next rate, 5 another number of
+    /// tunnels, 6 a row in which a flow's sum is not between parts × the lesser and parts × the
+    /// greater of its two rates, 7 protected overload, 8 overload of all classes, 9 no even plan
+    /// of 1 to 50 steps, 10 lent output too short, 12 no such desk, 13 four jobs of the desk wait
+    /// already, 14 hand-out with nothing waiting, 18 a set of rules that does not fit, 21 count of
+    /// services, rate or demand out of range.
     pub number: u64,
     /// The line, in a text counted with the remarks; the flow, row or step; the length needed for 10;
     /// the desk for 12 and 13; 0 for 14; the switch for 18; for 21 the first service, counted from 1,

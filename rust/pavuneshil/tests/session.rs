@@ -51,6 +51,46 @@ fn session_in_full() {
     assert_eq!(printed[..length], text[..]);
 }
 
+/// Edition 2: a flow that grows from 10 to 20 and one that shrinks from 20 to 10, on a link of 35.
+#[test]
+fn rates_that_change() {
+    let text = b"net=2\nscratch=100\noverrun=0\nlinks=1\nflows=2\ntunnels=2\ncap=35\n\
+        class=0\nrate=10\nnext=20\nclass=0\nrate=20\nnext=10\n\
+        flow=0\nvia=0000000000000001\nold=10\nnew=20\n\
+        flow=1\nvia=0000000000000001\nold=20\nnew=10\n";
+    let mut network = [0; NETWORK_NUMBERS];
+    assert_eq!(read_network(text, &mut network), Answer::Done(21));
+    let network = &mut network[..21];
+    let list = [
+        2, 100, 0, 1, 2, 2, 35, 0, 10, 20, 0, 20, 10, 0, 1, 10, 20, 1, 1, 20, 10,
+    ];
+    assert_eq!(network, list);
+    let mut plan = [0; PLAN_NUMBERS];
+    assert_eq!(make_plan(network, &mut plan), Answer::Plan(6));
+    assert_eq!(plan[..6], [1, 2, 2, 2, 30, 30]);
+    let mut marks = [7; 2];
+    assert_eq!(check_plan(network, &plan[..6], &mut marks), Answer::Done(2));
+    assert_eq!(marks, [0, 0]);
+    let mut printed = [0; TEXT_BYTES];
+    assert_eq!(
+        write_network(network, &mut printed),
+        Answer::Done(text.len())
+    );
+    assert_eq!(printed[..text.len()], text[..]);
+    // in two parts either flow has 20 to 40 in a row
+    let mut marks = [7; 2];
+    for (row, refusal) in [([19, 30], refused(6, 1, 0)), ([30, 41], refused(6, 1, 1))] {
+        let plan = [1, 2, 2, 2, row[0], row[1]];
+        assert_eq!(check_plan(network, &plan, &mut marks), refusal);
+    }
+    assert_eq!(marks, [7, 7]);
+    // flow 1 misses its next rate, and there is no edition 3
+    network[12] = 11;
+    assert_eq!(make_plan(network, &mut plan), refused(4, 1, 1));
+    network[0] = 3;
+    assert_eq!(make_plan(network, &mut plan), refused(2, 1, 0));
+}
+
 #[test]
 fn edges() {
     for (scratch, steps) in [(500, 1), (334, 2), (333, 3), (100, 9), (20, 49)] {
