@@ -1,7 +1,5 @@
 -- What the parts of the checker come to. No promise of the product cites these.
-use Prim.Native.Nat.{ℕ, _*_, _≤_, _<_}
-use mathlib.Core.Path.{_≡_}
-use mathlib.Core.Logic.{_≢_}
+use Prim.Native.Nat.{ℕ, _*_, _≤_, _<_, min, max}
 use lib.ListN.{getD}
 use mathlib.Core.Bool.{Bool, cond}
 use mathlib.Core.List.{List}
@@ -14,11 +12,18 @@ use Rattle.model.specs.Listed.{listed}
 use Rattle.checker.specs.declared.sums.Missed.{Missed}
 use Rattle.checker.specs.declared.sums.Missed.the-variants as missed
 
--- the first flow whose sum is not parts × rate, of the network's flows
-pub record FirstMissed (N : Net) (parts : ℕ) (sums : List ℕ) (r : ℕ) : Type 0 where
-  pub most : r ≤ N .flows
-  pub before : (f : ℕ) → f < r → getD sums f 0 ≡ parts * N .rate f
-  pub here : r < N .flows → getD sums r 0 ≢ parts * N .rate r
+-- what a flow's sum in a row lies between
+abbrev pub lowEnd : Net → ℕ → ℕ → ℕ
+lowEnd N parts f = parts * min (N .rate f) (N .next f)
+
+abbrev pub highEnd : Net → ℕ → ℕ → ℕ
+highEnd N parts f = parts * max (N .rate f) (N .next f)
+
+-- the first of some flows whose sum does not lie between its ends
+pub record FirstMissed (flows : ℕ) (low high sums : List ℕ) (r : ℕ) : Type 0 where
+  pub most : r ≤ flows
+  pub before : (f : ℕ) → f < r → (getD low f 0 ≤ getD sums f 0) × (getD sums f 0 ≤ getD high f 0)
+  pub here : r < flows → getD low r 0 ≤ getD sums r 0 → getD sums r 0 ≤ getD high r 0 → ⊥
 
 abbrev pub missedOf : Option Place → Missed
 missedOf none = missed.Nothing

@@ -1,6 +1,6 @@
-// The sums of a plan's rows: whether each flow's amounts add up to parts × rate.
+// The sums of a plan's rows: whether each flow's lies between parts × the lesser and parts × the greater of its rate and its next.
 ghost use mathlib.Core.Path.{_≡_};
-ghost use Prim.Native.Nat.{suc, _≤_, _<_};
+ghost use Prim.Native.Nat.{suc, _≤_, _<_, min, max};
 ghost use lib.ListN.{length, replicate};
 ghost use Rattle.model.specs.Limits.{mostFlows, mostSteps};
 ghost use Rattle.model.specs.Net;
@@ -9,7 +9,8 @@ ghost use Rattle.judges.specs.Sums.{Gathered};
 ghost use Rattle.lists.specs.Lists.{networkSizes, networkOf, planSizes, planOf};
 ghost use Rattle.lists.specs.Good.{GoodNetwork};
 ghost use Rattle.overloads.specs.Inner.{Checkable};
-ghost use Rattle.checker.specs.Inner.{FirstMissed, missedOf};
+ghost use Rattle.overloads.specs.Columns.{Holds};
+ghost use Rattle.checker.specs.Inner.{lowEnd, highEnd, FirstMissed, missedOf};
 use lists::Network;
 use lists::PlanSizes;
 use overloads::rows;
@@ -36,15 +37,47 @@ fn row_sums(network: &[u64], plan: &[u64], i: usize, sums: &mut [u64])
     }
 }
 
-// The first flow whose sum is not parts × rate; past the last flow, where there is none.
-fn missed_flow(network: &[u64], parts: u64, sums: &[u64]) -> usize
-    requires { ⌜ GoodNetwork (now network) × (parts ≤ mostSteps) × (length (now sums) ≡ mostFlows) ⌝ }
-    ensures { λ r. ⌜ FirstMissed (networkOf (now (network .entry))) parts (now (sums .entry)) r ⌝ }
+fn lesser(x: u64, y: u64) -> u64
+    ensures { λ r. ⌜ r ≡ min x y ⌝ }
+{
+    if x < y { x } else { y }
+}
+
+fn greater(x: u64, y: u64) -> u64
+    ensures { λ r. ⌜ r ≡ max x y ⌝ }
+{
+    if x < y { y } else { x }
+}
+
+// What each flow's sum in a row lies between: parts × the lesser and parts × the greater of its rate and its next. They are made once,
+// and compared with in every row.
+fn ends(network: &[u64], parts: u64, low: &mut [u64], high: &mut [u64])
+    requires { ⌜ GoodNetwork (now network) × (parts ≤ mostSteps) × (mostFlows ≤ length (now low)) × (mostFlows ≤ length (now high)) ⌝ }
+    ensures { λ _. ⌜ Holds (now (low .exit)) (networkSizes (now (network .entry)) .flows) (lowEnd (networkOf (now (network .entry))) parts) ⌝ }
+    ensures { λ _. ⌜ Holds (now (high .exit)) (networkSizes (now (network .entry)) .flows) (highEnd (networkOf (now (network .entry))) parts) ⌝ }
 {
     let sizes = Network::of(network);
     let mut f = 0;
     while f < sizes.flows {
-        if sums[f] != parts * network[sizes.flow_at(f) + Network::RATE] {
+        let rate = network[sizes.flow_at(f) + Network::RATE];
+        let next = network[sizes.next_at(f)];
+        low[f] = parts * lesser(rate, next);
+        high[f] = parts * greater(rate, next);
+        f += 1;
+    }
+}
+
+// The first flow whose sum does not lie between its ends; past the last flow, where there is none.
+fn missed_flow(flows: usize, low: &[u64], high: &[u64], sums: &[u64]) -> usize
+    requires { ⌜ (flows ≤ mostFlows) × (length (now low) ≡ mostFlows) × (length (now high) ≡ mostFlows) × (length (now sums) ≡ mostFlows) ⌝ }
+    ensures { λ r. ⌜ FirstMissed flows (now (low .entry)) (now (high .entry)) (now (sums .entry)) r ⌝ }
+{
+    let mut f = 0;
+    while f < flows {
+        if sums[f] < low[f] {
+            return f;
+        }
+        if high[f] < sums[f] {
             return f;
         }
         f += 1;
@@ -52,8 +85,8 @@ fn missed_flow(network: &[u64], parts: u64, sums: &[u64]) -> usize
     f
 }
 
-// The lowest row that misses parts × rate, and the lowest flow that misses it there. The first and the last row are the
-// network's own amounts, which add up.
+// The lowest row in which a flow's sum does not lie between its ends, and the lowest such flow there. The first and the last row are
+// the network's own amounts, which do.
 pub(crate) fn missed_row(network: &[u64], plan: &[u64]) -> Missed
     requires { ⌜ Checkable (now network) (now plan) ⌝ }
     ensures { λ r. ⌜ r ≡ missedOf (missedRow (networkOf (now (network .entry))) (planOf (now (plan .entry)))) ⌝ }
@@ -62,11 +95,14 @@ pub(crate) fn missed_row(network: &[u64], plan: &[u64]) -> Missed
     let sizes = PlanSizes::of(plan);
     let parts = sizes.parts;
     let steps = sizes.steps;
+    let mut low = [0u64; FLOWS];
+    let mut high = [0u64; FLOWS];
+    ends(network, parts, &mut low, &mut high);
     let mut a = 1;
     while a < steps {
         let mut sums = [0u64; FLOWS];
         row_sums(network, plan, a - 1, &mut sums);
-        let f = missed_flow(network, parts, &sums);
+        let f = missed_flow(flows, &low, &high, &sums);
         if f < flows {
             return Missed::At(a, f);
         }

@@ -8,7 +8,7 @@ use Rattle.model.specs.Outcome.{Outcome, good, refused, malformed, outOfRange, 
 use Rattle.model.specs.Sum.{sumOver}
 use Rattle.model.specs.Search.{onlyIf, first}
 use Rattle.model.specs.Rule as rule
-use Rattle.lists.specs.Lists.{networkOf, networkSizes, linkAt, flowAt, tunnelAt}
+use Rattle.lists.specs.Lists.{headSize, perLink, perFlow, networkOf, networkSizes, linkAt, flowAt, nextAt, tunnelAt}
 use Rattle.forms.specs.Bytes.{bytes}
 use Rattle.forms.specs.Line.{lines, onFirst, fits, plain, valuePart, beforeFeed, digitOf, numberFrom, decimalOf, hexOf}
 use Rattle.forms.specs.Form.{fieldOf, networkBody, rulesBody}
@@ -36,33 +36,33 @@ network : List ℕ
 network = 1 ∷ 333 ∷ 0 ∷ 2 ∷ 2 ∷ 4 ∷ 15 ∷ 15 ∷ 0 ∷ 10 ∷ 0 ∷ 10 ∷ 0 ∷ 1 ∷ 10 ∷ 0 ∷ 0 ∷ 2 ∷ 0 ∷ 10 ∷ 1 ∷ 2 ∷ 10 ∷ 0 ∷ 1 ∷ 1 ∷ 0 ∷ 10 ∷ []
 
 reads : readNetwork session ≡ good network
-unfolding network session readLines walk numberIn firstBad plain flatMap lines onFirst valuePart beforeFeed digitOf numberFrom decimalOf hexOf fieldOf networkBody networkSizes linkAt flowAt tunnelAt addUp networkOf rule.missedRate rule.missedBy rule.flowSum sumOver onlyIf orElse first Option·elim
+unfolding network session readLines walk numberIn firstBad plain flatMap lines onFirst valuePart beforeFeed digitOf numberFrom decimalOf hexOf fieldOf networkBody headSize perLink perFlow networkSizes linkAt flowAt nextAt tunnelAt addUp networkOf rule.missedRate rule.missedBy rule.flowSum sumOver onlyIf orElse first Option·elim
 reads = refl
 
 writes : render Network network ≡ session
-unfolding network session render renderFrom digitsIn widthOf widthFrom fieldOf networkBody networkSizes linkAt flowAt tunnelAt
+unfolding network session render renderFrom digitsIn widthOf widthFrom fieldOf networkBody headSize perLink perFlow networkSizes linkAt flowAt tunnelAt
 writes = refl
 
 -- "Empty network text: 3 at line 1. `cap=007`: 1. `cap=10000001`: 2."
 empty-text : readNetwork [] ≡ refused missing 1 0
-unfolding readLines walk numberIn firstBad plain flatMap lines fieldOf networkBody networkSizes linkAt flowAt tunnelAt
+unfolding readLines walk numberIn firstBad plain flatMap lines fieldOf networkBody headSize perLink perFlow networkSizes linkAt flowAt tunnelAt
 empty-text = refl
 
 leading-zero : readNetwork (head ++ bytes "cap=007\n") ≡ refused malformed 7 0
-unfolding readLines walk numberIn firstBad plain flatMap lines onFirst valuePart beforeFeed digitOf numberFrom decimalOf hexOf fieldOf networkBody networkSizes linkAt flowAt tunnelAt Option·elim
+unfolding readLines walk numberIn firstBad plain flatMap lines onFirst valuePart beforeFeed digitOf numberFrom decimalOf hexOf fieldOf networkBody headSize perLink perFlow networkSizes linkAt flowAt tunnelAt Option·elim
 leading-zero = refl
 
 large-cap : readNetwork (head ++ bytes "cap=10000001\n") ≡ refused outOfRange 7 0
-unfolding readLines walk numberIn firstBad plain flatMap lines onFirst valuePart beforeFeed digitOf numberFrom decimalOf hexOf fieldOf networkBody networkSizes linkAt flowAt tunnelAt Option·elim
+unfolding readLines walk numberIn firstBad plain flatMap lines onFirst valuePart beforeFeed digitOf numberFrom decimalOf hexOf fieldOf networkBody headSize perLink perFlow networkSizes linkAt flowAt tunnelAt Option·elim
 large-cap = refl
 
 wrong-key : readNetwork (head ++ bytes "cup=7\n") ≡ refused malformed 7 0
-unfolding readLines walk numberIn firstBad plain flatMap lines onFirst valuePart beforeFeed digitOf numberFrom decimalOf hexOf fieldOf networkBody networkSizes linkAt flowAt tunnelAt Option·elim
+unfolding readLines walk numberIn firstBad plain flatMap lines onFirst valuePart beforeFeed digitOf numberFrom decimalOf hexOf fieldOf networkBody headSize perLink perFlow networkSizes linkAt flowAt tunnelAt Option·elim
 wrong-key = refl
 
 -- `flow` when `flows` is 0
 no-flow : readNetwork (bytes "net=1\nscratch=20\noverrun=20\nlinks=1\nflows=0\ntunnels=1\ncap=0\nflow=0\n") ≡ refused outOfRange 8 0
-unfolding readLines walk numberIn firstBad plain flatMap lines onFirst valuePart beforeFeed digitOf numberFrom decimalOf hexOf fieldOf networkBody networkSizes linkAt flowAt tunnelAt Option·elim
+unfolding readLines walk numberIn firstBad plain flatMap lines onFirst valuePart beforeFeed digitOf numberFrom decimalOf hexOf fieldOf networkBody headSize perLink perFlow networkSizes linkAt flowAt tunnelAt Option·elim
 no-flow = refl
 
 -- a missing last line feed, and bytes after the last line
@@ -76,7 +76,7 @@ more-bytes = refl
 
 -- a flow's new amounts miss its rate
 missed-new : readNetwork (bytes "net=1\nscratch=20\noverrun=0\nlinks=1\nflows=1\ntunnels=1\ncap=0\nclass=2\nrate=5\nflow=0\nvia=0000000000000001\nold=5\nnew=4\n") ≡ refused missedRate 0 1
-unfolding readLines walk numberIn firstBad plain flatMap lines onFirst valuePart beforeFeed digitOf numberFrom decimalOf hexOf fieldOf networkBody networkSizes linkAt flowAt tunnelAt addUp networkOf rule.missedRate rule.missedBy rule.flowSum sumOver onlyIf orElse first Option·elim
+unfolding readLines walk numberIn firstBad plain flatMap lines onFirst valuePart beforeFeed digitOf numberFrom decimalOf hexOf fieldOf networkBody headSize perLink perFlow networkSizes linkAt flowAt nextAt tunnelAt addUp networkOf rule.missedRate rule.missedBy rule.flowSum sumOver onlyIf orElse first Option·elim
 missed-new = refl
 
 -- ---- remarks

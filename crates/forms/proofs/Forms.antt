@@ -2,6 +2,7 @@
 use mathlib.Core.Path.{_≡_, refl, ap, subst, _∙_}
 use mathlib.Core.Bool.{Bool, true, false, cond, _&&_, _||_, not, true≢false, false≢true}
 use mathlib.Core.List.{List, [], _∷_, _++_}
+use mathlib.Core.Logic.{⊎-elim}
 use Prim.Native.Nat.{ℕ, zero, suc, _+_, _*_, _-_, _/_, _%_, _^_, _≤_, _<_}
 use native.Mathlib.Nat.{le-of-lt, mul-le-mul, lt-of-lt-of-le, div-eq-of-lt, div-eq-sub-div}
 use native.Mathlib.Decide.{decLt}
@@ -11,16 +12,16 @@ use lib.Pow.{pow-mono, pow-pos}
 use lib.ListN.{length, getD, take, length-append, List·getD-append}
 use lib.Seq.{take-take, getD-take, length-take-le, take-append-le, take-append-seam, getD-append-seam}
 use borrow.Author.Tests.{ne-eqb, lt-ltb, le-ltb, le-leb}
-use Rattle.model.proofs.Searches.{both}
-use Rattle.model.specs.Limits.{mostLinks, mostFlows, mostTunnels, mostSteps, mostAmount, mostShare, mostSwitches, mostRoom}
-use Rattle.lists.specs.Lists.{at, networkSizes, linkAt, flowAt, tunnelAt, networkSize, planSizes, planSize, tableSizes, roomAt, ruleAt, tablesSize, mostPlan, mostNumbers}
+use Rattle.model.proofs.Searches.{both, bool-cases}
+use Rattle.model.specs.Limits.{mostLinks, mostFlows, mostTunnels, mostSteps, mostAmount, newestEdition, mostShare, mostSwitches, mostRoom}
+use Rattle.lists.specs.Lists.{at, hasNext, headSize, perLink, perFlow, networkSizes, linkAt, flowAt, tunnelAt, networkSize, planSizes, planSize, tableSizes, roomAt, ruleAt, tablesSize, mostPlan, mostNumbers}
 use Rattle.lists.specs.Good.{Limited, StandsAt}
 use Rattle.lists.specs.declared.Position.{Position}
 use Rattle.lists.specs.declared.Position.the-variants as position
 use Rattle.lists.specs.declared.Network as counts
 use Rattle.lists.specs.declared.PlanSizes.{PlanSizes}
 use Rattle.lists.specs.declared.RuleTables.{RuleTables}
-use Rattle.lists.proofs.Positions.{link-at, flow-at, tunnel-at, flows-follow, tunnels-follow, head-size, head-most, most-network, most-in-all}
+use Rattle.lists.proofs.Positions.{before-end, in-group, link-some, flow-pos, link-at, flow-at, tunnel-at, flows-start, tunnels-start, head-size, head-most, most-network, most-in-all}
 use Rattle.forms.specs.Form.{line, planBody, isHex, admitsOf, Sound, allows, fieldOf, networkLines, flowLines, tunnelLines, planLines, rulesLines, ruleLines, networkBody, rulesBody, mostOf}
 use Rattle.forms.specs.declared.form.Form.{Form}
 use Rattle.forms.specs.declared.form.Form.the-variants.{Network, Plan, Rules}
@@ -81,21 +82,32 @@ sound-more form l v s t i h = go (decLt i (length l))
 
 -- ---- the network's fields
 
-module _ (n : counts.Network) where
-  pub body-cap : (k : ℕ) → k < n .links → networkBody n (linkAt n k) ≡ line "cap=" (Between 0 mostAmount)
-  unfolding networkBody
-  body-cap k h = rw (lt-ltb (linkAt n k) (flowAt n 0) (omega (arith, link-at n k, link-at n (n .links), flows-follow n)))
+-- a head and a flow have as many lines as numbers
+pub head-lines : (n : counts.Network) → linkAt n 0 ≡ length networkLines
+unfolding headSize
+head-lines n = head-size n
 
-  pub body-flow : (f j : ℕ) → f < n .flows → j < length flowLines → networkBody n (flowAt n f + j) ≡ getD flowLines j End
+pub flow-lines : (edition : ℕ) → length (flowLines edition) ≡ perFlow edition
+unfolding perFlow
+flow-lines edition = ⊎-elim (λ e. rw e refl) (λ e. rw e refl) (bool-cases (hasNext edition))
+
+module _ (n : counts.Network) where
+  pub body-cap : (k j : ℕ) → k < n .links → j < perLink (n .edition) → networkBody n (linkAt n k + j) ≡ line "cap=" (Between 0 mostAmount)
+  unfolding networkBody
+  body-cap k j h g =
+      rw (lt-ltb (linkAt n k + j) (flowAt n 0) (omega (arith, link-at n k, before-end _ (link-some (n .edition)) k (n .links) j h g, flows-start n)))
+
+  pub body-flow : (f j : ℕ) → f < n .flows → j < perFlow (n .edition) → networkBody n (flowAt n f + j) ≡ getD (flowLines (n .edition)) j End
   unfolding networkBody
   body-flow f j h k =
       let x : flowAt n 0 ≤ flowAt n f + j = omega (arith, flow-at n f) in
-      let y : flowAt n f + j < tunnelAt n 0 = omega (arith, flow-at n f, flow-at n (n .flows), tunnels-follow n) in
-      let z : (flowAt n f + j - flowAt n 0) % length flowLines ≡ j = omega (arith, flow-at n f) in
+      let y : flowAt n f + j < tunnelAt n 0 = omega (arith, flow-at n f, before-end _ (flow-pos (n .edition)) f (n .flows) j h k, tunnels-start n) in
+      let i : flowAt n f + j - flowAt n 0 ≡ perFlow (n .edition) * f + j = omega (arith, flow-at n f) in
+      let z : (flowAt n f + j - flowAt n 0) % length (flowLines (n .edition)) ≡ j = rw (flow-lines (n .edition), i) (in-group _ (flow-pos (n .edition)) f j k) in
       rw (le-ltb (flowAt n f + j) (flowAt n 0) x, lt-ltb (flowAt n f + j) (tunnelAt n 0) y, z)
 
   flows-before : flowAt n 0 ≤ tunnelAt n 0
-  flows-before = omega (arith, flow-at n (n .flows), tunnels-follow n)
+  flows-before = omega (arith, tunnels-start n)
 
   pub body-tunnel : (t j : ℕ) → t < n .tunnels → j < length (tunnelLines n) → networkBody n (tunnelAt n t + j) ≡ getD (tunnelLines n) j End
   unfolding networkBody
@@ -115,10 +127,10 @@ module _ (n : counts.Network) where
 
   -- by what stands at a position
   module _ (i : ℕ) (r : Position) (s : StandsAt n i r) where
-    pub stands-link : (k : ℕ) → r ≡ position.Link k → networkBody n i ≡ line "cap=" (Between 0 mostAmount)
-    stands-link k e = let p = subst (StandsAt n i) e s in ap (networkBody n) (p .1) ∙ body-cap k (p .0)
+    pub stands-link : (k j : ℕ) → r ≡ position.Link k j → networkBody n i ≡ line "cap=" (Between 0 mostAmount)
+    stands-link k j e = let p = subst (StandsAt n i) e s in ap (networkBody n) (p .2) ∙ body-cap k j (p .0) (p .1)
 
-    pub stands-flow : (f j : ℕ) → r ≡ position.Flow f j → networkBody n i ≡ getD flowLines j End
+    pub stands-flow : (f j : ℕ) → r ≡ position.Flow f j → networkBody n i ≡ getD (flowLines (n .edition)) j End
     stands-flow f j e = let p = subst (StandsAt n i) e s in ap (networkBody n) (p .2) ∙ body-flow f j (p .0) (p .1)
 
     pub stands-tunnel : (t j : ℕ) → r ≡ position.Tunnel t j → networkBody n i ≡ getD (tunnelLines n) j End
@@ -130,8 +142,8 @@ module _ (n : counts.Network) where
 -- the field at an index of a list, in the head and after it
 module _ (l : List ℕ) (i : ℕ) (h : i ≤ length l) where
   sizes-kept : length networkLines ≤ i → networkSizes (take i l) ≡ networkSizes l
-  unfolding networkSizes
-  sizes-kept k = rw (getD-take i l 3 0 (omega arith), getD-take i l 4 0 (omega arith), getD-take i l 5 0 (omega arith)) refl
+  unfolding networkSizes headSize
+  sizes-kept k = rw (getD-take i l 0 0 (omega arith), getD-take i l 3 0 (omega arith), getD-take i l 4 0 (omega arith), getD-take i l 5 0 (omega arith)) refl
 
   pub network-head-field : i < length networkLines → fieldOf Network (take i l) ≡ getD networkLines i End
   unfolding fieldOf
@@ -167,7 +179,7 @@ module _ (l : List ℕ) (s : Sound Network l) where
 
 -- what the lines of a head say of the counts
 pub limited : (l : List ℕ) → ((i : ℕ) → i < length networkLines → T (allows (getD networkLines i End) (at l i))) → (1 ≤ networkSizes l .links) × Limited (networkSizes l)
-unfolding networkSizes
+unfolding networkSizes headSize
 limited l t =
     let k = between 1 mostLinks (at l 3) (t 3 (omega arith)) in
     (k .0, record { links = k .1; flows = between 0 mostFlows (at l 4) (t 4 (omega arith)) .1; tunnels = between 0 mostTunnels (at l 5) (t 5 (omega arith)) .1 })
@@ -243,7 +255,7 @@ full : (form : Form) (l : List ℕ) → Sound form l → mostOf form ≤ length 
 unfolding fieldOf
 full Network l s h =
     let n = networkSizes l in
-    let w : length networkLines ≤ length l = omega (arith, head-size n, head-most n) in
+    let w : length networkLines ≤ length l = omega (arith, head-lines n, head-most n) in
     rw (le-ltb (length l) (length networkLines) w) (body-end n (length l) (omega (arith, most-network n (head-of-network l s w))))
 full Plan l s h =
     let b = head-of-plan l s (omega arith) in
@@ -297,11 +309,14 @@ low-at (f ∷ fs) (suc n) p = low-at fs n (p .1)
 lit : (n : ℕ) → T (leb n (mostAmount * mostSteps)) → n ≤ mostAmount * mostSteps
 lit n t = leb→le n (mostAmount * mostSteps) t
 
+low-flow : (edition : ℕ) → Lows (flowLines edition)
+low-flow edition = (lit 2 tt, (lit mostAmount tt, ⊎-elim (λ e. rw e (lit mostAmount tt, tt)) (λ e. rw e tt) (bool-cases (hasNext edition))))
+
 low-body : (n : counts.Network) (i : ℕ) → Limited n → Low (networkBody n i)
 unfolding networkBody
 low-body n i h =
     low-cond (ltb i (flowAt n 0)) (line "cap=" (Between 0 mostAmount)) _ (lit mostAmount tt)
-    (low-cond (ltb i (tunnelAt n 0)) (getD flowLines ((i - flowAt n 0) % 2) End) _ (low-at flowLines ((i - flowAt n 0) % 2) (lit 2 tt, (lit mostAmount tt, tt)))
+    (low-cond (ltb i (tunnelAt n 0)) (getD (flowLines (n .edition)) ((i - flowAt n 0) % length (flowLines (n .edition))) End) _ (low-at (flowLines (n .edition)) ((i - flowAt n 0) % length (flowLines (n .edition))) (low-flow (n .edition)))
     (low-cond (ltb i (networkSize n)) (getD (tunnelLines n) ((i - tunnelAt n 0) % 4) End) End
     (low-at (tunnelLines n) ((i - tunnelAt n 0) % 4) (omega arith, (h .links, (lit mostAmount tt, (lit mostAmount tt, tt))))) tt))
 
@@ -318,7 +333,7 @@ low-field Network l s = go (decLt (length l) (length networkLines))
     go : Dec (length l < length networkLines) → Low (fieldOf Network l)
     go (yes h) =
         rw (lt-ltb (length l) (length networkLines) h)
-        (low-at networkLines (length l) (lit 1 tt, (lit mostShare tt, (lit mostShare tt, (lit mostLinks tt, (lit mostFlows tt, (lit mostTunnels tt, tt)))))))
+        (low-at networkLines (length l) (lit newestEdition tt, (lit mostShare tt, (lit mostShare tt, (lit mostLinks tt, (lit mostFlows tt, (lit mostTunnels tt, tt)))))))
     go (no h) =
         let k : length networkLines ≤ length l = omega arith in
         rw (le-ltb (length l) (length networkLines) k) (low-body (networkSizes l) (length l) (head-of-network l s k))

@@ -2,7 +2,7 @@
 use mathlib.Core.Path.{_≡_, refl, sym, _∙_}
 use mathlib.Core.Bool.{Bool, true, false, cond, _&&_, _||_, not}
 use mathlib.Core.List.{List, [], _∷_}
-use mathlib.Core.Logic.{_⊎_, inl, inr}
+use mathlib.Core.Logic.{_⊎_, inl, inr, ⊎-elim}
 use mathlib.Core.Option.{Option, none, some}
 use Prim.Native.Nat.{ℕ, zero, suc, _+_, _*_, _-_, _^_, _≤_, _<_}
 use native.Mathlib.Nat.{le-of-lt}
@@ -11,14 +11,14 @@ use native.Mathlib.Omega.{arith}
 use lib.Dec.{T, eqb, leb, ltb, ltb→lt, eqb·suc-zero}
 use lib.ListN.{length, getD, take}
 use borrow.Author.Tests.{lt-ltb, le-ltb, ne-eqb}
-use Rattle.model.specs.Limits.{mostTunnels, mostSteps, mostAmount, leastShare, mostShare}
+use Rattle.model.specs.Limits.{mostTunnels, mostSteps, mostAmount, newestEdition, leastShare, mostShare}
 use Rattle.model.specs.Outcome.{good, Cause, unless, Place}
 use Rattle.model.specs.Rule as rule
 use Rattle.model.specs.Claim.{Valid}
-use Rattle.lists.specs.Lists.{at, networkSizes, linkAt, flowAt, tunnelAt, networkSize, networkOf, planSizes, planSize}
+use Rattle.lists.specs.Lists.{at, hasNext, perLink, perFlow, networkSizes, linkAt, flowAt, nextAt, tunnelAt, networkSize, networkOf, planSizes, planSize}
 use Rattle.lists.specs.Good.{NetworkRanges, GoodNetwork, GoodPlan}
 use Rattle.lists.specs.declared.Network as counts
-use Rattle.lists.proofs.Positions.{head-size, link-after, flow-after, tunnel-after, each-number, link-in, flow-in, tunnel-in}
+use Rattle.lists.proofs.Positions.{link-some, flow-some, link-after, flow-after, tunnel-after, each-number, link-in, flow-in, tunnel-in}
 use Rattle.forms.specs.Keys.{keys, placeIn}
 use Rattle.forms.specs.Form.{line, planBody, Sound, Whole, allows, fieldOf, networkLines, flowLines, tunnelLines, planLines, networkBody}
 use Rattle.forms.specs.Read.{addUp}
@@ -26,8 +26,8 @@ use Rattle.forms.specs.declared.form.Form.the-variants.{Network, Plan}
 use Rattle.forms.specs.declared.form.Range.the-variants.{Between}
 use Rattle.forms.specs.declared.form.Field.{Field}
 use Rattle.forms.specs.declared.form.Field.the-variants.{Line, End}
-use Rattle.model.proofs.Searches.{both}
-use Rattle.forms.proofs.Forms.{between, in-between, network-head-at, network-body-at, plan-head-at, plan-body-at, limited, body-cap, body-flow, body-tunnel, body-end, plan-head-field, plan-body-field}
+use Rattle.model.proofs.Searches.{both, bool-cases}
+use Rattle.forms.proofs.Forms.{between, in-between, head-lines, flow-lines, network-head-at, network-body-at, plan-head-at, plan-body-at, limited, body-cap, body-flow, body-tunnel, body-end, plan-head-field, plan-body-field}
 use Rattle.forms.proofs.Walks.{judged-good, good-judged}
 use Rattle.forms.specs.Named.{judgeNetwork, judgePlan}
 
@@ -65,6 +65,14 @@ zero-or-in low high (suc v) t = inr (between low high (suc v) (rw (eqb·suc-zero
 
 -- ---- the network
 
+all-flow : (edition : ℕ) → AllLines (flowLines edition)
+all-flow edition = (tt, (tt, ⊎-elim (λ e. rw e (tt, tt)) (λ e. rw e tt) (bool-cases (hasNext edition))))
+
+-- the last of a flow's lines is that of an amount, whether or not there is a `next`
+pub last-line : (edition : ℕ) → allows (getD (flowLines edition) (perFlow edition - 1) End) ≡ allows (line "rate=" (Between 0 mostAmount))
+unfolding perFlow
+last-line edition = ⊎-elim (λ e. rw e refl) (λ e. rw e refl) (bool-cases (hasNext edition))
+
 module _ (n : counts.Network) where
   -- where the form has an end, it is past the last number
   body-ends : (i : ℕ) → linkAt n 0 ≤ i → networkBody n i ≡ End → networkSize n ≤ i
@@ -73,8 +81,8 @@ module _ (n : counts.Network) where
       go : Dec (i < networkSize n) → networkSize n ≤ i
       go (yes k) =
           absurd (each-number n (λ m. networkBody n m ≡ End → ⊥)
-          (λ l k x. let z : _≡_ {A = ℕ} 0 1 = cc (body-cap n l k) in omega arith)
-          (λ f j k g x. lines-no-end flowLines j (tt, (tt, tt)) g (sym (body-flow n f j k g) ∙ x))
+          (λ l j k g x. let z : _≡_ {A = ℕ} 0 1 = cc (body-cap n l j k g) in omega arith)
+          (λ f j k g x. lines-no-end (flowLines (n .edition)) j (all-flow (n .edition)) (omega (arith, flow-lines (n .edition))) (sym (body-flow n f j k g) ∙ x))
           (λ t j k g x. lines-no-end (tunnelLines n) j (tt, (tt, (tt, (tt, tt)))) g (sym (body-tunnel n t j k g) ∙ x)) i h k e)
       go (no k) = omega arith
 
@@ -103,18 +111,23 @@ module _ (l : List ℕ) (w : Whole Network l) where
       go : Dec (networkSize sizes < length l) → length l ≡ networkSize sizes
       go (yes h) =
           let e : networkBody sizes (networkSize sizes) ≡ End = body-end sizes (networkSize sizes) (omega arith) in
-          absurd (rw e at (network-body-at l (w .sound) (networkSize sizes) h (omega (arith, head-size sizes, tunnel-after sizes (sizes .tunnels)))))
-      go (no h) = omega (arith, body-ends sizes (length l) (omega (arith, head-size sizes, network-long)) network-body-ends)
+          absurd (rw e at (network-body-at l (w .sound) (networkSize sizes) h (omega (arith, head-lines sizes, tunnel-after sizes (sizes .tunnels)))))
+      go (no h) = omega (arith, body-ends sizes (length l) (omega (arith, head-lines sizes, network-long)) network-body-ends)
 
   body-line : (i : ℕ) → linkAt sizes 0 ≤ i → i < length l → T (allows (networkBody sizes i) (at l i))
-  body-line i h k = network-body-at l (w .sound) i k (omega (arith, head-size sizes))
+  body-line i h k = network-body-at l (w .sound) i k (omega (arith, head-lines sizes))
 
   cap-line : (k : ℕ) → k < sizes .links → T (allows (line "cap=" (Between 0 mostAmount)) (at l (linkAt sizes k)))
-  cap-line k h = rw (body-cap sizes k h) at (body-line (linkAt sizes k) (link-after sizes k) (link-in l network-size k h))
+  cap-line k h =
+      let e : linkAt sizes k + 0 ≡ linkAt sizes k = omega arith in
+      rw (rw e at (body-cap sizes k 0 h (link-some (sizes .edition)))) at (body-line (linkAt sizes k) (link-after sizes k) (link-in l network-size k h))
 
-  flow-line : (f j : ℕ) → f < sizes .flows → j < length flowLines → T (allows (getD flowLines j End) (at l (flowAt sizes f + j)))
-  flow-line f j h k =
-      rw (body-flow sizes f j h k) at (body-line (flowAt sizes f + j) (omega (arith, flow-after sizes f)) (omega (arith, flow-in l network-size f h)))
+  flow-line : (f j : ℕ) → f < sizes .flows → j < perFlow (sizes .edition) → T (allows (getD (flowLines (sizes .edition)) j End) (at l (flowAt sizes f + j)))
+  flow-line f j h k = rw (body-flow sizes f j h k) at (body-line (flowAt sizes f + j) (omega (arith, flow-after sizes f)) (flow-in l network-size f j h k))
+
+  next-line : (f : ℕ) → f < sizes .flows → at l (nextAt sizes f) ≤ mostAmount
+  unfolding nextAt
+  next-line f h = between 0 mostAmount _ (rw (last-line (sizes .edition)) at (flow-line f (perFlow (sizes .edition) - 1) h (omega (arith, flow-some (sizes .edition))))) .1
 
   tunnel-line : (t j : ℕ) → t < sizes .tunnels → j < length (tunnelLines sizes) → T (allows (getD (tunnelLines sizes) j End) (at l (tunnelAt sizes t + j)))
   tunnel-line t j h k =
@@ -123,15 +136,16 @@ module _ (l : List ℕ) (w : Whole Network l) where
   pub network-ranges : NetworkRanges l
   network-ranges =
       record {
-        edition = let p = between 1 1 (at l 0) (head-line 0 (omega arith)) in omega arith;
+        edition = between 1 newestEdition (at l 0) (head-line 0 (omega arith));
         scratch = between leastShare mostShare (at l 1) (head-line 1 (omega arith));
         overrun = zero-or-in leastShare mostShare (at l 2) (head-line 2 (omega arith));
         sized = record { counts = limited l head-line .1; size = network-size };
         some = limited l head-line .0;
         links = record { cap = λ k h. between 0 mostAmount _ (cap-line k h) .1 };
         flows = record {
-          class = λ f h. let e : flowAt sizes f + 0 ≡ flowAt sizes f = omega arith in between 0 2 _ (rw e at (flow-line f 0 h (omega arith))) .1;
-          rate = λ f h. between 0 mostAmount _ (flow-line f 1 h (omega arith)) .1;
+          class = λ f h. let e : flowAt sizes f + 0 ≡ flowAt sizes f = omega arith in between 0 2 _ (rw e at (flow-line f 0 h (omega (arith, flow-some (sizes .edition))))) .1;
+          rate = λ f h. between 0 mostAmount _ (flow-line f 1 h (omega (arith, flow-some (sizes .edition)))) .1;
+          next = next-line;
         };
         tunnels = record {
           flow = λ t h. let e : tunnelAt sizes t + 0 ≡ tunnelAt sizes t = omega arith in ltb→lt _ _ (rw e at (tunnel-line t 0 h (omega arith)));

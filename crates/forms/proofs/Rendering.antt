@@ -11,7 +11,7 @@ use lib.Dec.{T, ltb}
 use lib.ListN.{length, getD, take, drop, drop-of-length-le, length-append}
 use lib.Seq.{append-snoc, take-suc, length-take-le}
 use Rattle.model.specs.Limits.{mostAmount}
-use Rattle.lists.specs.Lists.{linkAt, flowAt, tunnelAt, planSizes, planSize, mostNetwork, mostPlan, mostNumbers, at}
+use Rattle.lists.specs.Lists.{headSize, perLink, perFlow, linkAt, flowAt, tunnelAt, planSizes, planSize, mostNetwork, mostPlan, mostNumbers, at}
 use Rattle.forms.specs.Keys.{prefixOf, keys, placeIn}
 use Rattle.forms.specs.Form.{isHex, line, fieldOf, allows, Sound, Whole, mostOf}
 use Rattle.forms.specs.Line.{mostInRemark, mostRemarks}
@@ -149,7 +149,7 @@ unfolding render
 few-lines form l h s = omega (arith, sound-length form l s, any-lines form l)
 
 few-numbers : mostNetwork * 27 ≤ mostPlain
-unfolding mostNetwork linkAt flowAt tunnelAt
+unfolding mostNetwork headSize perLink perFlow linkAt flowAt tunnelAt
 few-numbers = omega arith
 
 pub render-plain : (form : Form) (l : List ℕ) → Sound form l → length (render form l) ≤ mostPlain

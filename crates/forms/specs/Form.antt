@@ -5,8 +5,8 @@ use mathlib.Core.Path.{_≡_}
 use mathlib.Core.List.{List, [], _∷_}
 use lib.ListN.{length, getD, take}
 use lib.Dec.{T, eqb, leb, ltb}
-use Rattle.model.specs.Limits.{mostLinks, mostFlows, mostTunnels, mostSteps, mostAmount, leastShare, mostShare, mostSwitches, mostRoom}
-use Rattle.lists.specs.Lists.{networkSizes, flowAt, tunnelAt, planSizes, tableSizes, ruleAt, tablesSize, mostNetwork, mostPlan, mostTables, rowAt}
+use Rattle.model.specs.Limits.{mostLinks, mostFlows, mostTunnels, mostSteps, mostAmount, newestEdition, leastShare, mostShare, mostSwitches, mostRoom}
+use Rattle.lists.specs.Lists.{hasNext, networkSizes, flowAt, tunnelAt, planSizes, tableSizes, ruleAt, tablesSize, mostNetwork, mostPlan, mostTables, rowAt}
 use Rattle.lists.specs.declared.Network.{Network}
 use Rattle.lists.specs.declared.PlanSizes.{PlanSizes}
 use Rattle.lists.specs.declared.RuleTables.{RuleTables}
@@ -52,16 +52,16 @@ isHex (Set n) = true
 abbrev pub line : String → Range → Field
 line key range = Line (placeIn keys key) range
 
--- "`net` 1; `scratch` 20..500; `overrun` 0 or 20..500; `links` 1..64; `flows` 0..32; `tunnels` 0..96"
+-- "`net` 1", since the second paper also 2; "`scratch` 20..500; `overrun` 0 or 20..500; `links` 1..64; `flows` 0..32; `tunnels` 0..96"
 abbrev pub networkLines : List Field
 networkLines =
-    line "net=" (Between 1 1)
+    line "net=" (Between 1 newestEdition)
     ∷ line "scratch=" (Between leastShare mostShare) ∷ line "overrun=" (ZeroOr leastShare mostShare)
     ∷ line "links=" (Between 1 mostLinks) ∷ line "flows=" (Between 0 mostFlows) ∷ line "tunnels=" (Between 0 mostTunnels) ∷ []
 
--- "for each flow: `class` 0 interactive, 1 elastic, 2 background; `rate` 0..10,000,000"
-abbrev pub flowLines : List Field
-flowLines = line "class=" (Between 0 2) ∷ line "rate=" (Between 0 mostAmount) ∷ []
+-- "for each flow: `class` 0 interactive, 1 elastic, 2 background; `rate` 0..10,000,000", which "is followed by `next`, with the same range", where there is one
+abbrev pub flowLines : ℕ → List Field
+flowLines edition = line "class=" (Between 0 2) ∷ line "rate=" (Between 0 mostAmount) ∷ cond (hasNext edition) (line "next=" (Between 0 mostAmount) ∷ []) []
 
 -- "for each tunnel: `flow` 0..flows-1; `via` ..; `old` and `new`, each 0..10,000,000"
 abbrev pub tunnelLines : Network → List Field
@@ -72,7 +72,7 @@ tunnelLines n =
 unfoldable pub networkBody : Network → ℕ → Field
 networkBody n i =
     cond (ltb i (flowAt n 0)) (line "cap=" (Between 0 mostAmount))
-    (cond (ltb i (tunnelAt n 0)) (getD flowLines ((i - flowAt n 0) % length flowLines) End)
+    (cond (ltb i (tunnelAt n 0)) (getD (flowLines (n .edition)) ((i - flowAt n 0) % length (flowLines (n .edition))) End)
     (cond (ltb i (tunnelAt n (n .tunnels))) (getD (tunnelLines n) ((i - tunnelAt n 0) % length (tunnelLines n)) End) End))
 
 -- "`plan` 1; `parts` 1..50; `steps` 1..50; `tunnels` 0..96"

@@ -82,16 +82,18 @@ const ROOM: usize = 20;
 
 const KIND: usize = 21;
 
+const NEXT: usize = 22;
+
 // The keys' bytes with `=`, each in 10 bytes, of which the last says how many the key has.
-pub const KEYS: [u8; 220] =
-    *b"net=\0\0\0\0\0\x04scratch=\0\x08overrun=\0\x08links=\0\0\0\x06flows=\0\0\0\x06tunnels=\0\x08cap=\0\0\0\0\0\x04class=\0\0\0\x06rate=\0\0\0\0\x05flow=\0\0\0\0\x05via=\0\0\0\0\0\x04old=\0\0\0\0\0\x04new=\0\0\0\0\0\x04plan=\0\0\0\0\x05parts=\0\0\0\x06steps=\0\0\0\x06at=\0\0\0\0\0\0\x03rules=\0\0\0\x06slack=\0\0\0\x06switches=\x09room=\0\0\0\0\x05kind=\0\0\0\0\x05";
+pub const KEYS: [u8; 230] =
+    *b"net=\0\0\0\0\0\x04scratch=\0\x08overrun=\0\x08links=\0\0\0\x06flows=\0\0\0\x06tunnels=\0\x08cap=\0\0\0\0\0\x04class=\0\0\0\x06rate=\0\0\0\0\x05flow=\0\0\0\0\x05via=\0\0\0\0\0\x04old=\0\0\0\0\0\x04new=\0\0\0\0\0\x04plan=\0\0\0\0\x05parts=\0\0\0\x06steps=\0\0\0\x06at=\0\0\0\0\0\0\x03rules=\0\0\0\x06slack=\0\0\0\x06switches=\x09room=\0\0\0\0\x05kind=\0\0\0\0\x05next=\0\0\0\0\x05";
 
 // What stands before a value, the key and `=`: a part of the table of keys, which the caller has copied once.
 pub fn key_part<'a>(keys: &'a [u8], key: usize) -> &'a [u8]
     requires { ⌜ now keys ≡ keyBytes ⌝ }
     ensures { λ r. ⌜ now r ≡ prefixOf key ⌝ }
 {
-    if key < 22 {
+    if key < 23 {
         let from = key * 10;
         let to = from + keys[from + 9] as usize;
         &keys[from..to]
@@ -127,7 +129,7 @@ pub fn network_head(n: usize) -> Field
     ensures { λ r. ⌜ r ≡ getD networkLines n Field.End ⌝ }
 {
     match n {
-        0 => Field::Line(NET, Range::Between(1, 1)),
+        0 => Field::Line(NET, Range::Between(1, Network::EDITION)),
         1 => Field::Line(
             SCRATCH,
             Range::Between(Network::SHARE_LOW, Network::SHARE_HIGH),
@@ -143,12 +145,19 @@ pub fn network_head(n: usize) -> Field
     }
 }
 
-fn flow_group(n: usize) -> Field
-    ensures { λ r. ⌜ r ≡ getD flowLines n Field.End ⌝ }
+fn flow_group(sizes: Network, n: usize) -> Field
+    ensures { λ r. ⌜ r ≡ getD (flowLines (sizes .edition)) n Field.End ⌝ }
 {
     match n {
         0 => Field::Line(CLASS, Range::Between(0, 2)),
         1 => Field::Line(RATE, Range::Between(0, Network::AMOUNT)),
+        2 => {
+            if sizes.has_next() {
+                Field::Line(NEXT, Range::Between(0, Network::AMOUNT))
+            } else {
+                Field::End
+            }
+        }
         _ => Field::End,
     }
 }
@@ -170,8 +179,8 @@ fn network_body(sizes: Network, i: usize) -> Field
     ensures { λ r. ⌜ r ≡ networkBody sizes i ⌝ }
 {
     match sizes.position(i) {
-        Position::Link(_) => Field::Line(CAP, Range::Between(0, Network::AMOUNT)),
-        Position::Flow(_, j) => flow_group(j),
+        Position::Link(_, _) => Field::Line(CAP, Range::Between(0, Network::AMOUNT)),
+        Position::Flow(_, j) => flow_group(sizes, j),
         Position::Tunnel(_, j) => tunnel_group(sizes, j),
         Position::Past => Field::End,
     }

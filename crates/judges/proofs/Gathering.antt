@@ -63,20 +63,20 @@ module _ (N : Net) (x : ℕ → ℕ) where
   unfolding flowSum
   gathered-all s f g h = g .sums f h
 
--- ---- the first sum that misses its rate
+-- ---- the first sum that misses its rate or its next
 
 module _ (N : Net) (f : ℕ) where
   pub miss-old : (flowSum N (N .old) f ≡ N .rate f → ⊥) → missedBy N f ≡ some (record { place = f; second = 0 })
   unfolding missedBy onlyIf orElse
   miss-old e = rw (ne-eqb (flowSum N (N .old) f) (N .rate f) e)
 
-  pub miss-new : flowSum N (N .old) f ≡ N .rate f → (flowSum N (N .new) f ≡ N .rate f → ⊥) → missedBy N f ≡ some (record { place = f; second = 1 })
+  pub miss-new : flowSum N (N .old) f ≡ N .rate f → (flowSum N (N .new) f ≡ N .next f → ⊥) → missedBy N f ≡ some (record { place = f; second = 1 })
   unfolding missedBy onlyIf orElse
-  miss-new e k = rw (eq-eqb (flowSum N (N .old) f) (N .rate f) e, ne-eqb (flowSum N (N .new) f) (N .rate f) k)
+  miss-new e k = rw (eq-eqb (flowSum N (N .old) f) (N .rate f) e, ne-eqb (flowSum N (N .new) f) (N .next f) k)
 
-  pub miss-none : flowSum N (N .old) f ≡ N .rate f → flowSum N (N .new) f ≡ N .rate f → missedBy N f ≡ none
+  pub miss-none : flowSum N (N .old) f ≡ N .rate f → flowSum N (N .new) f ≡ N .next f → missedBy N f ≡ none
   unfolding missedBy onlyIf orElse
-  miss-none e k = rw (eq-eqb (flowSum N (N .old) f) (N .rate f) e, eq-eqb (flowSum N (N .new) f) (N .rate f) k)
+  miss-none e k = rw (eq-eqb (flowSum N (N .old) f) (N .rate f) e, eq-eqb (flowSum N (N .new) f) (N .next f) k)
 
 module _ (l : List ℕ) where
   pub missed-at : (f : ℕ) (p : Place) → first f (missedBy (networkOf l)) ≡ none → missedBy (networkOf l) f ≡ some p → f < networkOf l .flows

@@ -11,9 +11,9 @@ use lib.Dec.{T, ltb}
 use lib.ListN.{length, getD, take}
 use borrow.Author.Tests.{lt-ltb, le-ltb}
 use Rattle.model.specs.Limits.{mostAmount}
-use Rattle.lists.specs.Lists.{at, networkSizes, linkAt, flowAt, tunnelAt, networkSize}
+use Rattle.lists.specs.Lists.{at, perLink, perFlow, networkSizes, linkAt, flowAt, nextAt, tunnelAt, networkSize}
 use Rattle.lists.specs.declared.Network as counts
-use Rattle.lists.proofs.Positions.{tunnel-after, head-size, each-number}
+use Rattle.lists.proofs.Positions.{flow-most, tunnel-after, each-number}
 use Rattle.forms.specs.Form.{line, Sound, Whole, allows, admitsOf, fieldOf, networkLines, networkBody, flowLines, tunnelLines}
 use Rattle.lists.specs.Good.{LinksIn, FlowsIn, TunnelsIn}
 use Rattle.judges.specs.Ranges.{Decides, headLines, HeadIn}
@@ -21,8 +21,8 @@ use Rattle.forms.specs.declared.form.Form.{Form}
 use Rattle.forms.specs.declared.form.Form.the-variants.{Network}
 use Rattle.forms.specs.declared.form.Range.the-variants.{Between, Set}
 use Rattle.forms.specs.declared.form.Field.the-variants.{Line, End}
-use Rattle.forms.proofs.Forms.{in-between, body-cap, body-flow, body-tunnel, body-end, network-head-field, network-body-field, network-head-at}
-use Rattle.forms.proofs.Good.{network-ranges, set-in, in-set}
+use Rattle.forms.proofs.Forms.{in-between, head-lines, body-cap, body-flow, body-tunnel, body-end, network-head-field, network-body-field, network-head-at}
+use Rattle.forms.proofs.Good.{network-ranges, last-line, set-in, in-set}
 use Rattle.forms.specs.declared.form.Field.{Field}
 use Rattle.forms.specs.declared.form.Range.{Range}
 
@@ -87,13 +87,15 @@ module _ (l : List ℕ) where
   links-more n h c = record { cap = one-more (λ k. at l (linkAt (networkSizes l) k) ≤ mostAmount) n (h .cap) c }
 
   pub flows-none : FlowsIn l 0
-  flows-none = record { class = λ f h. absurd (omega arith); rate = λ f h. absurd (omega arith) }
+  flows-none = record { class = λ f h. absurd (omega arith); rate = λ f h. absurd (omega arith); next = λ f h. absurd (omega arith) }
 
-  pub flows-more : (n : ℕ) → FlowsIn l n → at l (flowAt (networkSizes l) n) ≤ 2 → at l (flowAt (networkSizes l) n + 1) ≤ mostAmount → FlowsIn l (n + 1)
-  flows-more n h c r =
+  pub flows-more : (n : ℕ) → FlowsIn l n → at l (flowAt (networkSizes l) n) ≤ 2 → at l (flowAt (networkSizes l) n + 1) ≤ mostAmount
+      → at l (nextAt (networkSizes l) n) ≤ mostAmount → FlowsIn l (n + 1)
+  flows-more n h c r x =
       record {
         class = one-more (λ f. at l (flowAt (networkSizes l) f) ≤ 2) n (h .class) c;
         rate = one-more (λ f. at l (flowAt (networkSizes l) f + 1) ≤ mostAmount) n (h .rate) r;
+        next = one-more (λ f. at l (nextAt (networkSizes l) f) ≤ mostAmount) n (h .next) x;
       }
 
   pub tunnels-none : TunnelsIn l 0
@@ -126,13 +128,21 @@ module _ (l : List ℕ) (r : InRange l) where
   at-first : (P : ℕ → Type 0) (i : ℕ) → P (at l i) → P (at l (i + 0))
   at-first P i p = let e : i + 0 ≡ i = omega arith in subst⁻¹ (λ (k : ℕ). P (at l k)) e p
 
-  cap-in : (k : ℕ) → k < sizes .links → T (allows (line "cap=" (Between 0 mostAmount)) (at l (linkAt sizes k)))
-  cap-in k h = in-between 0 mostAmount _ (omega arith) (r .links .cap k h)
+  cap-in : (k j : ℕ) → k < sizes .links → j < perLink (sizes .edition) → T (allows (line "cap=" (Between 0 mostAmount)) (at l (linkAt sizes k + j)))
+  unfolding perLink
+  cap-in k zero h g = at-first (λ v. T (allows (line "cap=" (Between 0 mostAmount)) v)) (linkAt sizes k) (in-between 0 mostAmount _ (omega arith) (r .links .cap k h))
+  cap-in k (suc j) h g = absurd (omega arith)
 
-  flow-in : (f j : ℕ) → f < sizes .flows → j < 2 → T (allows (getD flowLines j End) (at l (flowAt sizes f + j)))
-  flow-in f zero h k = at-first (λ v. T (allows (getD flowLines 0 End) v)) (flowAt sizes f) (in-between 0 2 _ (omega arith) (r .flows .class f h))
+  -- a flow has its class and its rate, and past them only its next
+  flow-in : (f j : ℕ) → f < sizes .flows → j < perFlow (sizes .edition) → T (allows (getD (flowLines (sizes .edition)) j End) (at l (flowAt sizes f + j)))
+  unfolding nextAt
+  flow-in f zero h k = at-first (λ v. T (allows (line "class=" (Between 0 2)) v)) (flowAt sizes f) (in-between 0 2 _ (omega arith) (r .flows .class f h))
   flow-in f (suc zero) h k = in-between 0 mostAmount _ (omega arith) (r .flows .rate f h)
-  flow-in f (suc (suc j)) h k = absurd (omega arith)
+  flow-in f (suc (suc j)) h k =
+      let e : perFlow (sizes .edition) - 1 ≡ suc (suc j) = omega (arith, flow-most (sizes .edition)) in
+      let last : T (allows (getD (flowLines (sizes .edition)) (perFlow (sizes .edition) - 1) End) (at l (flowAt sizes f + (perFlow (sizes .edition) - 1))))
+      = rw (last-line (sizes .edition)) (in-between 0 mostAmount _ (omega arith) (r .flows .next f h)) in
+      rw e at last
 
   tunnel-in : (t j : ℕ) → t < sizes .tunnels → j < 4 → T (allows (getD (tunnelLines sizes) j End) (at l (tunnelAt sizes t + j)))
   tunnel-in t zero h k = at-first (λ v. T (ltb v (sizes .flows))) (tunnelAt sizes t) (rw (lt-ltb _ _ (r .tunnels .flow t h)) tt)
@@ -144,18 +154,18 @@ module _ (l : List ℕ) (r : InRange l) where
   body-in : (i : ℕ) → linkAt sizes 0 ≤ i → i < networkSize sizes → T (allows (networkBody sizes i) (at l i))
   body-in =
       each-number sizes (λ i. T (allows (networkBody sizes i) (at l i)))
-      (λ k h. rw (body-cap sizes k h) (cap-in k h))
+      (λ k j h g. rw (body-cap sizes k j h g) (cap-in k j h g))
       (λ f j h k. rw (body-flow sizes f j h k) (flow-in f j h k))
       (λ t j h k. rw (body-tunnel sizes t j h k) (tunnel-in t j h k))
 
   in-sound : (i : ℕ) → i < length l → Dec (i < length networkLines) → T (allows (fieldOf Network (take i l)) (at l i))
   in-sound i h (yes k) = rw (network-head-field l i (le-of-lt h) k) (r .head .each i k)
-  in-sound i h (no k) = rw (network-body-field l i (le-of-lt h) (omega arith)) (body-in i (omega (arith, head-size sizes)) (omega (arith, r .size)))
+  in-sound i h (no k) = rw (network-body-field l i (le-of-lt h) (omega arith)) (body-in i (omega (arith, head-lines sizes)) (omega (arith, r .size)))
 
   ends : fieldOf Network l ≡ End
   unfolding fieldOf
   ends =
-      let long : length networkLines ≤ length l = omega (arith, r .size, head-size sizes, tunnel-after sizes (sizes .tunnels)) in
+      let long : length networkLines ≤ length l = omega (arith, r .size, head-lines sizes, tunnel-after sizes (sizes .tunnels)) in
       rw (le-ltb (length l) (length networkLines) long) (body-end sizes (length l) (omega (arith, r .size)))
 
   pub in-range-whole : Whole Network l
@@ -168,7 +178,7 @@ whole-in-range l w =
     let r = network-ranges l w in
     let n = networkSizes l in
     record {
-      head = record { each = λ i h. network-head-at l (w .sound) i (omega (arith, r .sized .size, head-size n, tunnel-after n (n .tunnels))) h };
+      head = record { each = λ i h. network-head-at l (w .sound) i (omega (arith, r .sized .size, head-lines n, tunnel-after n (n .tunnels))) h };
       size = r .sized .size;
       links = r .links;
       flows = r .flows;

@@ -74,6 +74,10 @@ fn flows_in(list: &[u64], sizes: Network) -> bool
         if Network::AMOUNT < list[at + Network::RATE] {
             return false;
         }
+        let next = sizes.next_at(f);
+        if Network::AMOUNT < list[next] {
+            return false;
+        }
         f += 1;
     }
     true

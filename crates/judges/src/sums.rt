@@ -1,4 +1,4 @@
-// The sums of a network: whether each flow's old amounts, and its new ones, add up to its rate.
+// The sums of a network: whether each flow's old amounts add up to its rate, and its new ones to its next.
 ghost use mathlib.Core.Path.{_≡_};
 ghost use Prim.Native.Nat.{_+_, _<_, _^_};
 ghost use lib.ListN.{length, getD, set, replicate};
@@ -40,7 +40,7 @@ fn gather(list: &[u64], old: &mut [u64], new: &mut [u64])
     }
 }
 
-// The first sum that misses its flow's rate: lowest flow, old before new.
+// The first sum that misses its flow's rate or next: lowest flow, old before new.
 fn first_missed(list: &[u64], old: &[u64], new: &[u64]) -> Answer
     requires { ⌜ NetworkRanges (now list) ⌝ }
     requires { ⌜ Gathered (networkOf (now list)) (networkOf (now list) .old) (networkOf (now list) .tunnels) (now old) ⌝ }
@@ -51,6 +51,7 @@ fn first_missed(list: &[u64], old: &[u64], new: &[u64]) -> Answer
     let mut f: usize = 0;
     while f < sizes.flows {
         let rate = list[sizes.flow_at(f) + Network::RATE];
+        let next = list[sizes.next_at(f)];
         if old[f] != rate {
             return Answer::Refused {
                 number: 4,
@@ -58,7 +59,7 @@ fn first_missed(list: &[u64], old: &[u64], new: &[u64]) -> Answer
                 second: 0,
             };
         }
-        if new[f] != rate {
+        if new[f] != next {
             return Answer::Refused {
                 number: 4,
                 place: f as u64,

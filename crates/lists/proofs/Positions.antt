@@ -1,30 +1,113 @@
 -- Laws of the positions of a network's numbers, and of a plan's.
 use Prim.Native.Nat.{ℕ, _+_, _*_, _-_, _/_, _%_, _≤_, _<_}
 use mathlib.Core.Path.{_≡_, refl, ap, subst, subst⁻¹, _∙_}
+use mathlib.Core.Bool.{true, false}
+use mathlib.Core.Logic.{⊎-elim}
 use mathlib.Core.List.{List}
 use native.Mathlib.Decide.{decLt}
-use native.Mathlib.Nat.{mul-le-mul, mul-le-mul-right}
+use native.Mathlib.Nat.{mul-le-mul, mul-le-mul-left, mul-le-mul-right, mod-lt, mod-eq-of-lt, mul-add-mod-self-right, div-add-mod', div-lt-iff-lt-mul}
 use native.Mathlib.Omega.{arith}
 use lib.ListN.{length}
 use Rattle.model.specs.Limits.{mostSteps}
+use Rattle.model.proofs.Searches.{bool-cases}
 use Rattle.lists.specs.declared.Network.{Network}
-use Rattle.lists.specs.Lists.{networkSizes, linkAt, flowAt, tunnelAt, networkSize, planSizes, rowAt, mostNetwork, mostPlan, mostNumbers}
-use Rattle.lists.specs.Good.{Limited, Sized, GoodPlan}
+use Rattle.lists.specs.declared.Position.the-variants.{Link, Flow, Tunnel}
+use Rattle.lists.specs.Lists.{hasNext, headSize, perLink, perFlow, networkSizes, linkAt, flowAt, nextAt, tunnelAt, networkSize, planSizes, rowAt, mostNetwork, mostPlan, mostNumbers}
+use Rattle.lists.specs.Good.{Limited, StandsAt, Sized, GoodPlan}
+
+-- ---- numbers in groups of `per`, one after the other
+
+module _ (per : ℕ) (some : 0 < per) where
+  -- number i, of so many groups from `start` on, is number j of group g
+  pub record Grouped (start count i : ℕ) : Type 0 where
+    pub group : ℕ
+    pub number : ℕ
+    pub there : group < count
+    pub within : number < per
+    pub here : start + per * group + number ≡ i
+
+  pub grouped : (start count i : ℕ) → start ≤ i → i < start + per * count → Grouped start count i
+  grouped start count i h k =
+      let m : ℕ = i - start in
+      let less : m < count * per = omega arith in
+      record {
+        group = m / per;
+        number = m % per;
+        there = div-lt-iff-lt-mul some .1 less;
+        within = mod-lt m some;
+        here = omega (arith, div-add-mod' m per);
+      }
+
+  pub before-end : (g count j : ℕ) → g < count → j < per → per * g + j < per * count
+  before-end g count j h k = omega (arith, mul-le-mul-left per h)
+
+  pub in-group : (g j : ℕ) → j < per → (per * g + j) % per ≡ j
+  in-group g j h =
+      let e : per * g + j ≡ g * per + j = omega arith in
+      ap (λ (m : ℕ). m % per) e ∙ mul-add-mod-self-right g per j ∙ mod-eq-of-lt h
+
+-- ---- how many numbers a link and a flow have, by edition
+
+module _ (edition : ℕ) where
+  pub link-some : 0 < perLink edition
+  unfolding perLink
+  link-some = omega arith
+
+  link-most : perLink edition ≤ 1
+  unfolding perLink
+  link-most = omega arith
+
+  pub flow-some : 2 ≤ perFlow edition
+  unfolding perFlow
+  flow-some = ⊎-elim (λ e. rw e (omega arith)) (λ e. rw e (omega arith)) (bool-cases (hasNext edition))
+
+  pub flow-most : perFlow edition ≤ 3
+  unfolding perFlow
+  flow-most = ⊎-elim (λ e. rw e (omega arith)) (λ e. rw e (omega arith)) (bool-cases (hasNext edition))
+
+  pub flow-pos : 0 < perFlow edition
+  flow-pos = omega (arith, flow-some)
+
+  -- the third number of a flow is its next
+  pub third : 2 < perFlow edition → hasNext edition ≡ true
+  unfolding perFlow
+  third h = ⊎-elim (λ e. e) (λ e. absurd (omega (arith, rw e at h))) (bool-cases (hasNext edition))
+
+  pub with-next : hasNext edition ≡ true → perFlow edition ≡ 3
+  unfolding perFlow
+  with-next e = rw e refl
+
+  pub without-next : hasNext edition ≡ false → perFlow edition ≡ 2
+  unfolding perFlow
+  without-next e = rw e refl
+
+pub most-in-all : mostNetwork ≤ mostNumbers
+unfolding mostNetwork
+most-in-all = omega arith
 
 -- ---- the links' numbers follow the head, the flows' those, and the tunnels' those
 
 module _ (n : Network) where
-  pub link-at : (k : ℕ) → linkAt n k ≡ linkAt n 0 + 1 * k
+  pub link-at : (k : ℕ) → linkAt n k ≡ linkAt n 0 + perLink (n .edition) * k
   unfolding linkAt
   link-at k = omega arith
 
-  pub flow-at : (f : ℕ) → flowAt n f ≡ flowAt n 0 + 2 * f
+  pub flow-at : (f : ℕ) → flowAt n f ≡ flowAt n 0 + perFlow (n .edition) * f
   unfolding flowAt
   flow-at f = omega arith
 
   pub tunnel-at : (t : ℕ) → tunnelAt n t ≡ tunnelAt n 0 + 4 * t
   unfolding tunnelAt
   tunnel-at t = omega arith
+
+  -- the next of flow f is its third number; without a next, its rate is read in its place
+  pub next-at : hasNext (n .edition) ≡ true → (f : ℕ) → nextAt n f ≡ flowAt n f + 2
+  unfolding nextAt
+  next-at e f = rw (with-next (n .edition) e)
+
+  pub rate-again : hasNext (n .edition) ≡ false → (f : ℕ) → nextAt n f ≡ flowAt n f + 1
+  unfolding nextAt
+  rate-again e f = rw (without-next (n .edition) e)
 
   pub flows-follow : flowAt n 0 ≡ linkAt n (n .links)
   unfolding flowAt
@@ -34,86 +117,133 @@ module _ (n : Network) where
   unfolding tunnelAt
   tunnels-follow = omega arith
 
+  -- where the flows' and the tunnels' numbers begin, by how many there are before
+  pub flows-start : flowAt n 0 ≡ linkAt n 0 + perLink (n .edition) * n .links
+  flows-start = omega (arith, flows-follow, link-at (n .links))
+
+  pub tunnels-start : tunnelAt n 0 ≡ flowAt n 0 + perFlow (n .edition) * n .flows
+  tunnels-start = omega (arith, tunnels-follow, flow-at (n .flows))
+
   -- all of them stand after the head
   pub link-after : (k : ℕ) → linkAt n 0 ≤ linkAt n k
-  unfolding linkAt
-  link-after k = omega arith
+  link-after k = omega (arith, link-at k)
 
   pub flow-after : (f : ℕ) → linkAt n 0 ≤ flowAt n f
-  unfolding flowAt linkAt
-  flow-after f = omega arith
+  flow-after f = omega (arith, flow-at f, flows-start)
 
   pub tunnel-after : (t : ℕ) → linkAt n 0 ≤ tunnelAt n t
-  unfolding tunnelAt flowAt linkAt
-  tunnel-after t = omega arith
+  tunnel-after t = omega (arith, tunnel-at t, tunnels-start, flows-start)
 
-  pub head-size : linkAt n 0 ≡ 6
+  pub head-size : linkAt n 0 ≡ headSize (n .edition)
   unfolding linkAt
-  head-size = refl
+  head-size = omega arith
 
-  pub head-most : linkAt n 0 ≤ mostNetwork
-  unfolding linkAt flowAt tunnelAt mostNetwork
-  head-most = omega arith
+  pub head-least : 6 ≤ linkAt n 0
+  unfolding headSize
+  head-least = omega (arith, head-size)
 
   -- no network's list is longer
   pub most-network : Limited n → networkSize n ≤ mostNetwork
-  unfolding linkAt flowAt tunnelAt mostNetwork
-  most-network h = omega arith
+  unfolding mostNetwork headSize
+  most-network h =
+      omega (arith, tunnel-at (n .tunnels), tunnels-start, flows-start, head-size, mul-le-mul (link-most (n .edition)) (h .links), mul-le-mul (flow-most (n .edition)) (h .flows))
 
-pub most-in-all : mostNetwork ≤ mostNumbers
-unfolding linkAt flowAt tunnelAt mostNetwork
-most-in-all = omega arith
+  -- nor is any run of its numbers
+  module _ (h : Limited n) where
+    pub links-few : (k : ℕ) → k ≤ n .links → perLink (n .edition) * k ≤ mostNumbers
+    links-few k less = omega (arith, mul-le-mul (link-most (n .edition)) less, h .links)
+
+    pub flows-few : (f : ℕ) → f ≤ n .flows → perFlow (n .edition) * f ≤ mostNumbers
+    flows-few f less = omega (arith, mul-le-mul (flow-most (n .edition)) less, h .flows)
+
+    pub link-low : (k : ℕ) → k ≤ n .links → linkAt n k ≤ mostNumbers
+    link-low k less = omega (arith, link-at k, mul-le-mul-left (perLink (n .edition)) less, flows-start, tunnels-start, tunnel-at (n .tunnels), most-network h, most-in-all)
+
+    pub flow-low : (f : ℕ) → f ≤ n .flows → flowAt n f ≤ mostNumbers
+    flow-low f less = omega (arith, flow-at f, mul-le-mul-left (perFlow (n .edition)) less, tunnels-start, tunnel-at (n .tunnels), most-network h, most-in-all)
+
+    pub tunnel-low : (t : ℕ) → t ≤ n .tunnels → tunnelAt n t ≤ mostNumbers
+    tunnel-low t less = omega (arith, tunnel-at t, tunnel-at (n .tunnels), most-network h, most-in-all)
+
+  pub head-most : linkAt n 0 ≤ mostNetwork
+  unfolding mostNetwork headSize
+  head-most = omega (arith, head-size)
+
+-- ---- which number stands at i, by how far that is from where the links', the flows' or the tunnels' numbers begin
+
+-- by the code's own `per`
+stands : (per own : ℕ) → per ≡ own → 0 < own → (start : ℕ → ℕ) → ((g : ℕ) → start g ≡ start 0 + own * g) → (count m i : ℕ) → start 0 + m ≡ i → m < per * count
+    → (m / per < count) × (m % per < own) × (i ≡ start (m / per) + m % per)
+stands per own e some start law count m i here less =
+    let pos : 0 < per = omega (arith, e) in
+    let turned : m < count * per = omega arith in (
+      div-lt-iff-lt-mul pos .1 turned,
+      omega (arith, mod-lt m pos, e),
+      omega (arith, law (m / per), div-add-mod' m per, ap (λ (p : ℕ). p * (m / per)) e),
+    )
+
+module _ (n : Network) (per m i : ℕ) where
+  pub link-stands : per ≡ perLink (n .edition) → linkAt n 0 + m ≡ i → m < per * n .links → StandsAt n i (Link (m / per) (m % per))
+  link-stands e here less = stands per _ e (link-some (n .edition)) (linkAt n) (link-at n) (n .links) m i here less
+
+  pub flow-stands : per ≡ perFlow (n .edition) → flowAt n 0 + m ≡ i → m < per * n .flows → StandsAt n i (Flow (m / per) (m % per))
+  flow-stands e here less = stands per _ e (flow-pos (n .edition)) (flowAt n) (flow-at n) (n .flows) m i here less
+
+pub tunnel-stands : (n : Network) (m i : ℕ) → tunnelAt n 0 + m ≡ i → m / 4 < n .tunnels → StandsAt n i (Tunnel (m / 4) (m % 4))
+tunnel-stands n m i here less = (less, omega arith, omega (arith, tunnel-at n (m / 4)))
 
 -- ---- a list is its head, then the links', the flows' and the tunnels' numbers: what holds of each holds after the head
 
-module _ (n : Network) (P : ℕ → Type 0) (link : (k : ℕ) → k < n .links → P (linkAt n k)) (flow : (f j : ℕ) → f < n .flows → j < 2 → P (flowAt n f + j))
-    (tunnel : (t j : ℕ) → t < n .tunnels → j < 4 → P (tunnelAt n t + j)) where
+module _ (n : Network) (P : ℕ → Type 0) (link : (k j : ℕ) → k < n .links → j < perLink (n .edition) → P (linkAt n k + j))
+    (flow : (f j : ℕ) → f < n .flows → j < perFlow (n .edition) → P (flowAt n f + j)) (tunnel : (t j : ℕ) → t < n .tunnels → j < 4 → P (tunnelAt n t + j)) where
   pub each-number : (i : ℕ) → linkAt n 0 ≤ i → i < networkSize n → P i
-  unfolding linkAt flowAt tunnelAt
-  each-number i h k = by-link (decLt (i - 6) (n .links))
+  each-number i h k = by-link (decLt i (flowAt n 0))
     where
-      by-tunnel : 6 + n .links + 2 * n .flows ≤ i → P i
+      by-tunnel : tunnelAt n 0 ≤ i → P i
       by-tunnel g =
-          let m : ℕ = i - (6 + n .links + 2 * n .flows) in
-          let e : 6 + n .links + 2 * n .flows + 4 * (m / 4) + m % 4 ≡ i = omega arith in
-          subst P e (tunnel (m / 4) (m % 4) (omega arith) (omega arith))
+          let x = grouped 4 (omega arith) (tunnelAt n 0) (n .tunnels) i g (omega (arith, tunnel-at n (n .tunnels))) in
+          subst P (omega (arith, x .here, tunnel-at n (x .group))) (tunnel (x .group) (x .number) (x .there) (x .within))
 
-      by-flow : 6 + n .links ≤ i → Dec (i - (6 + n .links) < 2 * n .flows) → P i
+      by-flow : flowAt n 0 ≤ i → Dec (i < tunnelAt n 0) → P i
       by-flow g (yes less) =
-          let m : ℕ = i - (6 + n .links) in
-          let e : 6 + n .links + 2 * (m / 2) + m % 2 ≡ i = omega arith in
-          subst P e (flow (m / 2) (m % 2) (omega arith) (omega arith))
+          let x = grouped (perFlow (n .edition)) (flow-pos (n .edition)) (flowAt n 0) (n .flows) i g (omega (arith, tunnels-start n)) in
+          subst P (omega (arith, x .here, flow-at n (x .group))) (flow (x .group) (x .number) (x .there) (x .within))
       by-flow g (no more) = by-tunnel (omega arith)
 
-      by-link : Dec (i - 6 < n .links) → P i
-      by-link (yes less) = let e : 6 + (i - 6) ≡ i = omega arith in subst P e (link (i - 6) less)
-      by-link (no more) = by-flow (omega arith) (decLt (i - (6 + n .links)) (2 * n .flows))
+      by-link : Dec (i < flowAt n 0) → P i
+      by-link (yes less) =
+          let x = grouped (perLink (n .edition)) (link-some (n .edition)) (linkAt n 0) (n .links) i h (omega (arith, flows-start n)) in
+          subst P (omega (arith, x .here, link-at n (x .group))) (link (x .group) (x .number) (x .there) (x .within))
+      by-link (no more) = by-flow (omega arith) (decLt i (tunnelAt n 0))
 
 -- ---- each number lies in the list
 
 module _ (l : List ℕ) (size : length l ≡ networkSize (networkSizes l)) where
-  pub head-in : linkAt (networkSizes l) 0 ≤ length l
-  unfolding linkAt flowAt tunnelAt
-  head-in = omega arith
+  abbrev sizes : Network
+  sizes = networkSizes l
 
-  pub link-in : (k : ℕ) → k < networkSizes l .links → linkAt (networkSizes l) k < length l
-  unfolding linkAt flowAt tunnelAt
-  link-in k h = omega arith
+  pub head-in : linkAt sizes 0 ≤ length l
+  head-in = omega (arith, size, tunnel-after sizes (sizes .tunnels))
 
-  pub flow-in : (f : ℕ) → f < networkSizes l .flows → flowAt (networkSizes l) f + 1 < length l
-  unfolding linkAt flowAt tunnelAt
-  flow-in f h = omega arith
+  tunnels-in : tunnelAt sizes 0 ≤ length l
+  tunnels-in = omega (arith, size, tunnel-at sizes (sizes .tunnels))
 
-  pub tunnel-in : (t : ℕ) → t < networkSizes l .tunnels → tunnelAt (networkSizes l) t + 3 < length l
-  unfolding linkAt flowAt tunnelAt
-  tunnel-in t h = omega arith
+  pub link-in : (k : ℕ) → k < sizes .links → linkAt sizes k < length l
+  link-in k h =
+      omega (arith, link-at sizes k, before-end _ (link-some (sizes .edition)) k (sizes .links) 0 h (link-some (sizes .edition)), flows-start sizes, tunnels-start sizes, tunnels-in)
+
+  pub flow-in : (f j : ℕ) → f < sizes .flows → j < perFlow (sizes .edition) → flowAt sizes f + j < length l
+  flow-in f j h k = omega (arith, flow-at sizes f, before-end _ (flow-pos (sizes .edition)) f (sizes .flows) j h k, tunnels-start sizes, tunnels-in)
+
+  pub tunnel-in : (t : ℕ) → t < sizes .tunnels → tunnelAt sizes t + 3 < length l
+  tunnel-in t h = omega (arith, size, tunnel-at sizes t, tunnel-at sizes (sizes .tunnels))
 
 pub short : (l : List ℕ) → Sized l → length l ≤ mostNetwork
 short l s = omega (arith, s .size, most-network (networkSizes l) (s .counts))
 
 -- ---- what code knows of a position i that it has from the sizes n of a list
 
--- of link k, of flow f, of tunnel t: `last` is the last of their numbers
+-- of link k, of flow f, of its next, of tunnel t: `last` is the last of the numbers that are read from there on
 pub record Place (l : List ℕ) (start count : Network → ℕ) (last k i : ℕ) : Type 0 where
   pub here : i ≡ start (networkSizes l)
   pub there : k < count (networkSizes l)
@@ -125,6 +255,9 @@ LinkPlace l k i = Place l (λ n. linkAt n k) (λ n. n .links) 0 k i
 
 abbrev pub FlowPlace : List ℕ → ℕ → ℕ → Type 0
 FlowPlace l f i = Place l (λ n. flowAt n f) (λ n. n .flows) 1 f i
+
+abbrev pub NextPlace : List ℕ → ℕ → ℕ → Type 0
+NextPlace l f i = Place l (λ n. nextAt n f) (λ n. n .flows) 0 f i
 
 abbrev pub TunnelPlace : List ℕ → ℕ → ℕ → Type 0
 TunnelPlace l t i = Place l (λ n. tunnelAt n t) (λ n. n .tunnels) 3 t i
@@ -142,7 +275,13 @@ module _ (l : List ℕ) (s : Sized l) (n : Network) (same : n ≡ networkSizes l
   link-place k i h e = place (λ m. linkAt m k) (λ m. m .links) 0 k i h e (λ g. omega (arith, link-in l (s .size) k g))
 
   pub flow-place : (f i : ℕ) → f < n .flows → i ≡ flowAt n f → FlowPlace l f i
-  flow-place f i h e = place (λ m. flowAt m f) (λ m. m .flows) 1 f i h e (flow-in l (s .size) f)
+  flow-place f i h e = place (λ m. flowAt m f) (λ m. m .flows) 1 f i h e (λ g. flow-in l (s .size) f 1 g (flow-some (networkSizes l .edition)))
+
+  pub next-place : (f i : ℕ) → f < n .flows → i ≡ nextAt n f → NextPlace l f i
+  unfolding nextAt
+  next-place f i h e =
+      let last : perFlow (networkSizes l .edition) - 1 < perFlow (networkSizes l .edition) = omega (arith, flow-some (networkSizes l .edition)) in
+      place (λ m. nextAt m f) (λ m. m .flows) 0 f i h e (λ g. omega (arith, flow-in l (s .size) f _ g last))
 
   pub tunnel-place : (t i : ℕ) → t < n .tunnels → i ≡ tunnelAt n t → TunnelPlace l t i
   tunnel-place t i h e = place (λ m. tunnelAt m t) (λ m. m .tunnels) 3 t i h e (tunnel-in l (s .size) t)

@@ -5,12 +5,12 @@ use mathlib.Core.Logic.{_⊎_}
 use mathlib.Core.List.{List}
 use mathlib.Core.Option.{none}
 use lib.ListN.{length}
-use Rattle.model.specs.Limits.{mostLinks, mostFlows, mostTunnels, mostSteps, mostAmount, leastShare, mostShare}
+use Rattle.model.specs.Limits.{mostLinks, mostFlows, mostTunnels, mostSteps, mostAmount, newestEdition, leastShare, mostShare}
 use Rattle.model.specs.Rule.{missedRate}
 use Rattle.lists.specs.declared.Network.{Network}
 use Rattle.lists.specs.declared.Position.{Position}
 use Rattle.lists.specs.declared.Position.the-variants.{Link, Flow, Tunnel, Past}
-use Rattle.lists.specs.Lists.{at, networkSizes, linkAt, flowAt, tunnelAt, networkSize, networkOf, planSizes, rowAt, planSize}
+use Rattle.lists.specs.Lists.{at, perLink, perFlow, networkSizes, linkAt, flowAt, nextAt, tunnelAt, networkSize, networkOf, planSizes, rowAt, planSize}
 
 -- counts within the limits
 pub record Limited (n : Network) : Type 0 where
@@ -20,8 +20,8 @@ pub record Limited (n : Network) : Type 0 where
 
 -- what stands at position i, after the head
 abbrev pub StandsAt : Network → ℕ → Position → Type 0
-StandsAt n i (Link k) = (k < n .links) × (i ≡ linkAt n k)
-StandsAt n i (Flow f j) = (f < n .flows) × (j < 2) × (i ≡ flowAt n f + j)
+StandsAt n i (Link k j) = (k < n .links) × (j < perLink (n .edition)) × (i ≡ linkAt n k + j)
+StandsAt n i (Flow f j) = (f < n .flows) × (j < perFlow (n .edition)) × (i ≡ flowAt n f + j)
 StandsAt n i (Tunnel t j) = (t < n .tunnels) × (j < 4) × (i ≡ tunnelAt n t + j)
 StandsAt n i Past = networkSize n ≤ i
 
@@ -37,6 +37,7 @@ pub record LinksIn (l : List ℕ) (count : ℕ) : Type 0 where
 pub record FlowsIn (l : List ℕ) (count : ℕ) : Type 0 where
   pub class : (f : ℕ) → f < count → at l (flowAt (networkSizes l) f) ≤ 2
   pub rate : (f : ℕ) → f < count → at l (flowAt (networkSizes l) f + 1) ≤ mostAmount
+  pub next : (f : ℕ) → f < count → at l (nextAt (networkSizes l) f) ≤ mostAmount
 
 pub record TunnelsIn (l : List ℕ) (count : ℕ) : Type 0 where
   pub flow : (t : ℕ) → t < count → at l (tunnelAt (networkSizes l) t) < networkSizes l .flows
@@ -46,7 +47,7 @@ pub record TunnelsIn (l : List ℕ) (count : ℕ) : Type 0 where
 
 -- all numbers of a network are
 pub record NetworkRanges (l : List ℕ) : Type 0 where
-  pub edition : at l 0 ≡ 1
+  pub edition : (1 ≤ at l 0) × (at l 0 ≤ newestEdition)
   pub scratch : (leastShare ≤ at l 1) × (at l 1 ≤ mostShare)
   pub overrun : (at l 2 ≡ 0) ⊎ ((leastShare ≤ at l 2) × (at l 2 ≤ mostShare))
   pub sized : Sized l

@@ -1,3 +1,4 @@
 pub mod Lists
 pub mod Good
 pub mod Answers
+pub mod Editions

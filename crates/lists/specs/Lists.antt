@@ -1,8 +1,10 @@
 -- How a list of numbers is seen as a network, as a plan or as rule tables. "Either text is also held as a list of 64-bit numbers, one for each line in line order."
 use Prim.Native.Nat.{ℕ, _+_, _-_, _*_}
+use mathlib.Core.Bool.{Bool, cond}
 use mathlib.Core.List.{List}
+use lib.Dec.{leb}
 use lib.ListN.{getD}
-use Rattle.model.specs.Limits.{mostLinks, mostFlows, mostTunnels, mostSteps, mostSwitches}
+use Rattle.model.specs.Limits.{mostLinks, mostFlows, mostTunnels, mostSteps, newestEdition, mostSwitches}
 use Rattle.model.specs.Net.{Net, Plan}
 use Rattle.lists.specs.declared.Network.{Network}
 use Rattle.lists.specs.declared.PlanSizes.{PlanSizes}
@@ -14,16 +16,34 @@ at l i = getD l i 0
 
 -- ---- a network
 
--- how many links, flows and tunnels it has
-unfoldable pub networkSizes : List ℕ → Network
-networkSizes l = record { links = at l 3; flows = at l 4; tunnels = at l 5 }
+-- "In edition `net=2` each flow's `rate` is followed by `next`"
+abbrev pub hasNext : ℕ → Bool
+hasNext edition = leb 2 edition
 
--- after the head, where the line of link k stands, where the two of flow f begin and the four of tunnel t; and how many lines there are
+-- how many lines there are by edition: in the head, for a link and for a flow
+unfoldable pub headSize : ℕ → ℕ
+headSize edition = 6
+
+unfoldable pub perLink : ℕ → ℕ
+perLink edition = 1
+
+unfoldable pub perFlow : ℕ → ℕ
+perFlow edition = cond (hasNext edition) 3 2
+
+-- its edition, and how many links, flows and tunnels it has: the last numbers of the head
+unfoldable pub networkSizes : List ℕ → Network
+networkSizes l = record { edition = at l 0; links = at l (headSize (at l 0) - 3); flows = at l (headSize (at l 0) - 2); tunnels = at l (headSize (at l 0) - 1) }
+
+-- after the head, where the lines of link k begin, those of flow f and the four of tunnel t; and how many lines there are
 unfoldable pub linkAt : Network → ℕ → ℕ
-linkAt n k = 6 + k
+linkAt n k = headSize (n .edition) + perLink (n .edition) * k
 
 unfoldable pub flowAt : Network → ℕ → ℕ
-flowAt n f = linkAt n (n .links) + 2 * f
+flowAt n f = linkAt n (n .links) + perFlow (n .edition) * f
+
+-- where the `next` of flow f stands, the last of its lines; in edition 1, which is "read as if `next` equalled `rate`", its rate
+unfoldable pub nextAt : Network → ℕ → ℕ
+nextAt n f = flowAt n f + (perFlow (n .edition) - 1)
 
 unfoldable pub tunnelAt : Network → ℕ → ℕ
 tunnelAt n t = flowAt n (n .flows) + 4 * t
@@ -41,6 +61,7 @@ networkOf l = record {
   cap = λ k. at l (linkAt (networkSizes l) k);
   class = λ f. at l (flowAt (networkSizes l) f);
   rate = λ f. at l (flowAt (networkSizes l) f + 1);
+  next = λ f. at l (nextAt (networkSizes l) f);
   flow = λ t. at l (tunnelAt (networkSizes l) t);
   via = λ t. at l (tunnelAt (networkSizes l) t + 1);
   old = λ t. at l (tunnelAt (networkSizes l) t + 2);
@@ -80,8 +101,8 @@ tablesSize n = ruleAt n (n .tunnels)
 -- ---- the longest lists
 
 unfoldable pub mostNetwork : ℕ
-unfolding linkAt flowAt tunnelAt
-mostNetwork = networkSize (record { links = mostLinks; flows = mostFlows; tunnels = mostTunnels })
+unfolding headSize perLink perFlow linkAt flowAt tunnelAt
+mostNetwork = networkSize (record { edition = newestEdition; links = mostLinks; flows = mostFlows; tunnels = mostTunnels })
 
 abbrev pub mostPlan : ℕ
 mostPlan = planSize (record { parts = mostSteps; steps = mostSteps; tunnels = mostTunnels })

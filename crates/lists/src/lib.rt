@@ -5,11 +5,12 @@ ghost use mathlib.Core.Path.{_≡_};
 ghost use Prim.Native.Nat.{_≤_};
 ghost use lib.ListN.{length};
 ghost use Rattle.model.specs.Limits.{mostSteps, mostTunnels, mostSwitches};
-ghost use Rattle.lists.specs.Lists.{networkSizes, linkAt, flowAt, tunnelAt, planSizes, rowAt, tableSizes, roomAt, ruleAt};
+ghost use Rattle.lists.specs.Lists.{hasNext, headSize, perLink, perFlow, networkSizes, linkAt, flowAt, nextAt, tunnelAt, planSizes, rowAt, tableSizes, roomAt, ruleAt};
 ghost use Rattle.lists.specs.Good.{Limited, StandsAt};
 
-// How many links, flows and tunnels a network has.
+// A network's edition, and how many links, flows and tunnels it has.
 pub struct Network {
+    pub edition: u64,
     pub links: usize,
     pub flows: usize,
     pub tunnels: usize,
@@ -27,18 +28,26 @@ impl Network {
     // The largest amount, in Mbit/s.
     pub const AMOUNT: u64 = 10_000_000;
 
+    // The newest edition, and the first in which a flow has its next rate.
+    pub const EDITION: u64 = 2;
+
+    pub const NEXT_SINCE: u64 = 2;
+
     // The least and the largest scratch, and overrun if it is not 0, in thousandths.
     pub const SHARE_LOW: u64 = 20;
 
     pub const SHARE_HIGH: u64 = 500;
 
-    // How many numbers the head has, before those of the links, and which of them is the overrun.
+    // How many numbers the head has, of which the last three are the counts, and which of them is the overrun.
     pub const HEAD: usize = 6;
 
     pub const OVERRUN: usize = 2;
 
-    // How many numbers a flow has, and which of them, after the class, is the rate.
-    pub const PER_FLOW: usize = 2;
+    // How many numbers a link has.
+    pub const PER_LINK: usize = 1;
+
+    // How many numbers a flow has since it has its next rate, which is the last, and which of them, after the class, is the rate.
+    pub const PER_FLOW: usize = 3;
 
     pub const RATE: usize = 1;
 
@@ -53,7 +62,7 @@ impl Network {
 
     // The most numbers that a network's list has.
     pub const NUMBERS: usize = Self::HEAD
-        + Self::LINKS as usize
+        + Self::PER_LINK * Self::LINKS as usize
         + Self::PER_FLOW * Self::FLOWS as usize
         + Self::PER_TUNNEL * Self::TUNNELS as usize;
 
@@ -62,27 +71,70 @@ impl Network {
         requires { ⌜ linkAt (networkSizes (now list)) 0 ≤ length (now list) ⌝ }
         ensures { λ r. ⌜ r ≡ networkSizes (now (list .entry)) ⌝ }
     {
+        let edition = list[0];
+        let head = Self::head(edition);
         Network {
-            links: list[3] as usize,
-            flows: list[4] as usize,
-            tunnels: list[5] as usize,
+            edition,
+            links: list[head - 3] as usize,
+            flows: list[head - 2] as usize,
+            tunnels: list[head - 1] as usize,
         }
     }
 
-    // Where the line of link k stands; past the last link, where those of flow 0 begin.
+    // How many numbers the head has.
+    pub fn head(edition: u64) -> usize
+        ensures { λ r. ⌜ r ≡ headSize edition ⌝ }
+    {
+        Self::HEAD
+    }
+
+    // How many numbers a link has.
+    pub fn per_link(self) -> usize
+        ensures { λ r. ⌜ r ≡ perLink (self .edition) ⌝ }
+    {
+        Self::PER_LINK
+    }
+
+    // Whether a flow's rate is followed by the next.
+    pub fn has_next(self) -> bool
+        ensures { λ r. ⌜ r ≡ hasNext (self .edition) ⌝ }
+    {
+        Self::NEXT_SINCE <= self.edition
+    }
+
+    // How many numbers a flow has.
+    pub fn per_flow(self) -> usize
+        ensures { λ r. ⌜ r ≡ perFlow (self .edition) ⌝ }
+    {
+        if self.has_next() {
+            Self::PER_FLOW
+        } else {
+            Self::PER_FLOW - 1
+        }
+    }
+
+    // Where the lines of link k begin; past the last link, where those of flow 0 begin.
     pub fn link_at(self, k: usize) -> usize
         requires { ⌜ Limited self × (k ≤ self .links) ⌝ }
         ensures { λ r. ⌜ r ≡ linkAt self k ⌝ }
     {
-        Self::HEAD + k
+        Self::head(self.edition) + self.per_link() * k
     }
 
-    // Where the two lines of flow f begin; past the last flow, where those of tunnel 0 begin.
+    // Where the lines of flow f begin; past the last flow, where those of tunnel 0 begin.
     pub fn flow_at(self, f: usize) -> usize
         requires { ⌜ Limited self × (f ≤ self .flows) ⌝ }
         ensures { λ r. ⌜ r ≡ flowAt self f ⌝ }
     {
-        self.link_at(self.links) + Self::PER_FLOW * f
+        self.link_at(self.links) + self.per_flow() * f
+    }
+
+    // Where the next rate of flow f stands; in edition 1, where its rate stands.
+    pub fn next_at(self, f: usize) -> usize
+        requires { ⌜ Limited self × (f ≤ self .flows) ⌝ }
+        ensures { λ r. ⌜ r ≡ nextAt self f ⌝ }
+    {
+        self.flow_at(f) + (self.per_flow() - 1)
     }
 
     // Where the four lines of tunnel t begin; past the last tunnel, how many lines there are.
@@ -98,15 +150,17 @@ impl Network {
         requires { ⌜ Limited self × (linkAt self 0 ≤ i) ⌝ }
         ensures { λ r. ⌜ StandsAt self i r ⌝ }
     {
-        let n = i - Self::HEAD;
-        if n < self.links {
-            return Position::Link(n);
+        let n = i - Self::head(self.edition);
+        let per_link = self.per_link();
+        if n < per_link * self.links {
+            return Position::Link(n / per_link, n % per_link);
         }
-        let m = n - self.links;
-        if m / Self::PER_FLOW < self.flows {
-            return Position::Flow(m / Self::PER_FLOW, m % Self::PER_FLOW);
+        let m = n - per_link * self.links;
+        let per_flow = self.per_flow();
+        if m < per_flow * self.flows {
+            return Position::Flow(m / per_flow, m % per_flow);
         }
-        let k = m - Self::PER_FLOW * self.flows;
+        let k = m - per_flow * self.flows;
         if k / Self::PER_TUNNEL < self.tunnels {
             return Position::Tunnel(k / Self::PER_TUNNEL, k % Self::PER_TUNNEL);
         }
@@ -114,9 +168,9 @@ impl Network {
     }
 }
 
-// Which of a network's numbers stands at a position after the head: that of a link, line j of a flow or of a tunnel, or none.
+// Which of a network's numbers stands at a position after the head: line j of a link, of a flow or of a tunnel, or none.
 pub enum Position {
-    Link(usize),
+    Link(usize, usize),
     Flow(usize, usize),
     Tunnel(usize, usize),
     Past,

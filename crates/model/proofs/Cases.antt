@@ -1,4 +1,4 @@
--- The paper's edges P1 to P12 at the model's definitions: each is computed.
+-- The paper's edges P1 to P12 at the model's definitions, and cases of the second paper: each is computed.
 use Prim.Native.Nat.{ℕ, zero, suc}
 use mathlib.Core.Path.{_≡_, refl}
 use mathlib.Core.Bool.{Bool, true, false}
@@ -7,15 +7,15 @@ use mathlib.Core.List.{List, [], _∷_, _++_}
 use lib.ListN.{length, getD}
 use Rattle.model.specs.Sum.{sumOver}
 use Rattle.model.specs.Search.{onlyIf, isNone, first}
-use Rattle.model.specs.Net.{Net, row}
+use Rattle.model.specs.Net.{Net, Plan, row}
 use Rattle.model.specs.Scan.{Bound, Overload, scan, testLink, test}
-use Rattle.model.specs.Rule.{crosses, onLink, counts, load, exceeds, flowSum, missedIn, missedRow, stepCount, worst, worstOver, firstOverload, accepted, mark}
+use Rattle.model.specs.Rule.{crosses, onLink, counts, load, exceeds, flowSum, between, missedIn, missedRow, stepCount, worst, worstOver, firstOverload, accepted, mark}
 use Rattle.model.specs.Even.{evenRow, even, fewest, ceilDiv, stepBound, leavesScratch, keepsScratch}
 use Rattle.model.specs.Limits.{mostSteps}
 
--- two links of the same cap and flows of the same class and of rate 10; of the tunnels, lists
-unfoldable pub network : ℕ → ℕ → ℕ → ℕ → List ℕ → List ℕ → List ℕ → List ℕ → Net
-network cap class overrun flows flow via old new = record {
+-- two links of the same cap and flows of the same class, of rate 10 and of the same next; of the tunnels, lists
+unfoldable pub network : ℕ → ℕ → ℕ → ℕ → ℕ → List ℕ → List ℕ → List ℕ → List ℕ → Net
+network next cap class overrun flows flow via old new = record {
   scratch = 333;
   overrun = overrun;
   links = 2;
@@ -24,23 +24,31 @@ network cap class overrun flows flow via old new = record {
   cap = λ l. cap;
   class = λ f. class;
   rate = λ f. 10;
+  next = λ f. next;
   flow = λ t. getD flow t 0;
   via = λ t. getD via t 0;
   old = λ t. getD old t 0;
   new = λ t. getD new t 0;
 }
 
--- the paper's session, with other caps, classes and overrun
+-- the paper's session, with another next, and with other caps, classes and overrun
+unfoldable pub swapTo : ℕ → ℕ → ℕ → ℕ → Net
+swapTo next cap class overrun =
+    network next cap class overrun 2 (0 ∷ 0 ∷ 1 ∷ 1 ∷ []) (1 ∷ 2 ∷ 2 ∷ 1 ∷ []) (10 ∷ 0 ∷ 10 ∷ 0 ∷ []) (0 ∷ next ∷ 0 ∷ next ∷ [])
+
 unfoldable pub swap : ℕ → ℕ → ℕ → Net
-swap cap class overrun =
-    network cap class overrun 2 (0 ∷ 0 ∷ 1 ∷ 1 ∷ []) (1 ∷ 2 ∷ 2 ∷ 1 ∷ []) (10 ∷ 0 ∷ 10 ∷ 0 ∷ []) (0 ∷ 10 ∷ 0 ∷ 10 ∷ [])
+swap = swapTo 10
+
+-- two steps of one part, with a row between
+unfoldable pub through : List ℕ → Plan
+through row = record { parts = 1; steps = 2; at = λ a t. getD row t 0 }
 
 -- one flow, moved from a tunnel over link 0 to one over links 0 and 1
 unfoldable pub longer : Net
-longer = network 15 0 0 1 (0 ∷ 0 ∷ []) (1 ∷ 3 ∷ []) (10 ∷ 0 ∷ []) (0 ∷ 10 ∷ [])
+longer = network 10 15 0 0 1 (0 ∷ 0 ∷ []) (1 ∷ 3 ∷ []) (10 ∷ 0 ∷ []) (0 ∷ 10 ∷ [])
 
 unfoldable pub empty : Net
-empty = network 15 0 0 0 [] [] [] []
+empty = network 10 15 0 0 0 [] [] [] []
 
 -- the marks of the tunnels 0, 1, .. n - 1 where the one-step plan overloads link 0
 unfoldable pub marks : Net → ℕ → List Bool
@@ -65,7 +73,13 @@ pub record Cases : Type 0 where
   pub marked : marks (swap 15 0 0) 4 ∷ marks longer 2 ∷ [] ≡ (false ∷ false ∷ false ∷ true ∷ []) ∷ (false ∷ true ∷ []) ∷ []
   -- 10 of 15 leave 333 thousandths of the capacity free, 10 of 14 do not; with an overrun all classes may fill it
   pub scratch : keepsScratch (swap 15 0 0) ∷ keepsScratch (swap 14 0 0) ∷ keepsScratch (swap 10 2 20) ∷ keepsScratch (swap 9 2 20) ∷ [] ≡ true ∷ false ∷ true ∷ false ∷ []
+  -- (v): the flows of the swap go from 10 to 14
+  pub changing : fewest (swapTo 14 24 0 0) ∷ fewest (swapTo 14 23 0 0) ∷ fewest (swapTo 14 20 0 0) ∷ fewest (swapTo 14 15 0 0) ∷ fewest (swapTo 14 14 0 0) ∷ []
+      ≡ some 1 ∷ some 2 ∷ some 2 ∷ some 10 ∷ none ∷ []
+  -- a row may have any sums from 10 to 14, but neither 15 nor 9
+  pub sums : missedRow (swapTo 14 40 0 0) (through (4 ∷ 10 ∷ 7 ∷ 3 ∷ [])) ∷ missedRow (swapTo 14 40 0 0) (through (10 ∷ 0 ∷ 15 ∷ 0 ∷ [])) ∷ missedRow (swapTo 14 40 0 0) (through (5 ∷ 4 ∷ 10 ∷ 0 ∷ [])) ∷ []
+      ≡ none ∷ some (record { place = 1; second = 1 }) ∷ some (record { place = 1; second = 0 }) ∷ []
 
 pub cases : Cases
-unfolding network swap longer empty marks inStep1 stepBound ceilDiv fewest even evenRow keepsScratch leavesScratch accepted missedRow missedIn flowSum firstOverload stepCount scan testLink test worstOver exceeds load counts worst mark row onLink crosses sumOver onlyIf isNone orElse first
-cases = record { bounds = refl; protected = refl; background = refl; overloads = refl; marked = refl; scratch = refl }
+unfolding network swapTo swap through longer empty marks inStep1 stepBound ceilDiv fewest even evenRow keepsScratch leavesScratch accepted missedRow missedIn between flowSum firstOverload stepCount scan testLink test worstOver exceeds load counts worst mark row onLink crosses sumOver onlyIf isNone orElse first
+cases = record { bounds = refl; protected = refl; background = refl; overloads = refl; marked = refl; scratch = refl; changing = refl; sums = refl }

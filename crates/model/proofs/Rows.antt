@@ -1,21 +1,22 @@
 -- The rows of a plan: what a plan is judged by, and the rows of even plans.
-use Prim.Native.Nat.{ℕ, suc, _+_, _-_, _*_, _≤_, _<_, max}
+use Prim.Native.Nat.{ℕ, suc, _+_, _-_, _*_, _≤_, _<_, min, max}
 use mathlib.Core.Path.{_≡_, sym, ap, ap₂, _∙_, fun-ext}
 use mathlib.Core.Logic.{_↔_, ⊎-elim}
-use mathlib.Core.Bool.{Bool, true, cond, not, _&&_}
-use mathlib.Core.Option.{none}
+use mathlib.Core.Bool.{Bool, true, false, cond, not, _&&_}
+use mathlib.Core.Option.{none, orElse}
 use native.Mathlib.Omega.{arith}
-use native.Mathlib.Nat.{eq-or-lt-of-le, le-of-suc-le-suc}
-use borrow.Author.Tests.{eqb-true, eq-eqb, ne-eqb}
-use lib.Dec.{eqb}
+use native.Mathlib.Nat.{eq-or-lt-of-le, le-of-suc-le-suc, le-max-left, le-max-right, min-le-left, min-le-right, mul-le-mul-left}
+use borrow.Author.Tests.{eqb-true, eq-eqb, ne-eqb, le-leb, lt-leb}
+use lib.Dec.{leb, eqb}
 use Rattle.model.specs.Sum.{sumOver}
 use Rattle.model.specs.Search.{onlyIf, isNone, first}
 use Rattle.model.specs.Net.{Net, Plan, row}
 use Rattle.model.specs.Scan.{scan}
-use Rattle.model.specs.Rule.{crosses, onLink, counts, load, exceeds, flowSum, missedBy, missedRate, missedIn, missedRow, stepCount, worst, worstOver, firstOverload, accepted}
+use Rattle.model.specs.Rule.{crosses, onLink, counts, load, exceeds, flowSum, missedBy, between, missedRate, missedIn, missedRow, stepCount, worst, worstOver, firstOverload, accepted}
 use Rattle.model.specs.Even.{evenRow, even}
+use Rattle.model.specs.OneRate.{OneRate}
 use Rattle.model.proofs.Sums.{sum-cong, sum-add, sum-mul}
-use Rattle.model.proofs.Searches.{only-none, only-false, or-none, first-none, none-first, first-cong, none-true, true-none, not-false, and-true}
+use Rattle.model.proofs.Searches.{order, only-none, only-false, or-none, first-none, none-first, first-cong, none-true, true-none, not-false, and-true}
 use Rattle.model.proofs.Scans.{scan-cong}
 
 -- ---- the three kinds of row
@@ -58,8 +59,8 @@ module _ (N : Net) (P Q : Plan) (s : Same N P Q) where
   unfolding missedRow missedIn flowSum
   row-missed-same =
       first-cong _ _ (suc (P .steps)) (λ a ha. first-cong _ _ (N .flows) (λ f hf.
-      ap₂ (λ (x y : ℕ). onlyIf (not (eqb x y)) (record { place = a; second = f }))
-      (sum-cong (N .tunnels) _ (λ t k _. row-same a t (le-of-suc-le-suc ha) k)) (ap (λ (p : ℕ). p * N .rate f) (s .parts))))
+      ap₂ (λ (p x : ℕ). onlyIf (not (between N p f x)) (record { place = a; second = f }))
+      (s .parts) (sum-cong (N .tunnels) _ (λ t k _. row-same a t (le-of-suc-le-suc ha) k))))
       ∙ ap (λ (n : ℕ). first (suc n) (λ a. first (N .flows) (missedIn N Q a))) (s .steps)
 
   pub overload-same : firstOverload N P ≡ firstOverload N Q
@@ -70,6 +71,57 @@ module _ (N : Net) (P Q : Plan) (s : Same N P Q) where
       (sum-cong (N .tunnels) (counts N b) (λ t k _.
       ap₂ (λ (u v : ℕ). max (cond (crosses N l t) u 0) (cond (crosses N l t) v 0)) (row-same i t (omega arith) k) (row-same (suc i) t hi k))))
       ∙ ap (λ (n : ℕ). scan n (N .links) (worstOver N Q)) (s .steps)
+
+-- ---- sums that lie between the rates
+
+both-ways : (r s : ℕ) → (leb r s && leb s r) ≡ eqb s r
+both-ways r s =
+    ⊎-elim
+    (λ (h : s ≤ r).
+    ⊎-elim
+    (λ (e : s ≡ r). ap₂ _&&_ (le-leb r s (omega arith)) (le-leb s r h) ∙ sym (eq-eqb s r e))
+    (λ (k : s < r). ap (λ (b : Bool). b && leb s r) (lt-leb r s k) ∙ sym (ne-eqb s r (λ e. omega arith)))
+    (eq-or-lt-of-le h))
+    (λ (h : r < s). ap₂ _&&_ (le-leb r s (omega arith)) (lt-leb s r h) ∙ sym (ne-eqb s r (λ e. omega arith)))
+    (order s r)
+
+-- "An edition 1 file is read as if `next` equalled `rate`": then the sum is parts × rate
+pub between-same : (N : Net) (parts f s : ℕ) → N .next f ≡ N .rate f → between N parts f s ≡ eqb s (parts * N .rate f)
+unfolding between
+between-same N parts f s e =
+    let lo : min (N .rate f) (N .next f) ≡ N .rate f = omega arith in
+    let hi : max (N .rate f) (N .next f) ≡ N .rate f = omega arith in
+    rw (lo, hi) (both-ways (parts * N .rate f) s)
+
+pub one-rate : (N : Net) → ((f : ℕ) → f < N .flows → N .next f ≡ N .rate f) → OneRate N
+unfolding missedRate missedBy missedRow missedIn
+one-rate N e = record {
+  rates = first-cong _ _ (N .flows) (λ f h.
+      ap (λ (n : ℕ). orElse (onlyIf (not (eqb (flowSum N (N .old) f) (N .rate f))) (record { place = f; second = 0 }))
+      (onlyIf (not (eqb (flowSum N (N .new) f) n)) (record { place = f; second = 1 }))) (e f h));
+  rows = λ P. first-cong _ _ (suc (P .steps)) (λ a _. first-cong _ _ (N .flows) (λ f h.
+      ap (λ (b : Bool). onlyIf (not b) (record { place = a; second = f })) (between-same N (P .parts) f (flowSum N (row N P a) f) (e f h))));
+}
+
+pub lies-between : (N : Net) (parts f s : ℕ) → parts * min (N .rate f) (N .next f) ≤ s → s ≤ parts * max (N .rate f) (N .next f) → between N parts f s ≡ true
+unfolding between
+lies-between N parts f s h k = ap₂ _&&_ (le-leb _ _ h) (le-leb _ _ k)
+
+pub lies-outside : (N : Net) (parts f s : ℕ) → (parts * min (N .rate f) (N .next f) ≤ s → s ≤ parts * max (N .rate f) (N .next f) → ⊥) → between N parts f s ≡ false
+unfolding between
+lies-outside N parts f s out =
+    ⊎-elim
+    (λ (h : parts * min (N .rate f) (N .next f) ≤ s). ap₂ _&&_ (le-leb _ _ h)
+    (⊎-elim (λ (k : s ≤ parts * max (N .rate f) (N .next f)). absurd (out h k)) (λ (k : parts * max (N .rate f) (N .next f) < s). lt-leb _ _ k) (order s (parts * max (N .rate f) (N .next f)))))
+    (λ (h : s < parts * min (N .rate f) (N .next f)). ap (λ (b : Bool). b && leb s (parts * max (N .rate f) (N .next f))) (lt-leb _ _ h))
+    (order (parts * min (N .rate f) (N .next f)) s)
+
+-- the sums of rate and of next do
+pub rate-between : (N : Net) (parts f : ℕ) → between N parts f (parts * N .rate f) ≡ true
+rate-between N parts f = lies-between N parts f _ (mul-le-mul-left parts (min-le-left (N .rate f) (N .next f))) (mul-le-mul-left parts (le-max-left (N .rate f) (N .next f)))
+
+pub next-between : (N : Net) (parts f : ℕ) → between N parts f (parts * N .next f) ≡ true
+next-between N parts f = lies-between N parts f _ (mul-le-mul-left parts (min-le-right (N .rate f) (N .next f))) (mul-le-mul-left parts (le-max-right (N .rate f) (N .next f)))
 
 -- ---- accepted: rows that add up, and no overload
 
@@ -104,28 +156,35 @@ even-sum N n p q a h =
     ∙ sum-add n p (λ t. (q - a) * N .old t) (λ t. a * N .new t)
     ∙ ap₂ _+_ (sum-mul n p (q - a) (N .old)) (sum-mul n p a (N .new))
 
--- where old and new amounts add up to the rates, they do so flow by flow
+-- where old amounts add up to the rates and new ones to the nexts, they do so flow by flow
 pub rate-met : (N : Net) → missedRate N ≡ none → (f : ℕ) → f < N .flows
-    → (flowSum N (N .old) f ≡ N .rate f) × (flowSum N (N .new) f ≡ N .rate f)
+    → (flowSum N (N .old) f ≡ N .rate f) × (flowSum N (N .new) f ≡ N .next f)
 unfolding missedRate missedBy
 rate-met N e f h =
     let s = or-none _ _ (first-none _ (N .flows) e f h) in
     (eqb-true _ _ (not-false _ (only-none _ _ (s .0))), eqb-true _ _ (not-false _ (only-none _ _ (s .1))))
 
--- and so does every row of an even plan
+-- and every row of an even plan lies evenly between them
 pub even-flow : (N : Net) (q a f : ℕ) → missedRate N ≡ none → a ≤ q → f < N .flows
-    → flowSum N (row N (even N q) a) f ≡ q * N .rate f
+    → flowSum N (row N (even N q) a) f ≡ (q - a) * N .rate f + a * N .next f
 unfolding flowSum
 even-flow N q a f e ha hf =
     let s = rate-met N e f hf in
+    sum-cong (N .tunnels) _ (λ t _ _. even-row N q a t ha) ∙ even-sum N _ _ q a ha ∙ ap₂ (λ (o n : ℕ). (q - a) * o + a * n) (s .0) (s .1)
+
+even-between : (N : Net) (q a f s : ℕ) → a ≤ q → s ≡ (q - a) * N .rate f + a * N .next f → between N q f s ≡ true
+unfolding between
+even-between N q a f s h e =
+    let r : ℕ = N .rate f in
+    let n : ℕ = N .next f in
     let k : (q - a) + a ≡ q = omega arith in
-    sum-cong (N .tunnels) _ (λ t _ _. even-row N q a t ha)
-    ∙ even-sum N _ _ q a ha
-    ∙ ap₂ (λ (o n : ℕ). (q - a) * o + a * n) (s .0) (s .1)
-    ∙ omega (arith, ap (λ (m : ℕ). m * N .rate f) k)
+    ap₂ _&&_
+    (le-leb (q * min r n) s (omega (arith, ap (λ (m : ℕ). m * min r n) k, mul-le-mul-left (q - a) (min-le-left r n), mul-le-mul-left a (min-le-right r n))))
+    (le-leb s (q * max r n) (omega (arith, ap (λ (m : ℕ). m * max r n) k, mul-le-mul-left (q - a) (le-max-left r n), mul-le-mul-left a (le-max-right r n))))
 
 pub even-adds-up : (N : Net) (q : ℕ) → missedRate N ≡ none → missedRow N (even N q) ≡ none
 unfolding missedRow missedIn even
 even-adds-up N q e =
     none-first _ _ (λ a ha. none-first _ (N .flows) (λ f hf.
-    only-false _ _ (ap not (eq-eqb _ _ (even-flow N q a f e (le-of-suc-le-suc ha) hf)))))
+    let h : a ≤ q = le-of-suc-le-suc ha in
+    only-false _ _ (ap not (even-between N q a f _ h (even-flow N q a f e h hf)))))

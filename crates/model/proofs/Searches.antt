@@ -7,6 +7,7 @@ use mathlib.Core.Bool.{Bool, true, false, cond, not, _&&_, true≢false}
 use native.Mathlib.Nat.{eq-or-lt-of-le, le-of-suc-le-suc, not-suc-le-zero, le-antisymm}
 use native.Mathlib.Numerals.{add-one}
 use native.Mathlib.Omega.{arith}
+use native.Mathlib.Decide.{decLe}
 use lib.Dec.{T}
 use Rattle.model.specs.Search.{onlyIf, isNone, first}
 
@@ -82,6 +83,9 @@ pub or-some : {A : Type 0} (o p : Option A) (a : A) → orElse o p ≡ some a �
 unfolding orElse
 or-some none p a e = inr (refl, e)
 or-some (some b) p a e = inl e
+
+pub order : (a b : ℕ) → (a ≤ b) ⊎ (b < a)
+order a b = elim (decLe a b) [ yes h ↦ inl h | no h ↦ inr (omega arith) ]
 
 pub le-of-not-lt : {k j : ℕ} → ¬ (j < k) → k ≤ j
 le-of-not-lt h = omega arith

@@ -8,5 +8,6 @@ pub mod Net
 pub mod Scan
 pub mod Rule
 pub mod Even
+pub mod OneRate
 pub mod ThreeSums
 pub mod Claim

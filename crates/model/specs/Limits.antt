@@ -16,6 +16,10 @@ mostSteps = 50
 abbrev pub mostAmount : ℕ
 mostAmount = 10000000
 
+-- the newest edition of a network's form: "In edition `net=2` .."
+abbrev pub newestEdition : ℕ
+newestEdition = 2
+
 -- "`scratch` 20..500; `overrun` 0 or 20..500"
 abbrev pub leastShare : ℕ
 leastShare = 20

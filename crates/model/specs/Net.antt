@@ -11,9 +11,10 @@ pub record Net : Type 0 where
   pub tunnels : ℕ
   -- of a link
   pub cap : ℕ → ℕ
-  -- of a flow
+  -- of a flow: its class, and what its old and its new amounts add up to
   pub class : ℕ → ℕ
   pub rate : ℕ → ℕ
+  pub next : ℕ → ℕ
   -- of a tunnel
   pub flow : ℕ → ℕ
   pub via : ℕ → ℕ

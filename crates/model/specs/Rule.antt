@@ -1,5 +1,5 @@
 -- The rule for a step. The step from row i to row i + 1, which the paper numbers i + 1, is named here by i.
-use Prim.Native.Nat.{ℕ, suc, _+_, _*_, max}
+use Prim.Native.Nat.{ℕ, suc, _+_, _*_, min, max}
 use mathlib.Core.Bool.{Bool, true, cond, not, _&&_}
 use mathlib.Core.Option.{Option, orElse}
 use lib.Dec.{leb, ltb, eqb}
@@ -37,18 +37,22 @@ exceeds N total parts l w = ltb ((1000 + N .overrun) * (parts * N .cap l)) (1000
 unfoldable pub flowSum : Net → (ℕ → ℕ) → ℕ → ℕ
 flowSum N x f = sumOver (N .tunnels) (λ t. eqb (N .flow t) f) x
 
--- "A flow's `old` amounts add up to its rate, and so do its `new` amounts": the first that do not ("lowest flow, old before new")
+-- "Old amounts add up to `rate`, new ones to `next`": the first that do not ("lowest flow, old before new")
 unfoldable pub missedBy : Net → ℕ → Option Place
 missedBy N f =
     orElse (onlyIf (not (eqb (flowSum N (N .old) f) (N .rate f))) (record { place = f; second = 0 }))
-    (onlyIf (not (eqb (flowSum N (N .new) f) (N .rate f))) (record { place = f; second = 1 }))
+    (onlyIf (not (eqb (flowSum N (N .new) f) (N .next f))) (record { place = f; second = 1 }))
 
 unfoldable pub missedRate : Net → Option Place
 missedRate N = first (N .flows) (missedBy N)
 
--- "In every row a flow's amounts add up to parts × rate": the first that do not ("lowest row, then flow")
+-- "a flow's sum lies between parts × the lesser and parts × the greater" of its rate and its next
+unfoldable pub between : Net → ℕ → ℕ → ℕ → Bool
+between N parts f s = leb (parts * min (N .rate f) (N .next f)) s && leb s (parts * max (N .rate f) (N .next f))
+
+-- "In each listed row": the first that misses it ("lowest row, then flow"). Rows 0 and `steps` have the sums of old and of new
 unfoldable pub missedIn : Net → Plan → ℕ → ℕ → Option Place
-missedIn N P a f = onlyIf (not (eqb (flowSum N (row N P a) f) (P .parts * N .rate f))) (record { place = a; second = f })
+missedIn N P a f = onlyIf (not (between N (P .parts) f (flowSum N (row N P a) f))) (record { place = a; second = f })
 
 unfoldable pub missedRow : Net → Plan → Option Place
 missedRow N P = first (suc (P .steps)) (λ a. first (N .flows) (missedIn N P a))

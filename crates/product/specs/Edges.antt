@@ -1,4 +1,4 @@
--- The edges P1 to P12 over the definitions that the contracts cite: one list, one computed test.
+-- The edges P1 to P12, and those of rates that change, over the definitions that the contracts cite: one list, one computed test.
 use Prim.Native.Nat.{ℕ}
 use mathlib.Core.Bool.{Bool, true, false, _&&_}
 use mathlib.Core.List.{List, [], _∷_, _++_}
@@ -63,6 +63,20 @@ swap cap class overrun =
 abbrev longer : List ℕ
 longer = 1 ∷ 333 ∷ 0 ∷ 2 ∷ 1 ∷ 2 ∷ 15 ∷ 15 ∷ 0 ∷ 10 ∷ 0 ∷ 1 ∷ 10 ∷ 0 ∷ 0 ∷ 3 ∷ 0 ∷ 10 ∷ []
 
+-- of edition 2, one link and one class 0 flow on one tunnel, whose amount goes from rate to next: scratch, links, flows and tunnels; cap; class, rate and next; flow, via, old and new
+abbrev changing : ℕ → ℕ → ℕ → ℕ → List ℕ
+changing cap rate next new = 2 ∷ 333 ∷ 0 ∷ 1 ∷ 1 ∷ 1 ∷ cap ∷ 0 ∷ rate ∷ next ∷ 0 ∷ 1 ∷ rate ∷ new ∷ []
+
+-- the session's swap in edition 2, with two flows that grow from 10 to 14
+abbrev growing : ℕ → List ℕ
+growing cap =
+    (2 ∷ 333 ∷ 0 ∷ 2 ∷ 2 ∷ 4 ∷ cap ∷ cap ∷ 0 ∷ 10 ∷ 14 ∷ 0 ∷ 10 ∷ 14 ∷ [])
+    ++ (0 ∷ 1 ∷ 10 ∷ 0 ∷ 0 ∷ 2 ∷ 0 ∷ 14 ∷ 1 ∷ 2 ∷ 10 ∷ 0 ∷ 1 ∷ 1 ∷ 0 ∷ 14 ∷ [])
+
+-- a plan of two steps and two parts for one tunnel, with a row between
+abbrev through : ℕ → List ℕ
+through amount = 1 ∷ 2 ∷ 2 ∷ 1 ∷ amount ∷ []
+
 abbrev oneStep : ℕ → List ℕ
 oneStep tunnels = 1 ∷ 1 ∷ 1 ∷ tunnels ∷ []
 
@@ -98,6 +112,29 @@ edges =
     -- the session: its whole plan, which is accepted, and the marks are then 0
     ∷ edge (make (swap 15 0 0) (9 ∷ 9 ∷ 9 ∷ 9 ∷ 9 ∷ 9 ∷ 9 ∷ 9 ∷ [])) (plans 8 (1 ∷ 2 ∷ 2 ∷ 4 ∷ 10 ∷ 10 ∷ 10 ∷ 10 ∷ []))
     ∷ edge (check (swap 15 0 0) (1 ∷ 2 ∷ 2 ∷ 4 ∷ 10 ∷ 10 ∷ 10 ∷ 10 ∷ []) (9 ∷ 9 ∷ 9 ∷ 9 ∷ 9 ∷ [])) (done 4 (0 ∷ 0 ∷ 0 ∷ 0 ∷ 9 ∷ []))
+    -- (v): a flow that grows from 10 to 20, and one that shrinks; on a link that is too small for the greater there is no plan
+    ∷ edge (make (changing 20 10 20 20) (9 ∷ 9 ∷ 9 ∷ 9 ∷ 9 ∷ [])) (plans 4 (1 ∷ 1 ∷ 1 ∷ 1 ∷ 9 ∷ []))
+    ∷ edge (make (changing 20 20 10 10) (9 ∷ 9 ∷ 9 ∷ 9 ∷ 9 ∷ [])) (plans 4 (1 ∷ 1 ∷ 1 ∷ 1 ∷ 9 ∷ []))
+    ∷ edge (steps (changing 19 10 20 20)) (refuses 9 46 0 [])
+    ∷ edge (steps (changing 19 20 10 10)) (refuses 9 1 0 [])
+    -- two that grow from 10 to 14 and change places
+    ∷ edge (steps (growing 24)) (plans 4 (1 ∷ []))
+    ∷ edge (steps (growing 23)) (plans 8 (2 ∷ []))
+    ∷ edge (steps (growing 15)) (plans 40 (10 ∷ []))
+    ∷ edge (steps (growing 14)) (refuses 9 48 0 [])
+    -- a listed row may have any sum from one rate to the other, in parts, and neither less nor more
+    ∷ edge (check (changing 20 10 20 20) (through 20) (9 ∷ [])) (done 1 (0 ∷ []))
+    ∷ edge (check (changing 20 10 20 20) (through 40) (9 ∷ [])) (done 1 (0 ∷ []))
+    ∷ edge (check (changing 20 20 10 10) (through 31) (9 ∷ [])) (done 1 (0 ∷ []))
+    ∷ edge (check (changing 20 10 20 20) (through 19) (9 ∷ [])) (refuses 6 1 0 (9 ∷ []))
+    ∷ edge (check (changing 20 10 20 20) (through 41) (9 ∷ [])) (refuses 6 1 0 (9 ∷ []))
+    -- new amounts that miss next, and old ones that have next instead of rate
+    ∷ edge (steps (changing 20 10 20 10)) (refuses 4 0 1 [])
+    ∷ edge (steps (2 ∷ 333 ∷ 0 ∷ 1 ∷ 1 ∷ 1 ∷ 20 ∷ 0 ∷ 10 ∷ 20 ∷ 0 ∷ 1 ∷ 20 ∷ 20 ∷ [])) (refuses 4 0 0 [])
+    -- edition 1 has no number for next, and there is no edition 0 or 3
+    ∷ edge (steps (1 ∷ 333 ∷ 0 ∷ 1 ∷ 1 ∷ 1 ∷ 20 ∷ 0 ∷ 10 ∷ 20 ∷ 0 ∷ 1 ∷ 10 ∷ 20 ∷ [])) (refuses 2 10 0 [])
+    ∷ edge (steps (3 ∷ 333 ∷ 0 ∷ 1 ∷ 0 ∷ 0 ∷ 15 ∷ [])) (refuses 2 1 0 [])
+    ∷ edge (steps (0 ∷ 333 ∷ 0 ∷ 1 ∷ 0 ∷ 0 ∷ 15 ∷ [])) (refuses 2 1 0 [])
     ∷ []
 
 unfoldable pub same : List ℕ → List ℕ → Bool

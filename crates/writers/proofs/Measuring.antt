@@ -1,24 +1,28 @@
 -- How long the lines of a list are: all that is not a decimal digit, and those.
 use mathlib.Core.Path.{_≡_, refl, sym, ap, _∙_}
+use mathlib.Core.Bool.{true, false}
 use mathlib.Core.List.{List, [], _∷_, _++_}
+use mathlib.Core.Logic.{⊎-elim}
 use Prim.Native.Nat.{ℕ, zero, suc, _+_, _*_, _-_, _≤_, _<_}
 use native.Mathlib.Numerals.{add-one}
 use native.Mathlib.Nat.{zero-add, le-of-lt}
 use native.Mathlib.Decide.{decLt}
 use native.Mathlib.Omega.{arith}
 use lib.ListN.{length, getD, length-append}
-use Rattle.lists.specs.Lists.{networkSizes, linkAt, flowAt, tunnelAt}
+use Rattle.model.proofs.Searches.{bool-cases}
+use Rattle.lists.specs.Lists.{hasNext, perLink, perFlow, networkSizes, linkAt, flowAt, tunnelAt}
 use Rattle.lists.specs.declared.Network as counts
-use Rattle.lists.proofs.Positions.{link-at, flow-at, tunnel-at, flows-follow, tunnels-follow, head-size, each-number}
+use Rattle.lists.proofs.Positions.{flow-most, third, with-next, without-next, link-at, flow-at, tunnel-at, flows-follow, tunnels-follow, each-number}
 use Rattle.forms.specs.Bytes.{bytes}
 use Rattle.forms.specs.Form.{Whole, networkLines, planLines}
 use Rattle.forms.specs.Write.{digitsIn, widthOf, render}
 use Rattle.forms.specs.declared.form.Form.{Form}
 use Rattle.forms.specs.declared.form.Form.the-variants.{Network, Plan}
+use Rattle.forms.proofs.Forms.{head-lines}
 use Rattle.forms.proofs.Good.{network-size, plan-size}
 use Rattle.forms.proofs.Numbers.{length-digits}
-use Rattle.writers.specs.Write.{lineAt, linesFrom, Decimal, widthsOf, tunnelWidths}
-use Rattle.writers.proofs.Runs.{DecimalAt, lines-none, lines-more, all-lines, network-head-line, cap-line, class-line, rate-line, flow-line, via-line, old-line, new-line, plan-head-line, at-line}
+use Rattle.writers.specs.Write.{lineAt, linesFrom, Decimal, widthsOf, tunnelWidths, flowBytes}
+use Rattle.writers.proofs.Runs.{DecimalAt, lines-none, lines-more, all-lines, network-head-line, cap-line, class-line, rate-line, next-line, flow-line, via-line, old-line, new-line, plan-head-line, at-line}
 
 module _ (l : List ℕ) where
   pub widths-none : widthsOf l 0 ≡ 0
@@ -37,6 +41,10 @@ module _ (l : List ℕ) where
       ≡ tunnelWidths l t + (widthOf (getD l (tunnelAt (networkSizes l) t) 0) + widthOf (getD l (tunnelAt (networkSizes l) t + 2) 0) + widthOf (getD l (tunnelAt (networkSizes l) t + 3) 0))
   unfolding tunnelWidths
   tunnel-widths-more t = rw add-one
+
+pub flow-bytes-most : (edition : ℕ) → flowBytes edition ≤ 19
+unfolding flowBytes
+flow-bytes-most edition = ⊎-elim (λ e. rw e (omega arith)) (λ e. rw e (omega arith)) (bool-cases (hasNext edition))
 
 -- ---- one line more
 
@@ -120,19 +128,36 @@ module _ (l : List ℕ) (w : Whole Network l) where
   sizes = networkSizes l
 
   links-long : (k : ℕ) → k ≤ sizes .links → Long Network l (linkAt sizes k) (46 + 5 * k)
-  links-long zero h = rw (head-size sizes) network-head-long
+  unfolding perLink
+  links-long zero h = rw (head-lines sizes) network-head-long
   links-long (suc k) h =
       long-more Network l (linkAt sizes k) (linkAt sizes (suc k)) (46 + 5 * k) (46 + 5 * suc k) (bytes "cap=") (omega (arith, link-at sizes k, link-at sizes (suc k))) (omega arith)
       (cap-line l w k (linkAt sizes k) h refl) (links-long k (le-of-lt h))
 
-  flows-long : (f : ℕ) → f ≤ sizes .flows → Long Network l (flowAt sizes f) (46 + 5 * sizes .links + 13 * f)
+  -- the lines of flow f, where c stands for what is not a digit before them
+  flow-long : (f c : ℕ) → f < sizes .flows → Long Network l (flowAt sizes f) c → Long Network l (flowAt sizes f + perFlow (sizes .edition)) (c + flowBytes (sizes .edition))
+  unfolding flowBytes
+  flow-long f c h before =
+      ⊎-elim
+      (λ (e : hasNext (sizes .edition) ≡ true).
+      rw (with-next (sizes .edition) e, e) (long-more Network l (i + 2) (i + 3) (c + 13) (c + 19) (bytes "next=") (omega arith) (omega arith) (next-line l w f (i + 2) h e refl) two))
+      (λ (e : hasNext (sizes .edition) ≡ false). rw (without-next (sizes .edition) e, e) two)
+      (bool-cases (hasNext (sizes .edition)))
+    where
+      i : ℕ
+      i = flowAt sizes f
+
+      two : Long Network l (i + 2) (c + 13)
+      two =
+          long-more Network l (i + 1) (i + 2) (c + 7) (c + 13) (bytes "rate=") (omega arith) (omega arith) (rate-line l w f (i + 1) h refl)
+          (long-more Network l i (i + 1) c (c + 7) (bytes "class=") refl (omega arith) (class-line l w f i h refl) before)
+
+  flows-long : (f : ℕ) → f ≤ sizes .flows → Long Network l (flowAt sizes f) (46 + 5 * sizes .links + flowBytes (sizes .edition) * f)
   flows-long zero h = rw (flows-follow sizes) (omega (arith, links-long (sizes .links) (omega arith)))
   flows-long (suc f) h =
-      let i : ℕ = flowAt sizes f in
-      let c : ℕ = 46 + 5 * sizes .links + 13 * f in
-      long-more Network l (i + 1) (flowAt sizes (suc f)) (c + 7) (46 + 5 * sizes .links + 13 * suc f) (bytes "rate=") (omega (arith, flow-at sizes f, flow-at sizes (suc f))) (omega arith)
-      (rate-line l w f (i + 1) h refl)
-      (long-more Network l i (i + 1) c (c + 7) (bytes "class=") refl (omega arith) (class-line l w f i h refl) (flows-long f (le-of-lt h)))
+      let e : flowAt sizes f + perFlow (sizes .edition) ≡ flowAt sizes (suc f) = omega (arith, flow-at sizes f, flow-at sizes (suc f)) in
+      let r = rw e at (flow-long f _ h (flows-long f (le-of-lt h))) in
+      omega (arith, r)
 
   via-length : (t i : ℕ) → t < sizes .tunnels → i ≡ tunnelAt sizes t + 1 → length (lineAt Network l i) ≡ 21
   via-length t i h e =
@@ -141,7 +166,7 @@ module _ (l : List ℕ) (w : Whole Network l) where
 
   -- the tunnels: the digits of their flows, old and new amounts are counted apart
   abbrev TunnelsLong : ℕ → Type 0
-  TunnelsLong t = size Network l (tunnelAt sizes t) ≡ 46 + 5 * sizes .links + 13 * sizes .flows + 37 * t + widthsOf l (tunnelAt sizes 0) + tunnelWidths l t
+  TunnelsLong t = size Network l (tunnelAt sizes t) ≡ 46 + 5 * sizes .links + flowBytes (sizes .edition) * sizes .flows + 37 * t + widthsOf l (tunnelAt sizes 0) + tunnelWidths l t
 
   tunnels-none : TunnelsLong 0
   tunnels-none = rw (tunnels-follow sizes) (omega (arith, flows-long (sizes .flows) (omega arith), tunnel-widths-none l))
@@ -164,7 +189,7 @@ module _ (l : List ℕ) (w : Whole Network l) where
   tunnels-long (suc t) h = rw (add-one t) at (tunnels-more t h (tunnels-long t (le-of-lt h)))
 
   pub network-length : length (render Network l)
-      ≡ 46 + 5 * sizes .links + 13 * sizes .flows + 37 * sizes .tunnels + widthsOf l (tunnelAt sizes 0) + tunnelWidths l (sizes .tunnels)
+      ≡ 46 + 5 * sizes .links + flowBytes (sizes .edition) * sizes .flows + 37 * sizes .tunnels + widthsOf l (tunnelAt sizes 0) + tunnelWidths l (sizes .tunnels)
   network-length = sym (ap length (all-lines Network l)) ∙ ap (size Network l) (network-size l w) ∙ tunnels-long (sizes .tunnels) (omega arith)
 
   network-head-number : (i : ℕ) → i < length networkLines → Decimal l i
@@ -178,18 +203,24 @@ module _ (l : List ℕ) (w : Whole Network l) where
 
   -- the numbers before those of the tunnels are decimal
   pub network-number : (i : ℕ) → i < tunnelAt sizes 0 → Decimal l i
+  unfolding perLink
   network-number i h = head (decLt i (length networkLines))
     where
-      flow : (f j : ℕ) → f < sizes .flows → j < 2 → flowAt sizes f + j < tunnelAt sizes 0 → Decimal l (flowAt sizes f + j)
+      flow : (f j : ℕ) → f < sizes .flows → j < perFlow (sizes .edition) → flowAt sizes f + j < tunnelAt sizes 0 → Decimal l (flowAt sizes f + j)
       flow f zero k g less = class-line l w f (flowAt sizes f + 0) k (omega arith) .number
       flow f (suc zero) k g less = rate-line l w f (flowAt sizes f + 1) k refl .number
-      flow f (suc (suc j)) k g less = absurd (omega arith)
+      flow f (suc (suc zero)) k g less = next-line l w f (flowAt sizes f + 2) k (third (sizes .edition) g) refl .number
+      flow f (suc (suc (suc j))) k g less = absurd (omega (arith, flow-most (sizes .edition)))
+
+      link : (k j : ℕ) → k < sizes .links → j < perLink (sizes .edition) → linkAt sizes k + j < tunnelAt sizes 0 → Decimal l (linkAt sizes k + j)
+      link k zero g h less = cap-line l w k (linkAt sizes k + 0) g (omega arith) .number
+      link k (suc j) g h less = absurd (omega arith)
 
       head : Dec (i < length networkLines) → Decimal l i
       head (yes k) = network-head-number i k
       head (no k) =
           each-number sizes (λ m. m < tunnelAt sizes 0 → Decimal l m)
-          (λ k g less. cap-line l w k (linkAt sizes k) g refl .number)
+          link
           flow
           (λ t j g g′ less. absurd (omega (arith, tunnel-at sizes t)))
-          i (omega (arith, head-size sizes)) (omega (arith, tunnel-at sizes (sizes .tunnels))) h
+          i (omega (arith, head-lines sizes)) (omega (arith, tunnel-at sizes (sizes .tunnels))) h

@@ -7,20 +7,22 @@ use native.Mathlib.Nat.{add-zero, zero-add, add-suc, add-assoc, le-of-lt}
 use native.Mathlib.Numerals.{add-one}
 use native.Mathlib.Omega.{arith}
 use lib.ListN.{length, getD, take, drop, length-append}
+use Rattle.model.specs.Limits.{mostAmount}
 use borrow.Author.Tests.{lt-ltb}
-use Rattle.lists.specs.Lists.{networkSizes, linkAt, flowAt, tunnelAt, planSizes, planSize}
+use Rattle.lists.specs.Lists.{hasNext, perFlow, networkSizes, linkAt, flowAt, tunnelAt, planSizes, planSize}
 use Rattle.lists.specs.declared.Network as counts
-use Rattle.lists.proofs.Positions.{head-size, head-in, link-in, flow-in, tunnel-in, link-after, flow-after, tunnel-after}
+use Rattle.lists.proofs.Positions.{flow-some, with-next, link-some, head-in, link-in, flow-in, tunnel-in, link-after, flow-after, tunnel-after}
 use Rattle.forms.specs.Bytes.{bytes}
-use Rattle.forms.specs.Keys.{prefixOf}
+use Rattle.forms.specs.Keys.{keys, placeIn, prefixOf}
 use Rattle.forms.specs.Form.{fieldOf, isHex, Sound, Whole, networkLines, networkBody, flowLines, tunnelLines, planLines}
 use Rattle.forms.specs.Write.{widthOf, lineOf, render, renderFrom}
 use Rattle.forms.specs.declared.form.Form.{Form}
 use Rattle.forms.specs.declared.form.Form.the-variants.{Network, Plan}
 use Rattle.forms.specs.declared.form.Range.{Range}
+use Rattle.forms.specs.declared.form.Range.the-variants.{Between}
 use Rattle.forms.specs.declared.form.Field.{Field}
 use Rattle.forms.specs.declared.form.Field.the-variants.{Line, End}
-use Rattle.forms.proofs.Forms.{body-cap, body-flow, body-tunnel, network-head-field, network-body-field, plan-head-field, plan-body-field}
+use Rattle.forms.proofs.Forms.{head-lines, body-cap, body-flow, body-tunnel, network-head-field, network-body-field, plan-head-field, plan-body-field}
 use Rattle.forms.proofs.Good.{network-size, plan-size}
 use Rattle.forms.proofs.Rendering.{render-step, render-end, at-most, short-value, line-length}
 use Rattle.lines.specs.Puts.{Puts, decimalLine, hexLine}
@@ -88,6 +90,20 @@ module _ (form : Form) (l : List ℕ) (i n : ℕ) {at : ℕ} {out : List ℕ} (f
     pub next-put : (m′ : ℕ) → m′ ≡ m + 1 → {out₂ : List ℕ} {b : ℕ} → Puts line a out₁ out₂ b → Puts (linesFrom form l i m′) at out out₂ b
     next-put m′ k q = rw (k, with-line) (then-puts more-fits p q)
 
+  -- and the next k, from j on
+  module _ (m k j : ℕ) (within : m + k ≤ n) (same : j ≡ i + m) {out₁ : List ℕ} {a : ℕ} (p : Puts (linesFrom form l i m) at out out₁ a) where
+    with-run : linesFrom form l i m ++ linesFrom form l j k ≡ linesFrom form l i (m + k)
+    with-run = rw same (lines-join form l i m k)
+
+    runs-fit : at + length (linesFrom form l i m ++ linesFrom form l j k) ≤ length out
+    runs-fit = omega (arith, run-within form l i (m + k) n at out within fits, ap length with-run)
+
+    pub run-fits : a + length (linesFrom form l j k) ≤ length out₁
+    run-fits = then-fits (linesFrom form l j k) runs-fit p
+
+    pub run-put : (m′ : ℕ) → m′ ≡ m + k → {out₂ : List ℕ} {b : ℕ} → Puts (linesFrom form l j k) a out₁ out₂ b → Puts (linesFrom form l i m′) at out out₂ b
+    run-put m′ e q = rw e (rw with-run at (then-puts runs-fit p q))
+
 -- where there is room for the whole text, there is for its first m lines
 pub front-fits : (form : Form) (l : List ℕ) (m : ℕ) (out : List ℕ) → length (render form l) ≤ length out → m ≤ length l → length (linesFrom form l 0 m) ≤ length out
 front-fits form l m out fits within = omega (arith, lines-mono form l 0 m (length l) within, ap length (all-lines form l))
@@ -139,25 +155,26 @@ module _ (l : List ℕ) (w : Whole Network l) where
   sizes = networkSizes l
 
   long : length networkLines ≤ length l
-  long = omega (arith, network-size l w, head-size sizes, head-in l (network-size l w))
+  long = omega (arith, network-size l w, head-lines sizes, head-in l (network-size l w))
 
   pub network-head-line : (i k : ℕ) (r : Range) → i < length networkLines → getD networkLines i End ≡ Line k r → isHex r ≡ false → DecimalAt Network l i (prefixOf k)
   network-head-line i k r h e x = decimal-at Network l i k r (w .sound) (omega (arith, long)) (network-head-field l i (omega (arith, long)) h ∙ e) x
 
   -- the field at a number after the head
   body-field : (i j : ℕ) → i < length l → i ≡ j → linkAt sizes 0 ≤ j → fieldOf Network (take i l) ≡ networkBody sizes j
-  body-field i j h e after = network-body-field l i (le-of-lt h) (omega (arith, head-size sizes)) ∙ ap (networkBody sizes) e
+  body-field i j h e after = network-body-field l i (le-of-lt h) (omega (arith, head-lines sizes)) ∙ ap (networkBody sizes) e
 
   pub cap-line : (k i : ℕ) → k < sizes .links → i ≡ linkAt sizes k → DecimalAt Network l i (bytes "cap=")
   cap-line k i h e =
       let within : i < length l = omega (arith, link-in l (network-size l w) k h) in
-      decimal-at Network l i _ _ (w .sound) within (body-field i (linkAt sizes k) within e (link-after sizes k) ∙ body-cap sizes k h) refl
+      let first : i ≡ linkAt sizes k + 0 = omega arith in
+      decimal-at Network l i _ _ (w .sound) within (body-field i (linkAt sizes k + 0) within first (omega (arith, link-after sizes k)) ∙ body-cap sizes k 0 h (link-some (sizes .edition))) refl
 
   -- the lines of flow f, and those of tunnel t
-  flow-within : (f j i : ℕ) → f < sizes .flows → j < length flowLines → i ≡ flowAt sizes f + j → i < length l
-  flow-within f j i h k e = omega (arith, flow-in l (network-size l w) f h)
+  flow-within : (f j i : ℕ) → f < sizes .flows → j < perFlow (sizes .edition) → i ≡ flowAt sizes f + j → i < length l
+  flow-within f j i h k e = omega (arith, flow-in l (network-size l w) f j h k)
 
-  flow-field : (f j i : ℕ) → f < sizes .flows → j < length flowLines → i ≡ flowAt sizes f + j → fieldOf Network (take i l) ≡ getD flowLines j End
+  flow-field : (f j i : ℕ) → f < sizes .flows → j < perFlow (sizes .edition) → i ≡ flowAt sizes f + j → fieldOf Network (take i l) ≡ getD (flowLines (sizes .edition)) j End
   flow-field f j i h k e = body-field i (flowAt sizes f + j) (flow-within f j i h k e) e (omega (arith, flow-after sizes f)) ∙ body-flow sizes f j h k
 
   tunnel-within : (t j i : ℕ) → t < sizes .tunnels → j < length (tunnelLines sizes) → i ≡ tunnelAt sizes t + j → i < length l
@@ -166,7 +183,8 @@ module _ (l : List ℕ) (w : Whole Network l) where
   tunnel-field : (t j i : ℕ) → t < sizes .tunnels → j < length (tunnelLines sizes) → i ≡ tunnelAt sizes t + j → fieldOf Network (take i l) ≡ getD (tunnelLines sizes) j End
   tunnel-field t j i h k e = body-field i (tunnelAt sizes t + j) (tunnel-within t j i h k e) e (omega (arith, tunnel-after sizes t)) ∙ body-tunnel sizes t j h k
 
-  of-flow : (f j i k : ℕ) (r : Range) → f < sizes .flows → j < length flowLines → i ≡ flowAt sizes f + j → getD flowLines j End ≡ Line k r → isHex r ≡ false → DecimalAt Network l i (prefixOf k)
+  of-flow : (f j i k : ℕ) (r : Range) → f < sizes .flows → j < perFlow (sizes .edition) → i ≡ flowAt sizes f + j → getD (flowLines (sizes .edition)) j End ≡ Line k r → isHex r ≡ false
+      → DecimalAt Network l i (prefixOf k)
   of-flow f j i k r h below e line x = decimal-at Network l i k r (w .sound) (flow-within f j i h below e) (flow-field f j i h below e ∙ line) x
 
   of-tunnel : (t j i k : ℕ) (r : Range) → t < sizes .tunnels → j < length (tunnelLines sizes) → i ≡ tunnelAt sizes t + j → getD (tunnelLines sizes) j End ≡ Line k r → isHex r ≡ false
@@ -174,10 +192,13 @@ module _ (l : List ℕ) (w : Whole Network l) where
   of-tunnel t j i k r h below e line x = decimal-at Network l i k r (w .sound) (tunnel-within t j i h below e) (tunnel-field t j i h below e ∙ line) x
 
   pub class-line : (f i : ℕ) → f < sizes .flows → i ≡ flowAt sizes f → DecimalAt Network l i (bytes "class=")
-  class-line f i h e = of-flow f 0 i _ _ h (omega arith) (omega arith) refl refl
+  class-line f i h e = of-flow f 0 i _ _ h (omega (arith, flow-some (sizes .edition))) (omega arith) refl refl
 
   pub rate-line : (f i : ℕ) → f < sizes .flows → i ≡ flowAt sizes f + 1 → DecimalAt Network l i (bytes "rate=")
-  rate-line f i h e = of-flow f 1 i _ _ h (omega arith) e refl refl
+  rate-line f i h e = of-flow f 1 i _ _ h (flow-some (sizes .edition)) e refl refl
+
+  pub next-line : (f i : ℕ) → f < sizes .flows → hasNext (sizes .edition) ≡ true → i ≡ flowAt sizes f + 2 → DecimalAt Network l i (bytes "next=")
+  next-line f i h has e = of-flow f 2 i (placeIn keys "next=") (Between 0 mostAmount) h (omega (arith, with-next (sizes .edition) has)) e (rw has) refl
 
   pub flow-line : (t i : ℕ) → t < sizes .tunnels → i ≡ tunnelAt sizes t → DecimalAt Network l i (bytes "flow=")
   flow-line t i h e = of-tunnel t 0 i _ _ h (omega arith) (omega arith) refl refl

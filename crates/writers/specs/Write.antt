@@ -1,10 +1,10 @@
 -- The lines of a list, from any on.
 use Prim.Native.Nat.{ℕ, zero, suc, _+_, _≤_, _<_}
 use mathlib.Core.Path.{_≡_}
-use mathlib.Core.Bool.{false}
+use mathlib.Core.Bool.{false, cond}
 use mathlib.Core.List.{List, [], _++_}
 use lib.ListN.{length, take, getD}
-use Rattle.lists.specs.Lists.{networkSizes, tunnelAt, mostNumbers}
+use Rattle.lists.specs.Lists.{hasNext, networkSizes, tunnelAt, mostNumbers}
 use Rattle.forms.specs.Form.{fieldOf, isHex}
 use Rattle.forms.specs.Write.{widthOf, lineOf}
 use Rattle.forms.specs.declared.form.Form.{Form}
@@ -31,6 +31,10 @@ pub record Needed (size room r : ℕ) : Type 0 where
 -- a number that can be written where a field stands: it has at most 10 digits if it is decimal
 pub record Writable (f : Field) (v : ℕ) : Type 0 where
   pub small : (k : ℕ) (r : Range) → f ≡ Line k r → isHex r ≡ false → v < 10000000000
+
+-- how many bytes of a flow's lines are no decimal digit: class, rate and, where there is one, next
+unfoldable pub flowBytes : ℕ → ℕ
+flowBytes edition = cond (hasNext edition) 19 13
 
 -- ---- how many decimal digits numbers of a list have
 

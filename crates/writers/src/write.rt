@@ -4,12 +4,12 @@ ghost use mathlib.Core.Path.{_≡_};
 ghost use Prim.Native.Nat.{ℕ, _+_, _*_, _-_, _≤_, _<_};
 ghost use lib.ListN.{length};
 ghost use Rattle.lists.specs.Answers.{done, withRoom, lent};
-ghost use Rattle.lists.specs.Lists.{networkSizes, linkAt, flowAt, tunnelAt, mostNumbers};
-ghost use Rattle.forms.specs.Form.{Whole, networkLines, flowLines, tunnelLines, planLines};
+ghost use Rattle.lists.specs.Lists.{perFlow, networkSizes, linkAt, flowAt, tunnelAt, mostNumbers};
+ghost use Rattle.forms.specs.Form.{Whole, networkLines, tunnelLines, planLines};
 ghost use Rattle.forms.specs.Slots.{keyBytes};
 ghost use Rattle.forms.specs.Write.{lineOf, render};
 ghost use Rattle.lines.specs.Puts.{Puts};
-ghost use Rattle.writers.specs.Write.{linesFrom, Decimal, Writable, Needed, widthsOf, tunnelWidths};
+ghost use Rattle.writers.specs.Write.{linesFrom, Decimal, Writable, Needed, widthsOf, tunnelWidths, flowBytes};
 ghost use Rattle.forms.specs.Named.{writeNetwork, writePlan, writeRules};
 use forms::form;
 use forms::form::Field;
@@ -29,8 +29,10 @@ const NETWORK_BYTES: usize = 5 + 9 + 9 + 7 + 7 + 9;
 // cap
 const LINK_BYTES: usize = 5;
 
-// class, rate
+// class, rate; and next, where there is one
 const FLOW_BYTES: usize = 7 + 6;
+
+const NEXT_BYTES: usize = 6;
 
 // flow, via, old, new
 const TUNNEL_BYTES: usize = 6 + 21 + 5 + 5;
@@ -73,6 +75,17 @@ fn tunnel_widths(list: &[u64], sizes: Network) -> usize
     sum
 }
 
+// How many bytes of a flow's lines are no decimal digit.
+fn flow_bytes(sizes: Network) -> usize
+    ensures { λ r. ⌜ r ≡ flowBytes (sizes .edition) ⌝ }
+{
+    if sizes.has_next() {
+        FLOW_BYTES + NEXT_BYTES
+    } else {
+        FLOW_BYTES
+    }
+}
+
 // How many bytes a network is written as: all that is not a decimal digit, and those.
 fn network_len(list: &[u64]) -> usize
     requires { ⌜ Whole Form.Network (now list) ⌝ }
@@ -80,7 +93,7 @@ fn network_len(list: &[u64]) -> usize
 {
     let sizes = Network::of(list);
     let links = LINK_BYTES * sizes.links;
-    let flows = FLOW_BYTES * sizes.flows;
+    let flows = flow_bytes(sizes) * sizes.flows;
     let tunnels = TUNNEL_BYTES * sizes.tunnels;
     let digits = widths(list, sizes.tunnel_at(0));
     let more = tunnel_widths(list, sizes);
@@ -181,19 +194,33 @@ fn put_links(out: &mut [u8], at: usize, list: &[u64]) -> usize
     p
 }
 
+// Puts the lines of flow f.
+fn put_flow(out: &mut [u8], at: usize, list: &[u64], sizes: Network, f: usize) -> usize
+    requires { ⌜ Whole Form.Network (now list) × (sizes ≡ networkSizes (now list)) × (f < sizes .flows) ⌝ }
+    requires { ⌜ at + length (linesFrom Form.Network (now list) (flowAt (networkSizes (now list)) f) (perFlow (networkSizes (now list) .edition))) ≤ length (now out) ⌝ }
+    ensures { λ r. ⌜ Puts (linesFrom Form.Network (now (list .entry)) (flowAt (networkSizes (now (list .entry))) f) (perFlow (networkSizes (now (list .entry)) .edition))) at (now (out .entry)) (now (out .exit)) r ⌝ }
+{
+    let i = sizes.flow_at(f);
+    let rate = lines::put_line(out, at, b"class=", list[i]);
+    let next = lines::put_line(out, rate, b"rate=", list[i + Network::RATE]);
+    if sizes.has_next() {
+        lines::put_line(out, next, b"next=", list[sizes.next_at(f)])
+    } else {
+        next
+    }
+}
+
 // Puts the lines of a network's flows.
 fn put_flows(out: &mut [u8], at: usize, list: &[u64]) -> usize
     requires { ⌜ Whole Form.Network (now list) ⌝ }
-    requires { ⌜ at + length (linesFrom Form.Network (now list) (flowAt (networkSizes (now list)) 0) (length flowLines * networkSizes (now list) .flows)) ≤ length (now out) ⌝ }
-    ensures { λ r. ⌜ Puts (linesFrom Form.Network (now (list .entry)) (flowAt (networkSizes (now (list .entry))) 0) (length flowLines * networkSizes (now (list .entry)) .flows)) at (now (out .entry)) (now (out .exit)) r ⌝ }
+    requires { ⌜ at + length (linesFrom Form.Network (now list) (flowAt (networkSizes (now list)) 0) (perFlow (networkSizes (now list) .edition) * networkSizes (now list) .flows)) ≤ length (now out) ⌝ }
+    ensures { λ r. ⌜ Puts (linesFrom Form.Network (now (list .entry)) (flowAt (networkSizes (now (list .entry))) 0) (perFlow (networkSizes (now (list .entry)) .edition) * networkSizes (now (list .entry)) .flows)) at (now (out .entry)) (now (out .exit)) r ⌝ }
 {
     let sizes = Network::of(list);
     let mut p = at;
     let mut f: usize = 0;
     while f < sizes.flows {
-        let i = sizes.flow_at(f);
-        let rate = lines::put_line(out, p, b"class=", list[i]);
-        p = lines::put_line(out, rate, b"rate=", list[i + Network::RATE]);
+        p = put_flow(out, p, list, sizes, f);
         f += 1;
     }
     p

@@ -30,7 +30,7 @@ enum-told-2 : tie.Need-enum-told-2
 enum-told-2 c = search needs
 
 returns : tie.Need-returns
-returns c = sym (stands-link _ _ _ (c .before .before .position .ensures) _ (c .enum-told .given .1))
+returns c = sym (stands-link _ _ _ (c .before .before .position .ensures) _ _ (c .enum-told .given .1))
 
 returns-2 : tie.Need-returns-2
 returns-2 c = c .flow-group .ensures ∙ sym (stands-flow _ _ _ (c .before .before .before .before .position .ensures) _ _ (c .before .before .j .given .1))

@@ -5,9 +5,8 @@ use lib.ListN.{length}
 use Rattle.lists.specs.Lists.{networkSizes}
 use Rattle.lists.specs.Good.{Limited}
 use Rattle.lists.specs.declared.Network as counts
-use Rattle.lists.proofs.Positions.{head-size}
 use Rattle.forms.specs.Form.{fieldOf, networkBody}
-use Rattle.forms.proofs.Forms.{head-of-network}
+use Rattle.forms.proofs.Forms.{head-lines, head-of-network}
 use native.Mathlib.Omega.{arith}
 use borrow.Author.Needs.{needs}
 use Rattle.forms.proofs.form.network_field.Statement.{statement}
@@ -24,10 +23,10 @@ unfolding fieldOf
 returns c = rw (lt-ltb _ _ (c .before .if1 .taken)) (c .network-head .ensures)
 
 of-requires : tie.Need-of-requires
-of-requires c κs = omega (arith, head-size (networkSizes (c .before .before .args .done .now)))
+of-requires c κs = omega (arith, head-lines (networkSizes (c .before .before .args .done .now)))
 
 network-body-requires : tie.Need-network-body-requires
-network-body-requires c κs = (subst⁻¹ Limited (c .of .ensures) (head-of-network _ (c .before .before .before .pre) (c .before .if1 .left)), omega (arith, c .before .if1 .left, head-size (c .of .result)))
+network-body-requires c κs = (subst⁻¹ Limited (c .of .ensures) (head-of-network _ (c .before .before .before .pre) (c .before .if1 .left)), omega (arith, c .before .if1 .left, head-lines (c .of .result)))
 
 returns-2 : tie.Need-returns-2
 unfolding fieldOf

@@ -1,6 +1,7 @@
 -- `judges::ranges::is_network` meets its contract.
 use Rattle.lists.specs.Lists.{networkSizes}
-use Rattle.lists.proofs.Positions.{head-in, head-size}
+use Rattle.lists.proofs.Positions.{head-in}
+use Rattle.forms.proofs.Forms.{head-lines}
 use Rattle.forms.proofs.Good.{network-size}
 use Rattle.judges.proofs.InRange.{decides-no, whole-in-range}
 use native.Mathlib.Omega.{arith}
@@ -11,7 +12,7 @@ use Rattle.judges.proofs.ranges.body_in.Reads as body-in-reads
 use Rattle.judges.proofs.ranges.head_in.Reads as head-in-reads
 
 returns : tie.Need-returns
-returns c = decides-no (λ w. absurd (omega (arith, head-in (c .before .before .args .list .now) (network-size _ w), head-size (networkSizes (c .before .before .args .list .now)), c .if1 .taken)))
+returns c = decides-no (λ w. absurd (omega (arith, head-in (c .before .before .args .list .now) (network-size _ w), head-lines (networkSizes (c .before .before .args .list .now)), c .if1 .taken)))
 
 head-in-requires : tie.Need-head-in-requires
 head-in-requires c κs = search needs

@@ -11,13 +11,14 @@ use Rattle.model.specs.Rule.{flowSum, missedBy}
 use Rattle.model.proofs.Searches.{first-zero, first-on}
 use Rattle.lists.specs.Lists.{at, networkSizes, networkOf}
 use Rattle.lists.specs.declared.Network as counts
-use Rattle.lists.proofs.Positions.{FlowPlace, flow-place, limited, head-in}
+use Rattle.lists.proofs.Positions.{FlowPlace, NextPlace, flow-place, next-place, limited, head-in}
 use Rattle.judges.proofs.Gathering.{gathered-all, miss-old, miss-new, miss-none, missed-at, missed-none}
 use native.Mathlib.Omega.{arith}
 use borrow.Author.Needs.{needs}
 use Rattle.judges.proofs.sums.first_missed.Statement.{statement}
 use Rattle.judges.proofs.sums.first_missed.Tie as tie
 use Rattle.lists.proofs.Network.flow_at.Reads as flow-at-reads
+use Rattle.lists.proofs.Network.next_at.Reads as next-at-reads
 use Rattle.lists.proofs.Network.of.Reads as of-reads
 
 abbrev Inv-loop : tie.InvT-loop
@@ -26,10 +27,10 @@ Inv-loop list old new sizes f₀ f = (f ≤ sizes .flows) × (first f (missedBy 
 abbrev μ-loop : tie.MeasureT-loop
 μ-loop list old new sizes f₀ f = sizes .flows - f
 
--- in a turn: the flow's place, its sums and its rate
+-- in a turn: the flow's place and its rate
 module _ (c : tie.After-flow-at Inv-loop μ-loop) where
   abbrev begin : tie.Start Inv-loop μ-loop
-  begin = c .before .before .before .before .before .before .before .before
+  begin = (c .before .before .before .before .before .before .before .before)
 
   abbrev list : List ℕ
   list = begin .args .list .now
@@ -43,22 +44,34 @@ module _ (c : tie.After-flow-at Inv-loop μ-loop) where
   place : FlowPlace list f (c .flow-at .result)
   place = flow-place list (begin .pre .0 .sized) _ (c .before .before .before .before .of .ensures) f _ (c .before .if1 .taken) (c .flow-at .ensures)
 
-  there : f < N .flows
-  unfolding networkOf
-  there = place .there
-
-  low : f < mostFlows
-  low = omega (arith, place .there, begin .pre .0 .sized .counts)
-
   rate-at : getD list (c .flow-at .result + 1) 0 ≡ N .rate f
   unfolding networkOf
   rate-at = ap (λ (i : ℕ). at list (i + 1)) (place .here)
 
-  old-sum : getD (begin .args .old .now) f 0 ≡ flowSum N (N .old) f
-  old-sum = gathered-all _ _ _ f (begin .pre .1 .0) low
+-- its next and its sums
+module _ (c : tie.After-next-at Inv-loop μ-loop) where
+  abbrev turn : tie.After-flow-at Inv-loop μ-loop
+  turn = (c .before .before)
 
-  new-sum : getD (begin .args .new .now) f 0 ≡ flowSum N (N .new) f
-  new-sum = gathered-all _ _ _ f (begin .pre .1 .1) low
+  next-here : NextPlace (list turn) (f turn) (c .next-at .result)
+  next-here = next-place (list turn) (begin turn .pre .0 .sized) _ (c .before .before .before .before .before .before .of .ensures) (f turn) _ (c .before .before .before .if1 .taken) (c .next-at .ensures)
+
+  next-at : getD (list turn) (c .next-at .result) 0 ≡ N turn .next (f turn)
+  unfolding networkOf
+  next-at = ap (at (list turn)) (next-here .here)
+
+  there : f turn < N turn .flows
+  unfolding networkOf
+  there = place turn .there
+
+  low : f turn < mostFlows
+  low = omega (arith, place turn .there, begin turn .pre .0 .sized .counts)
+
+  old-sum : getD (begin turn .args .old .now) (f turn) 0 ≡ flowSum (N turn) (N turn .old) (f turn)
+  old-sum = gathered-all _ _ _ (f turn) (begin turn .pre .1 .0) low
+
+  new-sum : getD (begin turn .args .new .now) (f turn) 0 ≡ flowSum (N turn) (N turn .new) (f turn)
+  new-sum = gathered-all _ _ _ (f turn) (begin turn .pre .1 .1) low
 
 of-requires : tie.Need-of-requires Inv-loop μ-loop
 of-requires c κs = head-in _ (c .before .before .before .pre .0 .sized .size)
@@ -78,25 +91,36 @@ mul-rate c = record { fits = omega (arith, place c .few) }
 shared-slice-read-rate : tie.Need-shared-slice-read-rate Inv-loop μ-loop
 shared-slice-read-rate c = omega (arith, place (c .before) .within)
 
+next-at-requires : tie.Need-next-at-requires Inv-loop μ-loop
+next-at-requires c κs = (limited _ (c .before .before .before .before .before .before .before .before .before .pre .0 .sized) _ (c .before .before .before .before .before .of .ensures), omega (arith, c .before .before .if1 .taken))
+
+mul-next : tie.Need-mul-next Inv-loop μ-loop
+mul-next c = record { fits = omega (arith, next-here c .few) }
+
+shared-slice-read-next : tie.Need-shared-slice-read-next Inv-loop μ-loop
+shared-slice-read-next c = omega (arith, next-here (c .before) .within)
+
 mul-if2 : tie.Need-mul-if2 Inv-loop μ-loop
 mul-if2 c = record { fits = omega (arith, low (c .before)) }
 
 shared-slice-read-if2 : tie.Need-shared-slice-read-if2 Inv-loop μ-loop
-shared-slice-read-if2 c = rw (c .before .before .before .before .before .before .before .before .before .before .pre .1 .0 .size) (low (c .before .before))
+shared-slice-read-if2 c = rw (c .before .before .before .before .before .before .before .before .before .before .before .before .pre .1 .0 .size) (low (c .before .before))
 
 returns : tie.Need-returns Inv-loop μ-loop
-returns c = let p = c .before .before .before in
-    sym (missed-at (list p) (f p) _ (c .before .before .before .before .before .before .loop .inv .1) (miss-old (N p) (f p) (λ e. c .if2 .taken (old-sum p ∙ e ∙ sym (rate-at p)))) (there p))
+returns c = let n = (c .before .before .before) in
+    let t = turn n in
+    sym (missed-at (list t) (f t) _ (c .before .before .before .before .before .before .before .before .loop .inv .1) (miss-old (N t) (f t) (λ e. c .if2 .taken (old-sum n ∙ e ∙ sym (rate-at t)))) (there n))
 
 mul-if3 : tie.Need-mul-if3 Inv-loop μ-loop
 mul-if3 c = record { fits = omega (arith, low (c .before .before .before)) }
 
 shared-slice-read-if3 : tie.Need-shared-slice-read-if3 Inv-loop μ-loop
-shared-slice-read-if3 c = rw (c .before .before .before .before .before .before .before .before .before .before .before .before .pre .1 .1 .size) (low (c .before .before .before .before))
+shared-slice-read-if3 c = rw (c .before .before .before .before .before .before .before .before .before .before .before .before .before .before .pre .1 .1 .size) (low (c .before .before .before .before))
 
 returns-2 : tie.Need-returns-2 Inv-loop μ-loop
-returns-2 c = let p = c .before .before .before .before .before in
-    sym (missed-at (list p) (f p) _ (c .before .before .before .before .before .before .before .before .loop .inv .1) (miss-new (N p) (f p) (sym (old-sum p) ∙ c .before .before .if2 .left ∙ rate-at p) (λ e. c .if3 .taken (new-sum p ∙ e ∙ sym (rate-at p)))) (there p))
+returns-2 c = let n = (c .before .before .before .before .before) in
+    let t = turn n in
+    sym (missed-at (list t) (f t) _ (c .before .before .before .before .before .before .before .before .before .before .loop .inv .1) (miss-new (N t) (f t) (sym (old-sum n) ∙ c .before .before .if2 .left ∙ rate-at t) (λ e. c .if3 .taken (new-sum n ∙ e ∙ sym (next-at n)))) (there n))
 
 add-f : tie.Need-add-f Inv-loop μ-loop
 add-f c = search needs
@@ -105,13 +129,15 @@ loop-less : tie.Need-loop-less Inv-loop μ-loop
 loop-less c = search needs
 
 loop-again : tie.Need-loop-again Inv-loop μ-loop
-loop-again c = let p = c .before .before .before .before .before in
-    (omega (arith, c .before .before .before .before .before .before .if1 .taken), first-on _ (f p) (c .before .before .before .before .before .before .before .before .loop .inv .1) (miss-none (N p) (f p) (sym (old-sum p) ∙ c .before .before .if2 .left ∙ rate-at p) (sym (new-sum p) ∙ c .if3 .left ∙ rate-at p)))
+loop-again c = let n = (c .before .before .before .before .before) in
+    let t = turn n in (
+      omega (arith, c .before .before .before .before .before .before .before .before .if1 .taken),
+      first-on _ (f t) (c .before .before .before .before .before .before .before .before .before .before .loop .inv .1) (miss-none (N t) (f t) (sym (old-sum n) ∙ c .before .before .if2 .left ∙ rate-at t) (sym (new-sum n) ∙ c .if3 .left ∙ next-at n)),
+    )
 
 returns-3 : tie.Need-returns-3 Inv-loop μ-loop
 unfolding networkOf
-returns-3 c =
-    let l = c .before .before .before .before .before .before .before .args .list .now in
+returns-3 c = let l = c .before .before .before .before .before .before .before .args .list .now in
     let e : c .before .before .loop .f ≡ networkSizes l .flows = omega (arith, c .before .before .loop .inv .0, ap (λ (n : counts.Network). n .flows) (c .before .before .before .of .ensures)) in
     sym (missed-none l (rw e at (c .before .before .loop .inv .1)))
 
@@ -127,6 +153,9 @@ first-missed-spec =
     add-rate
     mul-rate
     shared-slice-read-rate
+    next-at-requires
+    mul-next
+    shared-slice-read-next
     mul-if2
     shared-slice-read-if2
     returns

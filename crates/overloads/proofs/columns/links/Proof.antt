@@ -4,7 +4,7 @@ use mathlib.Core.Path.{_≡_, refl, ap}
 use lib.ListN.{length, length-set}
 use Rattle.lists.specs.Lists.{networkSizes, networkOf}
 use Rattle.lists.specs.declared.Network as counts
-use Rattle.lists.proofs.Positions.{LinkPlace, link-place, limited, head-in, head-size}
+use Rattle.lists.proofs.Positions.{LinkPlace, link-place, limited, head-in, head-least}
 use Rattle.overloads.specs.Columns.{Holds, capacity, raised}
 use Rattle.overloads.proofs.Good.{times-fits, capacity-here, raised-here, capacity-fits, raised-fits}
 use Rattle.overloads.proofs.Laws.{holds-none, holds-more, holds-at}
@@ -31,7 +31,7 @@ of-requires : tie.Need-of-requires Inv-loop μ-loop
 of-requires c κs = head-in _ (c .before .before .before .pre .0 .ranges .sized .size)
 
 shared-slice-read-times : tie.Need-shared-slice-read-times Inv-loop μ-loop
-shared-slice-read-times c = omega (arith, head-in _ (c .before .before .before .before .before .pre .0 .ranges .sized .size), head-size (networkSizes (c .before .before .before .before .before .args .network .now)))
+shared-slice-read-times c = omega (arith, head-in _ (c .before .before .before .before .before .pre .0 .ranges .sized .size), head-least (networkSizes (c .before .before .before .before .before .args .network .now)))
 
 add-times : tie.Need-add-times Inv-loop μ-loop
 add-times c = record { fits = times-fits _ (c .before .before .before .before .before .pre .0) }

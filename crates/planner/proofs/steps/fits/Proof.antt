@@ -11,7 +11,7 @@ use Rattle.model.proofs.Choices.{factor, room}
 use Rattle.model.proofs.Evens.{even-accepted}
 use Rattle.lists.specs.Lists.{at, networkSizes, networkOf}
 use Rattle.lists.specs.declared.Network as counts
-use Rattle.lists.proofs.Positions.{LinkPlace, link-place, limited, head-in, head-size}
+use Rattle.lists.proofs.Positions.{LinkPlace, link-place, limited, head-in, head-least}
 use Rattle.planner.proofs.Tables.{end-room}
 use Rattle.planner.proofs.Searching.{AtLink, link-low, protected-room, all-room, overrun-most, cap-room, overrun-room, over-protected, over-total, kept-both}
 use native.Mathlib.Omega.{arith}
@@ -41,7 +41,7 @@ module _ (c : tie.After-link-at Inv-loop μ-loop) where
   here = record { ready = begin .pre .0; least = begin .pre .1 .0; most = begin .pre .1 .1; link = place .there; same = ap (at (begin .args .network .now)) (place .here) }
 
 shared-slice-read-overrun : tie.Need-shared-slice-read-overrun Inv-loop μ-loop
-shared-slice-read-overrun c = omega (arith, head-in _ (c .before .before .before .before .pre .0 .good .ranges .sized .size), head-size (networkSizes (c .before .before .before .before .args .network .now)))
+shared-slice-read-overrun c = omega (arith, head-in _ (c .before .before .before .before .pre .0 .good .ranges .sized .size), head-least (networkSizes (c .before .before .before .before .args .network .now)))
 
 of-requires : tie.Need-of-requires Inv-loop μ-loop
 of-requires c κs = head-in _ (c .before .before .before .before .pre .0 .good .ranges .sized .size)

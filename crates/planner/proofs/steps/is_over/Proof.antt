@@ -6,7 +6,7 @@ use lib.ListN.{getD}
 use Rattle.model.specs.Limits.{mostSteps}
 use Rattle.lists.specs.Lists.{at, networkSizes, networkOf}
 use Rattle.lists.specs.declared.Network as counts
-use Rattle.lists.proofs.Positions.{LinkPlace, link-place, limited, head-in, head-size}
+use Rattle.lists.proofs.Positions.{LinkPlace, link-place, limited, head-in, head-least}
 use Rattle.planner.proofs.Tables.{step-room}
 use Rattle.planner.proofs.Searching.{AtLink, link-low, protected-room, all-room, overrun-most, cap-room, overrun-room, is-over-first, is-over-second}
 use native.Mathlib.Omega.{arith}
@@ -50,7 +50,7 @@ returns : tie.Need-returns
 returns c = is-over-first (here (c .before .before .before)) _ (c .before .before .before .before .before .before .before .before .pre .1 .0) (omega (arith, c .before .step-load .ensures, c .if1 .taken))
 
 shared-slice-read-result : tie.Need-shared-slice-read-result
-shared-slice-read-result c = omega (arith, head-in _ (c .before .before .before .before .before .before .before .before .before .pre .0 .good .ranges .sized .size), head-size (networkSizes (c .before .before .before .before .before .before .before .before .before .args .network .now)))
+shared-slice-read-result c = omega (arith, head-in _ (c .before .before .before .before .before .before .before .before .before .pre .0 .good .ranges .sized .size), head-least (networkSizes (c .before .before .before .before .before .before .before .before .before .args .network .now)))
 
 add-result : tie.Need-add-result
 unfolding networkOf

@@ -2,7 +2,7 @@
 use Prim.Native.Nat.{ℕ, _≤_, _+_, _*_, _-_}
 use mathlib.Core.Path.{_≡_, refl, ap}
 use mathlib.Core.List.{List}
-use Rattle.lists.specs.Lists.{networkSizes, linkAt}
+use Rattle.lists.specs.Lists.{perLink, networkSizes, linkAt}
 use Rattle.lists.specs.Good.{Sized}
 use Rattle.lists.specs.declared.Network as counts
 use Rattle.lists.proofs.Positions.{LinkPlace, link-place, link-at, limited, head-in}
@@ -52,6 +52,7 @@ module _ (c : tie.After-link-at Inv-loop μ-loop) where
   place = link-place list (sized start) _ (c .before .before .before .before .of .ensures) _ _ (c .before .if1 .taken) (c .link-at .ensures)
 
   here : i ≡ first + 1 * k
+  unfolding perLink
   here = omega (arith, place .here, link-at (networkSizes list) k)
 
   cap : DecimalAt Network list i (bytes "cap=")

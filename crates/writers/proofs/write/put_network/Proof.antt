@@ -3,10 +3,11 @@ use Prim.Native.Nat.{ℕ, _+_, _*_}
 use mathlib.Core.Path.{_≡_, subst}
 use mathlib.Core.List.{List}
 use lib.ListN.{length}
-use Rattle.lists.specs.Lists.{networkSizes, linkAt, flowAt, tunnelAt}
+use Rattle.lists.specs.Lists.{perLink, perFlow, networkSizes, linkAt, flowAt, tunnelAt}
 use Rattle.lists.specs.declared.Network as counts
-use Rattle.lists.proofs.Positions.{link-at, flow-at, tunnel-at, flows-follow, tunnels-follow, head-size, head-in}
-use Rattle.forms.specs.Form.{networkLines, flowLines, tunnelLines}
+use Rattle.lists.proofs.Positions.{link-at, flow-at, tunnel-at, flows-follow, tunnels-follow, head-in}
+use Rattle.forms.proofs.Forms.{head-lines}
+use Rattle.forms.specs.Form.{networkLines, tunnelLines}
 use Rattle.forms.specs.declared.form.Form.the-variants.{Network}
 use Rattle.forms.proofs.Good.{network-size}
 use Rattle.lines.specs.Puts.{Puts}
@@ -30,9 +31,10 @@ module _ (s : tie.Start) where
   sizes = networkSizes list
 
   links-end : linkAt sizes 0 + sizes .links ≡ flowAt sizes 0
+  unfolding perLink
   links-end = omega (arith, link-at sizes (sizes .links), flows-follow sizes)
 
-  flows-end : flowAt sizes 0 + length flowLines * sizes .flows ≡ tunnelAt sizes 0
+  flows-end : flowAt sizes 0 + perFlow (sizes .edition) * sizes .flows ≡ tunnelAt sizes 0
   flows-end = omega (arith, flow-at sizes (sizes .flows), tunnels-follow sizes)
 
   tunnels-end : tunnelAt sizes 0 + length (tunnelLines sizes) * sizes .tunnels ≡ length list
@@ -43,7 +45,7 @@ module _ (s : tie.Start) where
 
 -- the head is put, then the lines of the links, then those of the flows
 with-head : (c : tie.After-put-network-head) → let s = c .before .before .before .before in Written s (c .put-network-head .last .0) (c .put-network-head .result) (linkAt (sizes s) 0)
-with-head c = let s = c .before .before .before .before in rw (head-size (sizes s)) (c .put-network-head .ensures)
+with-head c = let s = c .before .before .before .before in rw (head-lines (sizes s)) (c .put-network-head .ensures)
 
 with-links : (c : tie.After-put-links) → let s = c .before .before .before .before .before .before .before .before in Written s (c .put-links .last .0) (c .put-links .result) (flowAt (sizes s) 0)
 with-links c =
@@ -55,11 +57,11 @@ with-flows : (c : tie.After-put-flows) → let s = c .before .before .before .be
 with-flows c =
     let s = c .before .before .before .before .before .before .before .before .before .before .before .before in
     subst (Written s (c .put-flows .last .0) (c .put-flows .result)) (flows-end s)
-    (rest-put Network (list s) (flowAt (sizes s) 0) (length flowLines * sizes s .flows) (s .pre .1) (omega (arith, flows-end s, tunnels-end s)) (with-links (c .before .before .before .before)) (c .put-flows .ensures))
+    (rest-put Network (list s) (flowAt (sizes s) 0) (perFlow (sizes s .edition) * sizes s .flows) (s .pre .1) (omega (arith, flows-end s, tunnels-end s)) (with-links (c .before .before .before .before)) (c .put-flows .ensures))
 
 put-network-head-requires : tie.Need-put-network-head-requires
 put-network-head-requires c κs = let s = c .before .before .before in
-    (s .pre .0, front-fits Network (list s) (length networkLines) (s .args .out .now) (s .pre .1) (omega (arith, head-size (sizes s), head-in (list s) (network-size (list s) (s .pre .0)))))
+    (s .pre .0, front-fits Network (list s) (length networkLines) (s .args .out .now) (s .pre .1) (omega (arith, head-lines (sizes s), head-in (list s) (network-size (list s) (s .pre .0)))))
 
 put-links-requires : tie.Need-put-links-requires
 put-links-requires c κs = let s = c .before .before .before .before .before .before .before in
@@ -67,7 +69,7 @@ put-links-requires c κs = let s = c .before .before .before .before .before .be
 
 put-flows-requires : tie.Need-put-flows-requires
 put-flows-requires c κs = let s = c .before .before .before .before .before .before .before .before .before .before .before in
-    (s .pre .0, rest-fits Network (list s) (flowAt (sizes s) 0) (length flowLines * sizes s .flows) (s .pre .1) (omega (arith, flows-end s, tunnels-end s)) (with-links (c .before .before .before)))
+    (s .pre .0, rest-fits Network (list s) (flowAt (sizes s) 0) (perFlow (sizes s .edition) * sizes s .flows) (s .pre .1) (omega (arith, flows-end s, tunnels-end s)) (with-links (c .before .before .before)))
 
 put-tunnels-requires : tie.Need-put-tunnels-requires
 put-tunnels-requires c κs = let s = c .before .before .before .before .before .before .before .before .before .before .before .before .before .before .before in
