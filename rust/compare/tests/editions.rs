@@ -234,6 +234,34 @@ fn as_many_steps_as_the_bound_says() {
     }
 }
 
+/// A flow of one tunnel that grows from 5 to 6 on a link of 5, all at once, in any step of a plan of any
+/// length; and one that shrinks from 6 to 5, which overloads the link before it moves.
+#[test]
+fn every_step_can_be_the_first_overload() {
+    let network =
+        |cap, class, rate, next| [2, 50, 0, 1, 1, 1, cap, class, rate, next, 0, 1, rate, next];
+    for steps in 1..=50 {
+        for step in 1..=steps {
+            // the rows before the step have the one rate, those from it on the other
+            let rows = |rate, next| {
+                let listed = (1..steps).map(|row| steps * if row < step { rate } else { next });
+                [1, steps, steps, 1]
+                    .into_iter()
+                    .chain(listed)
+                    .collect::<Vec<u64>>()
+            };
+            for (class, number) in [(0, 7), (1, 7), (2, 8)] {
+                let overload = (Some(refused(number, step, 0)), vec![1]);
+                let first = (Some(refused(number, 1, 0)), vec![0]);
+                assert_eq!(check(&network(5, class, 5, 6), &rows(5, 6)), overload);
+                assert_eq!(check(&network(5, class, 6, 5), &rows(6, 5)), first);
+                assert_eq!(check(&network(6, class, 5, 6), &rows(5, 6)), accepted(1));
+                assert_eq!(check(&network(6, class, 6, 5), &rows(6, 5)), accepted(1));
+            }
+        }
+    }
+}
+
 /// Every rate may begin or end at nothing, and one tunnel may do it alone.
 #[test]
 fn from_nothing_and_to_nothing() {
