@@ -192,7 +192,7 @@ fn one_step_too_few() {
     assert_eq!(check(&exchange(40, 0, 0), &late), accepted(2));
 }
 
-/// A link of 1000 on which a flow begins while another of that class and rate ends.
+/// A link on which a flow begins while another of that class and rate ends.
 fn replaced(scratch: u64, overrun: u64, cap: u64, class: u64, rate: u64) -> Vec<u64> {
     vec![
         2, scratch, overrun, 1, 2, 2, cap, class, 0, rate, class, rate, 0, //
