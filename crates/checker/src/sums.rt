@@ -59,8 +59,9 @@ fn ends(network: &[u64], parts: u64, low: &mut [u64], high: &mut [u64])
     let sizes = Network::of(network);
     let mut f = 0;
     while f < sizes.flows {
-        let rate = network[sizes.flow_at(f) + Network::RATE];
-        let next = network[sizes.next_at(f)];
+        let at = sizes.flow_at(f);
+        let rate = network[at + Network::RATE];
+        let next = network[at + sizes.next()];
         low[f] = parts * lesser(rate, next);
         high[f] = parts * greater(rate, next);
         f += 1;

@@ -8,7 +8,7 @@ use Rattle.model.specs.Outcome.{Outcome, good, refused, malformed, outOfRange, 
 use Rattle.model.specs.Sum.{sumOver}
 use Rattle.model.specs.Search.{onlyIf, first}
 use Rattle.model.specs.Rule as rule
-use Rattle.lists.specs.Lists.{headSize, perLink, perFlow, networkOf, networkSizes, linkAt, flowAt, nextAt, tunnelAt}
+use Rattle.lists.specs.Lists.{headSize, perLink, perFlow, networkOf, networkSizes, linkAt, flowAt, nextIn, tunnelAt}
 use Rattle.forms.specs.Bytes.{bytes}
 use Rattle.forms.specs.Line.{lines, onFirst, fits, plain, valuePart, beforeFeed, digitOf, numberFrom, decimalOf, hexOf}
 use Rattle.forms.specs.Form.{fieldOf, networkBody, rulesBody}
@@ -36,7 +36,7 @@ network : List ℕ
 network = 1 ∷ 333 ∷ 0 ∷ 2 ∷ 2 ∷ 4 ∷ 15 ∷ 15 ∷ 0 ∷ 10 ∷ 0 ∷ 10 ∷ 0 ∷ 1 ∷ 10 ∷ 0 ∷ 0 ∷ 2 ∷ 0 ∷ 10 ∷ 1 ∷ 2 ∷ 10 ∷ 0 ∷ 1 ∷ 1 ∷ 0 ∷ 10 ∷ []
 
 reads : readNetwork session ≡ good network
-unfolding network session readLines walk numberIn firstBad plain flatMap lines onFirst valuePart beforeFeed digitOf numberFrom decimalOf hexOf fieldOf networkBody headSize perLink perFlow networkSizes linkAt flowAt nextAt tunnelAt addUp networkOf rule.missedRate rule.missedBy rule.flowSum sumOver onlyIf orElse first Option·elim
+unfolding network session readLines walk numberIn firstBad plain flatMap lines onFirst valuePart beforeFeed digitOf numberFrom decimalOf hexOf fieldOf networkBody headSize perLink perFlow networkSizes linkAt flowAt nextIn tunnelAt addUp networkOf rule.missedRate rule.missedBy rule.flowSum sumOver onlyIf orElse first Option·elim
 reads = refl
 
 writes : render Network network ≡ session
@@ -76,8 +76,51 @@ more-bytes = refl
 
 -- a flow's new amounts miss its rate
 missed-new : readNetwork (bytes "net=1\nscratch=20\noverrun=0\nlinks=1\nflows=1\ntunnels=1\ncap=0\nclass=2\nrate=5\nflow=0\nvia=0000000000000001\nold=5\nnew=4\n") ≡ refused missedRate 0 1
-unfolding readLines walk numberIn firstBad plain flatMap lines onFirst valuePart beforeFeed digitOf numberFrom decimalOf hexOf fieldOf networkBody headSize perLink perFlow networkSizes linkAt flowAt nextAt tunnelAt addUp networkOf rule.missedRate rule.missedBy rule.flowSum sumOver onlyIf orElse first Option·elim
+unfolding readLines walk numberIn firstBad plain flatMap lines onFirst valuePart beforeFeed digitOf numberFrom decimalOf hexOf fieldOf networkBody headSize perLink perFlow networkSizes linkAt flowAt nextIn tunnelAt addUp networkOf rule.missedRate rule.missedBy rule.flowSum sumOver onlyIf orElse first Option·elim
 missed-new = refl
+
+-- ---- edition 2: "each flow's `rate` is followed by `next`"
+
+changed : List ℕ
+changed = bytes "net=2\nscratch=20\noverrun=0\nlinks=1\nflows=1\ntunnels=1\ncap=20\nclass=2\nrate=10\nnext=20\nflow=0\nvia=0000000000000001\nold=10\nnew=20\n"
+
+changed-network : List ℕ
+changed-network = 2 ∷ 20 ∷ 0 ∷ 1 ∷ 1 ∷ 1 ∷ 20 ∷ 2 ∷ 10 ∷ 20 ∷ 0 ∷ 1 ∷ 10 ∷ 20 ∷ []
+
+reads-next : readNetwork changed ≡ good changed-network
+unfolding changed changed-network readLines walk numberIn firstBad plain flatMap lines onFirst valuePart beforeFeed digitOf numberFrom decimalOf hexOf fieldOf networkBody headSize perLink perFlow networkSizes linkAt flowAt nextIn tunnelAt addUp networkOf rule.missedRate rule.missedBy rule.flowSum sumOver onlyIf orElse first Option·elim
+reads-next = refl
+
+writes-next : render Network changed-network ≡ changed
+unfolding changed changed-network render renderFrom digitsIn widthOf widthFrom fieldOf networkBody headSize perLink perFlow networkSizes linkAt flowAt tunnelAt
+writes-next = refl
+
+-- new amounts that miss the next
+missed-next : readNetwork (bytes "net=2\nscratch=20\noverrun=0\nlinks=1\nflows=1\ntunnels=1\ncap=0\nclass=2\nrate=5\nnext=4\nflow=0\nvia=0000000000000001\nold=5\nnew=5\n") ≡ refused missedRate 0 1
+unfolding readLines walk numberIn firstBad plain flatMap lines onFirst valuePart beforeFeed digitOf numberFrom decimalOf hexOf fieldOf networkBody headSize perLink perFlow networkSizes linkAt flowAt nextIn tunnelAt addUp networkOf rule.missedRate rule.missedBy rule.flowSum sumOver onlyIf orElse first Option·elim
+missed-next = refl
+
+-- a next that is missing in edition 2, and one in edition 1
+no-next : readNetwork (bytes "net=2\nscratch=20\noverrun=0\nlinks=1\nflows=1\ntunnels=0\ncap=0\nclass=2\nrate=0\n") ≡ refused missing 10 0
+unfolding readLines walk numberIn firstBad plain flatMap lines onFirst valuePart beforeFeed digitOf numberFrom decimalOf hexOf fieldOf networkBody headSize perLink perFlow networkSizes linkAt flowAt tunnelAt Option·elim
+no-next = refl
+
+early-next : readNetwork (bytes "net=1\nscratch=20\noverrun=0\nlinks=1\nflows=1\ntunnels=0\ncap=0\nclass=2\nrate=0\nnext=0\n") ≡ refused missing 10 0
+unfolding readLines walk numberIn firstBad plain flatMap lines onFirst valuePart beforeFeed digitOf numberFrom decimalOf hexOf fieldOf networkBody headSize perLink perFlow networkSizes linkAt flowAt tunnelAt Option·elim
+early-next = refl
+
+large-next : readNetwork (bytes "net=2\nscratch=20\noverrun=0\nlinks=1\nflows=1\ntunnels=0\ncap=0\nclass=2\nrate=0\nnext=10000001\n") ≡ refused outOfRange 10 0
+unfolding readLines walk numberIn firstBad plain flatMap lines onFirst valuePart beforeFeed digitOf numberFrom decimalOf hexOf fieldOf networkBody headSize perLink perFlow networkSizes linkAt flowAt tunnelAt Option·elim
+large-next = refl
+
+-- no other edition
+edition-0 : readNetwork (bytes "net=0\nscratch=20\n") ≡ refused outOfRange 1 0
+unfolding readLines walk numberIn firstBad plain flatMap lines onFirst valuePart beforeFeed digitOf numberFrom decimalOf hexOf fieldOf networkBody headSize perLink perFlow networkSizes linkAt flowAt tunnelAt Option·elim
+edition-0 = refl
+
+edition-3 : readNetwork (bytes "net=3\nscratch=20\n") ≡ refused outOfRange 1 0
+unfolding readLines walk numberIn firstBad plain flatMap lines onFirst valuePart beforeFeed digitOf numberFrom decimalOf hexOf fieldOf networkBody headSize perLink perFlow networkSizes linkAt flowAt tunnelAt Option·elim
+edition-3 = refl
 
 -- ---- remarks
 

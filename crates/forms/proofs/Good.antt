@@ -15,10 +15,10 @@ use Rattle.model.specs.Limits.{mostTunnels, mostSteps, mostAmount, newestEditio
 use Rattle.model.specs.Outcome.{good, Cause, unless, Place}
 use Rattle.model.specs.Rule as rule
 use Rattle.model.specs.Claim.{Valid}
-use Rattle.lists.specs.Lists.{at, hasNext, perLink, perFlow, networkSizes, linkAt, flowAt, nextAt, tunnelAt, networkSize, networkOf, planSizes, planSize}
+use Rattle.lists.specs.Lists.{at, hasNext, perLink, perFlow, nextIn, networkSizes, linkAt, flowAt, tunnelAt, networkSize, networkOf, planSizes, planSize}
 use Rattle.lists.specs.Good.{NetworkRanges, GoodNetwork, GoodPlan}
 use Rattle.lists.specs.declared.Network as counts
-use Rattle.lists.proofs.Positions.{link-some, flow-some, link-after, flow-after, tunnel-after, each-number, link-in, flow-in, tunnel-in}
+use Rattle.lists.proofs.Positions.{link-some, flow-some, next-last, link-after, flow-after, tunnel-after, each-number, link-in, flow-in, tunnel-in}
 use Rattle.forms.specs.Keys.{keys, placeIn}
 use Rattle.forms.specs.Form.{line, planBody, Sound, Whole, allows, fieldOf, networkLines, flowLines, tunnelLines, planLines, networkBody}
 use Rattle.forms.specs.Read.{addUp}
@@ -69,8 +69,8 @@ all-flow : (edition : ℕ) → AllLines (flowLines edition)
 all-flow edition = (tt, (tt, ⊎-elim (λ e. rw e (tt, tt)) (λ e. rw e tt) (bool-cases (hasNext edition))))
 
 -- the last of a flow's lines is that of an amount, whether or not there is a `next`
-pub last-line : (edition : ℕ) → allows (getD (flowLines edition) (perFlow edition - 1) End) ≡ allows (line "rate=" (Between 0 mostAmount))
-unfolding perFlow
+pub last-line : (edition : ℕ) → allows (getD (flowLines edition) (nextIn edition) End) ≡ allows (line "rate=" (Between 0 mostAmount))
+unfolding nextIn perFlow
 last-line edition = ⊎-elim (λ e. rw e refl) (λ e. rw e refl) (bool-cases (hasNext edition))
 
 module _ (n : counts.Network) where
@@ -125,9 +125,8 @@ module _ (l : List ℕ) (w : Whole Network l) where
   flow-line : (f j : ℕ) → f < sizes .flows → j < perFlow (sizes .edition) → T (allows (getD (flowLines (sizes .edition)) j End) (at l (flowAt sizes f + j)))
   flow-line f j h k = rw (body-flow sizes f j h k) at (body-line (flowAt sizes f + j) (omega (arith, flow-after sizes f)) (flow-in l network-size f j h k))
 
-  next-line : (f : ℕ) → f < sizes .flows → at l (nextAt sizes f) ≤ mostAmount
-  unfolding nextAt
-  next-line f h = between 0 mostAmount _ (rw (last-line (sizes .edition)) at (flow-line f (perFlow (sizes .edition) - 1) h (omega (arith, flow-some (sizes .edition))))) .1
+  next-line : (f : ℕ) → f < sizes .flows → at l (flowAt sizes f + nextIn (sizes .edition)) ≤ mostAmount
+  next-line f h = between 0 mostAmount _ (rw (last-line (sizes .edition)) at (flow-line f (nextIn (sizes .edition)) h (next-last (sizes .edition)))) .1
 
   tunnel-line : (t j : ℕ) → t < sizes .tunnels → j < length (tunnelLines sizes) → T (allows (getD (tunnelLines sizes) j End) (at l (tunnelAt sizes t + j)))
   tunnel-line t j h k =

@@ -11,9 +11,9 @@ use lib.Dec.{T, ltb}
 use lib.ListN.{length, getD, take}
 use borrow.Author.Tests.{lt-ltb, le-ltb}
 use Rattle.model.specs.Limits.{mostAmount}
-use Rattle.lists.specs.Lists.{at, perLink, perFlow, networkSizes, linkAt, flowAt, nextAt, tunnelAt, networkSize}
+use Rattle.lists.specs.Lists.{at, perLink, perFlow, nextIn, networkSizes, linkAt, flowAt, tunnelAt, networkSize}
 use Rattle.lists.specs.declared.Network as counts
-use Rattle.lists.proofs.Positions.{flow-most, tunnel-after, each-number}
+use Rattle.lists.proofs.Positions.{flow-most, third, next-third, tunnel-after, each-number}
 use Rattle.forms.specs.Form.{line, Sound, Whole, allows, admitsOf, fieldOf, networkLines, networkBody, flowLines, tunnelLines}
 use Rattle.lists.specs.Good.{LinksIn, FlowsIn, TunnelsIn}
 use Rattle.judges.specs.Ranges.{Decides, headLines, HeadIn}
@@ -90,12 +90,12 @@ module _ (l : List ℕ) where
   flows-none = record { class = λ f h. absurd (omega arith); rate = λ f h. absurd (omega arith); next = λ f h. absurd (omega arith) }
 
   pub flows-more : (n : ℕ) → FlowsIn l n → at l (flowAt (networkSizes l) n) ≤ 2 → at l (flowAt (networkSizes l) n + 1) ≤ mostAmount
-      → at l (nextAt (networkSizes l) n) ≤ mostAmount → FlowsIn l (n + 1)
+      → at l (flowAt (networkSizes l) n + nextIn (networkSizes l .edition)) ≤ mostAmount → FlowsIn l (n + 1)
   flows-more n h c r x =
       record {
         class = one-more (λ f. at l (flowAt (networkSizes l) f) ≤ 2) n (h .class) c;
         rate = one-more (λ f. at l (flowAt (networkSizes l) f + 1) ≤ mostAmount) n (h .rate) r;
-        next = one-more (λ f. at l (nextAt (networkSizes l) f) ≤ mostAmount) n (h .next) x;
+        next = one-more (λ f. at l (flowAt (networkSizes l) f + nextIn (networkSizes l .edition)) ≤ mostAmount) n (h .next) x;
       }
 
   pub tunnels-none : TunnelsIn l 0
@@ -135,12 +135,11 @@ module _ (l : List ℕ) (r : InRange l) where
 
   -- a flow has its class and its rate, and past them only its next
   flow-in : (f j : ℕ) → f < sizes .flows → j < perFlow (sizes .edition) → T (allows (getD (flowLines (sizes .edition)) j End) (at l (flowAt sizes f + j)))
-  unfolding nextAt
   flow-in f zero h k = at-first (λ v. T (allows (line "class=" (Between 0 2)) v)) (flowAt sizes f) (in-between 0 2 _ (omega arith) (r .flows .class f h))
   flow-in f (suc zero) h k = in-between 0 mostAmount _ (omega arith) (r .flows .rate f h)
   flow-in f (suc (suc j)) h k =
-      let e : perFlow (sizes .edition) - 1 ≡ suc (suc j) = omega (arith, flow-most (sizes .edition)) in
-      let last : T (allows (getD (flowLines (sizes .edition)) (perFlow (sizes .edition) - 1) End) (at l (flowAt sizes f + (perFlow (sizes .edition) - 1))))
+      let e : nextIn (sizes .edition) ≡ suc (suc j) = omega (arith, flow-most (sizes .edition), next-third (sizes .edition) (third (sizes .edition) (omega arith))) in
+      let last : T (allows (getD (flowLines (sizes .edition)) (nextIn (sizes .edition)) End) (at l (flowAt sizes f + nextIn (sizes .edition))))
       = rw (last-line (sizes .edition)) (in-between 0 mostAmount _ (omega arith) (r .flows .next f h)) in
       rw e at last
 

@@ -65,6 +65,7 @@ fn flows_in(list: &[u64], sizes: Network) -> bool
     requires { ⌜ Sized (now list) × (sizes ≡ networkSizes (now list)) ⌝ }
     ensures { λ r. ⌜ Decides r (FlowsIn (now (list .entry)) (sizes .flows)) ⌝ }
 {
+    let next = sizes.next();
     let mut f: usize = 0;
     while f < sizes.flows {
         let at = sizes.flow_at(f);
@@ -74,8 +75,7 @@ fn flows_in(list: &[u64], sizes: Network) -> bool
         if Network::AMOUNT < list[at + Network::RATE] {
             return false;
         }
-        let next = sizes.next_at(f);
-        if Network::AMOUNT < list[next] {
+        if Network::AMOUNT < list[at + next] {
             return false;
         }
         f += 1;

@@ -4,7 +4,7 @@ ghost use Prim.Native.Nat.{_+_, _<_, _^_};
 ghost use lib.ListN.{length, getD, set, replicate};
 ghost use Rattle.model.specs.Limits.{mostFlows};
 ghost use Rattle.lists.specs.Answers.{done};
-ghost use Rattle.lists.specs.Lists.{networkOf};
+ghost use Rattle.lists.specs.Lists.{nextIn, networkSizes, networkOf};
 ghost use Rattle.lists.specs.Good.{NetworkRanges};
 ghost use Rattle.forms.specs.Read.{addUp};
 ghost use Rattle.judges.specs.Sums.{Gathered};
@@ -23,13 +23,12 @@ fn add(sums: &mut [u64], flow: usize, amount: u64)
 }
 
 // The sums of each flow's old and new amounts, gathered in one pass over the tunnels.
-fn gather(list: &[u64], old: &mut [u64], new: &mut [u64])
-    requires { ⌜ NetworkRanges (now list) ⌝ }
+fn gather(list: &[u64], sizes: Network, old: &mut [u64], new: &mut [u64])
+    requires { ⌜ NetworkRanges (now list) × (sizes ≡ networkSizes (now list)) ⌝ }
     requires { ⌜ (now old ≡ replicate mostFlows 0) × (now new ≡ replicate mostFlows 0) ⌝ }
     ensures { λ _. ⌜ Gathered (networkOf (now (list .entry))) (networkOf (now (list .entry)) .old) (networkOf (now (list .entry)) .tunnels) (now (old .exit)) ⌝ }
     ensures { λ _. ⌜ Gathered (networkOf (now (list .entry))) (networkOf (now (list .entry)) .new) (networkOf (now (list .entry)) .tunnels) (now (new .exit)) ⌝ }
 {
-    let sizes = Network::of(list);
     let mut t: usize = 0;
     while t < sizes.tunnels {
         let at = sizes.tunnel_at(t);
@@ -40,18 +39,18 @@ fn gather(list: &[u64], old: &mut [u64], new: &mut [u64])
     }
 }
 
-// The first sum that misses its flow's rate or next: lowest flow, old before new.
-fn first_missed(list: &[u64], old: &[u64], new: &[u64]) -> Answer
-    requires { ⌜ NetworkRanges (now list) ⌝ }
+// The first sum that misses its flow's rate or next: lowest flow, old before new. `last` is which number of a flow is its next.
+fn first_missed(list: &[u64], sizes: Network, last: usize, old: &[u64], new: &[u64]) -> Answer
+    requires { ⌜ NetworkRanges (now list) × (sizes ≡ networkSizes (now list)) × (last ≡ nextIn (sizes .edition)) ⌝ }
     requires { ⌜ Gathered (networkOf (now list)) (networkOf (now list) .old) (networkOf (now list) .tunnels) (now old) ⌝ }
     requires { ⌜ Gathered (networkOf (now list)) (networkOf (now list) .new) (networkOf (now list) .tunnels) (now new) ⌝ }
     ensures { λ r. ⌜ r ≡ done (addUp Form.Network (now (list .entry))) ⌝ }
 {
-    let sizes = Network::of(list);
     let mut f: usize = 0;
     while f < sizes.flows {
-        let rate = list[sizes.flow_at(f) + Network::RATE];
-        let next = list[sizes.next_at(f)];
+        let at = sizes.flow_at(f);
+        let rate = list[at + Network::RATE];
+        let next = list[at + last];
         if old[f] != rate {
             return Answer::Refused {
                 number: 4,
@@ -76,8 +75,10 @@ pub fn add_up(list: &[u64]) -> Answer
     requires { ⌜ NetworkRanges (now list) ⌝ }
     ensures { λ r. ⌜ r ≡ done (addUp Form.Network (now (list .entry))) ⌝ }
 {
+    let sizes = Network::of(list);
     let mut old = [0u64; FLOWS];
     let mut new = [0u64; FLOWS];
-    gather(list, &mut old, &mut new);
-    first_missed(list, &old, &new)
+    let last = sizes.per_flow() - 1;
+    gather(list, sizes, &mut old, &mut new);
+    first_missed(list, sizes, last, &old, &new)
 }

@@ -12,7 +12,7 @@ use Rattle.model.specs.Limits.{mostSteps}
 use Rattle.model.proofs.Searches.{bool-cases}
 use Rattle.lists.specs.declared.Network.{Network}
 use Rattle.lists.specs.declared.Position.the-variants.{Link, Flow, Tunnel}
-use Rattle.lists.specs.Lists.{hasNext, headSize, perLink, perFlow, networkSizes, linkAt, flowAt, nextAt, tunnelAt, networkSize, planSizes, rowAt, mostNetwork, mostPlan, mostNumbers}
+use Rattle.lists.specs.Lists.{hasNext, headSize, perLink, perFlow, nextIn, networkSizes, linkAt, flowAt, tunnelAt, networkSize, planSizes, rowAt, mostNetwork, mostPlan, mostNumbers}
 use Rattle.lists.specs.Good.{Limited, StandsAt, Sized, GoodPlan}
 
 -- ---- numbers in groups of `per`, one after the other
@@ -81,6 +81,19 @@ module _ (edition : ℕ) where
   unfolding perFlow
   without-next e = rw e refl
 
+  -- the next is the last number of a flow: the third, or without a next the rate
+  pub next-last : nextIn edition < perFlow edition
+  unfolding nextIn
+  next-last = omega (arith, flow-some)
+
+  pub next-third : hasNext edition ≡ true → nextIn edition ≡ 2
+  unfolding nextIn
+  next-third e = rw (with-next e)
+
+  pub next-rate : hasNext edition ≡ false → nextIn edition ≡ 1
+  unfolding nextIn
+  next-rate e = rw (without-next e)
+
 pub most-in-all : mostNetwork ≤ mostNumbers
 unfolding mostNetwork
 most-in-all = omega arith
@@ -99,15 +112,6 @@ module _ (n : Network) where
   pub tunnel-at : (t : ℕ) → tunnelAt n t ≡ tunnelAt n 0 + 4 * t
   unfolding tunnelAt
   tunnel-at t = omega arith
-
-  -- the next of flow f is its third number; without a next, its rate is read in its place
-  pub next-at : hasNext (n .edition) ≡ true → (f : ℕ) → nextAt n f ≡ flowAt n f + 2
-  unfolding nextAt
-  next-at e f = rw (with-next (n .edition) e)
-
-  pub rate-again : hasNext (n .edition) ≡ false → (f : ℕ) → nextAt n f ≡ flowAt n f + 1
-  unfolding nextAt
-  rate-again e f = rw (without-next (n .edition) e)
 
   pub flows-follow : flowAt n 0 ≡ linkAt n (n .links)
   unfolding flowAt
@@ -243,7 +247,7 @@ short l s = omega (arith, s .size, most-network (networkSizes l) (s .counts))
 
 -- ---- what code knows of a position i that it has from the sizes n of a list
 
--- of link k, of flow f, of its next, of tunnel t: `last` is the last of the numbers that are read from there on
+-- of link k, of flow f, of the same flow up to its next, of tunnel t: `last` is the last of the numbers that are read from there on
 pub record Place (l : List ℕ) (start count : Network → ℕ) (last k i : ℕ) : Type 0 where
   pub here : i ≡ start (networkSizes l)
   pub there : k < count (networkSizes l)
@@ -257,7 +261,7 @@ abbrev pub FlowPlace : List ℕ → ℕ → ℕ → Type 0
 FlowPlace l f i = Place l (λ n. flowAt n f) (λ n. n .flows) 1 f i
 
 abbrev pub NextPlace : List ℕ → ℕ → ℕ → Type 0
-NextPlace l f i = Place l (λ n. nextAt n f) (λ n. n .flows) 0 f i
+NextPlace l f i = Place l (λ n. flowAt n f) (λ n. n .flows) (nextIn (networkSizes l .edition)) f i
 
 abbrev pub TunnelPlace : List ℕ → ℕ → ℕ → Type 0
 TunnelPlace l t i = Place l (λ n. tunnelAt n t) (λ n. n .tunnels) 3 t i
@@ -277,11 +281,8 @@ module _ (l : List ℕ) (s : Sized l) (n : Network) (same : n ≡ networkSizes l
   pub flow-place : (f i : ℕ) → f < n .flows → i ≡ flowAt n f → FlowPlace l f i
   flow-place f i h e = place (λ m. flowAt m f) (λ m. m .flows) 1 f i h e (λ g. flow-in l (s .size) f 1 g (flow-some (networkSizes l .edition)))
 
-  pub next-place : (f i : ℕ) → f < n .flows → i ≡ nextAt n f → NextPlace l f i
-  unfolding nextAt
-  next-place f i h e =
-      let last : perFlow (networkSizes l .edition) - 1 < perFlow (networkSizes l .edition) = omega (arith, flow-some (networkSizes l .edition)) in
-      place (λ m. nextAt m f) (λ m. m .flows) 0 f i h e (λ g. omega (arith, flow-in l (s .size) f _ g last))
+  pub next-place : (f i : ℕ) → f < n .flows → i ≡ flowAt n f → NextPlace l f i
+  next-place f i h e = place (λ m. flowAt m f) (λ m. m .flows) _ f i h e (λ g. flow-in l (s .size) f _ g (next-last (networkSizes l .edition)))
 
   pub tunnel-place : (t i : ℕ) → t < n .tunnels → i ≡ tunnelAt n t → TunnelPlace l t i
   tunnel-place t i h e = place (λ m. tunnelAt m t) (λ m. m .tunnels) 3 t i h e (tunnel-in l (s .size) t)

@@ -10,7 +10,7 @@ use Rattle.model.specs.Rule.{missedRate}
 use Rattle.lists.specs.declared.Network.{Network}
 use Rattle.lists.specs.declared.Position.{Position}
 use Rattle.lists.specs.declared.Position.the-variants.{Link, Flow, Tunnel, Past}
-use Rattle.lists.specs.Lists.{at, perLink, perFlow, networkSizes, linkAt, flowAt, nextAt, tunnelAt, networkSize, networkOf, planSizes, rowAt, planSize}
+use Rattle.lists.specs.Lists.{at, perLink, perFlow, nextIn, networkSizes, linkAt, flowAt, tunnelAt, networkSize, networkOf, planSizes, rowAt, planSize}
 
 -- counts within the limits
 pub record Limited (n : Network) : Type 0 where
@@ -37,7 +37,7 @@ pub record LinksIn (l : List ℕ) (count : ℕ) : Type 0 where
 pub record FlowsIn (l : List ℕ) (count : ℕ) : Type 0 where
   pub class : (f : ℕ) → f < count → at l (flowAt (networkSizes l) f) ≤ 2
   pub rate : (f : ℕ) → f < count → at l (flowAt (networkSizes l) f + 1) ≤ mostAmount
-  pub next : (f : ℕ) → f < count → at l (nextAt (networkSizes l) f) ≤ mostAmount
+  pub next : (f : ℕ) → f < count → at l (flowAt (networkSizes l) f + nextIn (networkSizes l .edition)) ≤ mostAmount
 
 pub record TunnelsIn (l : List ℕ) (count : ℕ) : Type 0 where
   pub flow : (t : ℕ) → t < count → at l (tunnelAt (networkSizes l) t) < networkSizes l .flows

@@ -30,6 +30,10 @@ perLink edition = 1
 unfoldable pub perFlow : ℕ → ℕ
 perFlow edition = cond (hasNext edition) 3 2
 
+-- which line of a flow is its `next`: the last; in edition 1, which is "read as if `next` equalled `rate`", that is its rate
+unfoldable pub nextIn : ℕ → ℕ
+nextIn edition = perFlow edition - 1
+
 -- its edition, and how many links, flows and tunnels it has: the last numbers of the head
 unfoldable pub networkSizes : List ℕ → Network
 networkSizes l = record { edition = at l 0; links = at l (headSize (at l 0) - 3); flows = at l (headSize (at l 0) - 2); tunnels = at l (headSize (at l 0) - 1) }
@@ -40,10 +44,6 @@ linkAt n k = headSize (n .edition) + perLink (n .edition) * k
 
 unfoldable pub flowAt : Network → ℕ → ℕ
 flowAt n f = linkAt n (n .links) + perFlow (n .edition) * f
-
--- where the `next` of flow f stands, the last of its lines; in edition 1, which is "read as if `next` equalled `rate`", its rate
-unfoldable pub nextAt : Network → ℕ → ℕ
-nextAt n f = flowAt n f + (perFlow (n .edition) - 1)
 
 unfoldable pub tunnelAt : Network → ℕ → ℕ
 tunnelAt n t = flowAt n (n .flows) + 4 * t
@@ -61,7 +61,7 @@ networkOf l = record {
   cap = λ k. at l (linkAt (networkSizes l) k);
   class = λ f. at l (flowAt (networkSizes l) f);
   rate = λ f. at l (flowAt (networkSizes l) f + 1);
-  next = λ f. at l (nextAt (networkSizes l) f);
+  next = λ f. at l (flowAt (networkSizes l) f + nextIn (networkSizes l .edition));
   flow = λ t. at l (tunnelAt (networkSizes l) t);
   via = λ t. at l (tunnelAt (networkSizes l) t + 1);
   old = λ t. at l (tunnelAt (networkSizes l) t + 2);

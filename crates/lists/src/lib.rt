@@ -5,7 +5,7 @@ ghost use mathlib.Core.Path.{_≡_};
 ghost use Prim.Native.Nat.{_≤_};
 ghost use lib.ListN.{length};
 ghost use Rattle.model.specs.Limits.{mostSteps, mostTunnels, mostSwitches};
-ghost use Rattle.lists.specs.Lists.{hasNext, headSize, perLink, perFlow, networkSizes, linkAt, flowAt, nextAt, tunnelAt, planSizes, rowAt, tableSizes, roomAt, ruleAt};
+ghost use Rattle.lists.specs.Lists.{hasNext, headSize, perLink, perFlow, nextIn, networkSizes, linkAt, flowAt, tunnelAt, planSizes, rowAt, tableSizes, roomAt, ruleAt};
 ghost use Rattle.lists.specs.Good.{Limited, StandsAt};
 
 // A network's edition, and how many links, flows and tunnels it has.
@@ -113,6 +113,13 @@ impl Network {
         }
     }
 
+    // Which number of a flow is its next, the last; in edition 1, its rate.
+    pub fn next(self) -> usize
+        ensures { λ r. ⌜ r ≡ nextIn (self .edition) ⌝ }
+    {
+        self.per_flow() - 1
+    }
+
     // Where the lines of link k begin; past the last link, where those of flow 0 begin.
     pub fn link_at(self, k: usize) -> usize
         requires { ⌜ Limited self × (k ≤ self .links) ⌝ }
@@ -127,14 +134,6 @@ impl Network {
         ensures { λ r. ⌜ r ≡ flowAt self f ⌝ }
     {
         self.link_at(self.links) + self.per_flow() * f
-    }
-
-    // Where the next rate of flow f stands; in edition 1, where its rate stands.
-    pub fn next_at(self, f: usize) -> usize
-        requires { ⌜ Limited self × (f ≤ self .flows) ⌝ }
-        ensures { λ r. ⌜ r ≡ nextAt self f ⌝ }
-    {
-        self.flow_at(f) + (self.per_flow() - 1)
     }
 
     // Where the four lines of tunnel t begin; past the last tunnel, how many lines there are.

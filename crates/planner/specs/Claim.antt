@@ -34,7 +34,7 @@ pub record Safe (l p : List ℕ) : Type 0 where
   pub network : judgeNetwork l ≡ good l
   pub judged : judgePlan p ≡ good p
   pub tunnels : planSizes p .tunnels ≡ networkOf l .tunnels
-  -- "In every row a flow's amounts add up to parts × rate"
+  -- "In each listed row a flow's sum lies between parts × the lesser and parts × the greater" of its rate and its next
   pub rows : missedRow (networkOf l) (planOf p) ≡ none
   pub overload : firstOverload (networkOf l) (planOf p) ≡ none
   -- "no choice in any step overloads a link"

@@ -204,7 +204,7 @@ fn put_flow(out: &mut [u8], at: usize, list: &[u64], sizes: Network, f: usize) -
     let rate = lines::put_line(out, at, b"class=", list[i]);
     let next = lines::put_line(out, rate, b"rate=", list[i + Network::RATE]);
     if sizes.has_next() {
-        lines::put_line(out, next, b"next=", list[sizes.next_at(f)])
+        lines::put_line(out, next, b"next=", list[i + sizes.next()])
     } else {
         next
     }

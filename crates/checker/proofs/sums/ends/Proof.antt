@@ -1,12 +1,12 @@
 -- `checker::sums::ends` meets its contract.
-use Prim.Native.Nat.{ℕ, _≤_, _<_, _-_, _+_, _*_, _^_, min, max}
+use Prim.Native.Nat.{ℕ, _≤_, _<_, _-_, _+_, _*_, min, max}
 use mathlib.Core.Path.{_≡_, refl, ap, ap₂, _∙_}
 use mathlib.Core.List.{List}
 use native.Mathlib.Nat.{mul-le-mul, le-trans, min-le-left, max-le}
 use lib.ListN.{length, getD, length-set}
 use Rattle.model.specs.Limits.{mostFlows, mostSteps, mostAmount}
 use Rattle.model.specs.Net.{Net}
-use Rattle.lists.specs.Lists.{at, networkOf}
+use Rattle.lists.specs.Lists.{at, nextIn, networkSizes, networkOf}
 use Rattle.lists.specs.declared.Network as counts
 use Rattle.lists.proofs.Positions.{FlowPlace, NextPlace, flow-place, next-place, limited, head-in}
 use Rattle.overloads.specs.Columns.{Holds}
@@ -19,7 +19,7 @@ use Rattle.checker.proofs.sums.ends.Tie as tie
 use Rattle.checker.proofs.sums.greater.Reads as greater-reads
 use Rattle.checker.proofs.sums.lesser.Reads as lesser-reads
 use Rattle.lists.proofs.Network.flow_at.Reads as flow-at-reads
-use Rattle.lists.proofs.Network.next_at.Reads as next-at-reads
+use Rattle.lists.proofs.Network.next.Reads as next-reads
 use Rattle.lists.proofs.Network.of.Reads as of-reads
 
 abbrev Inv-loop : tie.InvT-loop
@@ -50,6 +50,9 @@ module _ (c : tie.After-flow-at Inv-loop μ-loop) where
   place : FlowPlace list f (c .flow-at .result)
   place = flow-place list (begin .pre .0 .ranges .sized) _ (c .before .before .before .before .of .ensures) f _ (c .before .if1 .taken) (c .flow-at .ensures)
 
+  further : NextPlace list f (c .flow-at .result)
+  further = next-place list (begin .pre .0 .ranges .sized) _ (c .before .before .before .before .of .ensures) f _ (c .before .if1 .taken) (c .flow-at .ensures)
+
   rate-at : getD list (c .flow-at .result + 1) 0 ≡ N .rate f
   unfolding networkOf
   rate-at = ap (λ (i : ℕ). at list (i + 1)) (place .here)
@@ -57,30 +60,30 @@ module _ (c : tie.After-flow-at Inv-loop μ-loop) where
   there : f < mostFlows
   there = omega (arith, place .there, begin .pre .0 .ranges .sized .counts)
 
-module _ (c : tie.After-next-at Inv-loop μ-loop) where
+  rate-low : N .rate f ≤ mostAmount
+  unfolding networkOf
+  rate-low = begin .pre .0 .ranges .flows .rate f (place .there)
+
+  next-low : N .next f ≤ mostAmount
+  unfolding networkOf
+  next-low = begin .pre .0 .ranges .flows .next f (place .there)
+
+  high-low : begin .args .parts * max (N .rate f) (N .next f) ≤ mostSteps * mostAmount
+  high-low = mul-le-mul (begin .pre .1) (max-le rate-low next-low)
+
+  low-low : begin .args .parts * min (N .rate f) (N .next f) ≤ mostSteps * mostAmount
+  low-low = mul-le-mul (begin .pre .1) (le-trans (min-le-left (N .rate f) (N .next f)) rate-low)
+
+module _ (c : tie.After-next Inv-loop μ-loop) where
   abbrev turn : tie.After-flow-at Inv-loop μ-loop
   turn = (c .before .before)
 
-  next-here : NextPlace (list turn) (f turn) (c .next-at .result)
-  next-here = next-place (list turn) (begin turn .pre .0 .ranges .sized) _ (c .before .before .before .before .before .before .of .ensures) (f turn) _ (c .before .before .before .if1 .taken) (c .next-at .ensures)
+  next-in : c .next .result ≡ nextIn (networkSizes (list turn) .edition)
+  next-in = c .next .ensures ∙ ap (λ (n : counts.Network). nextIn (n .edition)) (c .before .before .before .before .before .before .of .ensures)
 
-  next-at : getD (list turn) (c .next-at .result) 0 ≡ N turn .next (f turn)
+  next-at : getD (list turn) (turn .flow-at .result + c .next .result) 0 ≡ N turn .next (f turn)
   unfolding networkOf
-  next-at = ap (at (list turn)) (next-here .here)
-
-  rate-low : N turn .rate (f turn) ≤ mostAmount
-  unfolding networkOf
-  rate-low = begin turn .pre .0 .ranges .flows .rate (f turn) (place turn .there)
-
-  next-low : N turn .next (f turn) ≤ mostAmount
-  unfolding networkOf
-  next-low = begin turn .pre .0 .ranges .flows .next (f turn) (place turn .there)
-
-  high-low : begin turn .args .parts * max (N turn .rate (f turn)) (N turn .next (f turn)) ≤ mostSteps * mostAmount
-  high-low = mul-le-mul (begin turn .pre .1) (max-le rate-low next-low)
-
-  low-low : begin turn .args .parts * min (N turn .rate (f turn)) (N turn .next (f turn)) ≤ mostSteps * mostAmount
-  low-low = mul-le-mul (begin turn .pre .1) (le-trans (min-le-left (N turn .rate (f turn)) (N turn .next (f turn))) rate-low)
+  next-at = ap₂ (λ (i j : ℕ). at (list turn) (i + j)) (place turn .here) next-in
 
 -- what is written for it
 low-here : (c : tie.After-lesser Inv-loop μ-loop) → let t = turn (c .before .before) in begin t .args .parts * c .lesser .result ≡ lowEnd (N t) (begin t .args .parts) (f t)
@@ -111,20 +114,23 @@ mul-rate c = record { fits = omega (arith, place c .few) }
 shared-slice-read-rate : tie.Need-shared-slice-read-rate Inv-loop μ-loop
 shared-slice-read-rate c = omega (arith, place (c .before) .within)
 
-next-at-requires : tie.Need-next-at-requires Inv-loop μ-loop
-next-at-requires c κs = (limited _ (c .before .before .before .before .before .before .before .before .before .pre .0 .ranges .sized) _ (c .before .before .before .before .before .of .ensures), omega (arith, c .before .before .if1 .taken))
+next-requires : tie.Need-next-requires Inv-loop μ-loop
+next-requires c κs = search needs
+
+add-next : tie.Need-add-next Inv-loop μ-loop
+add-next c = record { fits = omega (arith, next-in c, further (turn c) .few) }
 
 mul-next : tie.Need-mul-next Inv-loop μ-loop
-mul-next c = record { fits = omega (arith, next-here c .few) }
+mul-next c = record { fits = omega (arith, next-in c, further (turn c) .few) }
 
 shared-slice-read-next : tie.Need-shared-slice-read-next Inv-loop μ-loop
-shared-slice-read-next c = omega (arith, next-here (c .before) .within)
+shared-slice-read-next c = omega (arith, next-in (c .before), further (turn (c .before)) .within)
 
 lesser-requires : tie.Need-lesser-requires Inv-loop μ-loop
 lesser-requires c κs = search needs
 
 mul-low : tie.Need-mul-low Inv-loop μ-loop
-mul-low c = record { fits = omega (arith, low-here c, low-low (c .before .before)) }
+mul-low c = record { fits = omega (arith, low-here c, low-low (c .before .before .before .before)) }
 
 mul-low-2 : tie.Need-mul-low-2 Inv-loop μ-loop
 mul-low-2 c = record { fits = omega (arith, there (c .before .before .before .before)) }
@@ -136,7 +142,7 @@ greater-requires : tie.Need-greater-requires Inv-loop μ-loop
 greater-requires c κs = search needs
 
 mul-high : tie.Need-mul-high Inv-loop μ-loop
-mul-high c = record { fits = omega (arith, high-here c, high-low (c .before .before .before)) }
+mul-high c = record { fits = omega (arith, high-here c, high-low (c .before .before .before .before .before)) }
 
 mul-high-2 : tie.Need-mul-high-2 Inv-loop μ-loop
 mul-high-2 c = record { fits = omega (arith, there (c .before .before .before .before .before)) }
@@ -181,7 +187,8 @@ ends-spec =
     add-rate
     mul-rate
     shared-slice-read-rate
-    next-at-requires
+    next-requires
+    add-next
     mul-next
     shared-slice-read-next
     lesser-requires

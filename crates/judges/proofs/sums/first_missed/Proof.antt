@@ -1,6 +1,6 @@
 -- `judges::sums::first_missed` meets its contract.
 use Prim.Native.Nat.{ℕ, _≤_, _<_, _-_, _+_}
-use mathlib.Core.Path.{_≡_, sym, ap, _∙_}
+use mathlib.Core.Path.{_≡_, sym, ap, ap₂, _∙_}
 use mathlib.Core.List.{List}
 use mathlib.Core.Option.{none}
 use lib.ListN.{getD}
@@ -9,28 +9,26 @@ use Rattle.model.specs.Search.{first}
 use Rattle.model.specs.Limits.{mostFlows}
 use Rattle.model.specs.Rule.{flowSum, missedBy}
 use Rattle.model.proofs.Searches.{first-zero, first-on}
-use Rattle.lists.specs.Lists.{at, networkSizes, networkOf}
+use Rattle.lists.specs.Lists.{at, nextIn, networkSizes, networkOf}
 use Rattle.lists.specs.declared.Network as counts
-use Rattle.lists.proofs.Positions.{FlowPlace, NextPlace, flow-place, next-place, limited, head-in}
+use Rattle.lists.proofs.Positions.{FlowPlace, NextPlace, flow-place, next-place, limited}
 use Rattle.judges.proofs.Gathering.{gathered-all, miss-old, miss-new, miss-none, missed-at, missed-none}
 use native.Mathlib.Omega.{arith}
 use borrow.Author.Needs.{needs}
 use Rattle.judges.proofs.sums.first_missed.Statement.{statement}
 use Rattle.judges.proofs.sums.first_missed.Tie as tie
 use Rattle.lists.proofs.Network.flow_at.Reads as flow-at-reads
-use Rattle.lists.proofs.Network.next_at.Reads as next-at-reads
-use Rattle.lists.proofs.Network.of.Reads as of-reads
 
 abbrev Inv-loop : tie.InvT-loop
-Inv-loop list old new sizes f₀ f = (f ≤ sizes .flows) × (first f (missedBy (networkOf list)) ≡ none)
+Inv-loop list sizes last old new f₀ f = (f ≤ sizes .flows) × (first f (missedBy (networkOf list)) ≡ none)
 
 abbrev μ-loop : tie.MeasureT-loop
-μ-loop list old new sizes f₀ f = sizes .flows - f
+μ-loop list sizes last old new f₀ f = sizes .flows - f
 
--- in a turn: the flow's place and its rate
+-- in a turn: the flow's place, its rate, its next and its sums
 module _ (c : tie.After-flow-at Inv-loop μ-loop) where
   abbrev begin : tie.Start Inv-loop μ-loop
-  begin = (c .before .before .before .before .before .before .before .before)
+  begin = (c .before .before .before .before .before .before .before)
 
   abbrev list : List ℕ
   list = begin .args .list .now
@@ -42,45 +40,40 @@ module _ (c : tie.After-flow-at Inv-loop μ-loop) where
   f = c .before .before .before .loop .f
 
   place : FlowPlace list f (c .flow-at .result)
-  place = flow-place list (begin .pre .0 .sized) _ (c .before .before .before .before .of .ensures) f _ (c .before .if1 .taken) (c .flow-at .ensures)
+  place = flow-place list (begin .pre .0 .0 .sized) _ (begin .pre .0 .1) f _ (c .before .if1 .taken) (c .flow-at .ensures)
+
+  further : NextPlace list f (c .flow-at .result)
+  further = next-place list (begin .pre .0 .0 .sized) _ (begin .pre .0 .1) f _ (c .before .if1 .taken) (c .flow-at .ensures)
 
   rate-at : getD list (c .flow-at .result + 1) 0 ≡ N .rate f
   unfolding networkOf
   rate-at = ap (λ (i : ℕ). at list (i + 1)) (place .here)
 
--- its next and its sums
-module _ (c : tie.After-next-at Inv-loop μ-loop) where
-  abbrev turn : tie.After-flow-at Inv-loop μ-loop
-  turn = (c .before .before)
+  next-in : begin .args .last ≡ nextIn (networkSizes list .edition)
+  next-in = begin .pre .0 .2 ∙ ap (λ (n : counts.Network). nextIn (n .edition)) (begin .pre .0 .1)
 
-  next-here : NextPlace (list turn) (f turn) (c .next-at .result)
-  next-here = next-place (list turn) (begin turn .pre .0 .sized) _ (c .before .before .before .before .before .before .of .ensures) (f turn) _ (c .before .before .before .if1 .taken) (c .next-at .ensures)
-
-  next-at : getD (list turn) (c .next-at .result) 0 ≡ N turn .next (f turn)
+  next-at : getD list (c .flow-at .result + begin .args .last) 0 ≡ N .next f
   unfolding networkOf
-  next-at = ap (at (list turn)) (next-here .here)
+  next-at = ap₂ (λ (i j : ℕ). at list (i + j)) (place .here) next-in
 
-  there : f turn < N turn .flows
+  there : f < N .flows
   unfolding networkOf
-  there = place turn .there
+  there = place .there
 
-  low : f turn < mostFlows
-  low = omega (arith, place turn .there, begin turn .pre .0 .sized .counts)
+  low : f < mostFlows
+  low = omega (arith, place .there, begin .pre .0 .0 .sized .counts)
 
-  old-sum : getD (begin turn .args .old .now) (f turn) 0 ≡ flowSum (N turn) (N turn .old) (f turn)
-  old-sum = gathered-all _ _ _ (f turn) (begin turn .pre .1 .0) low
+  old-sum : getD (begin .args .old .now) f 0 ≡ flowSum N (N .old) f
+  old-sum = gathered-all _ _ _ f (begin .pre .1 .0) low
 
-  new-sum : getD (begin turn .args .new .now) (f turn) 0 ≡ flowSum (N turn) (N turn .new) (f turn)
-  new-sum = gathered-all _ _ _ (f turn) (begin turn .pre .1 .1) low
-
-of-requires : tie.Need-of-requires Inv-loop μ-loop
-of-requires c κs = head-in _ (c .before .before .before .pre .0 .sized .size)
+  new-sum : getD (begin .args .new .now) f 0 ≡ flowSum N (N .new) f
+  new-sum = gathered-all _ _ _ f (begin .pre .1 .1) low
 
 loop-holds : tie.Need-loop-holds Inv-loop μ-loop
 loop-holds c = (omega arith, first-zero _)
 
 flow-at-requires : tie.Need-flow-at-requires Inv-loop μ-loop
-flow-at-requires c κs = (limited _ (c .before .before .before .before .before .before .before .pre .0 .sized) _ (c .before .before .before .of .ensures), omega (arith, c .if1 .taken))
+flow-at-requires c κs = (limited _ (c .before .before .before .before .before .before .pre .0 .0 .sized) _ (c .before .before .before .before .before .before .pre .0 .1), omega (arith, c .if1 .taken))
 
 add-rate : tie.Need-add-rate Inv-loop μ-loop
 add-rate c = record { fits = omega (arith, place c .few) }
@@ -91,36 +84,34 @@ mul-rate c = record { fits = omega (arith, place c .few) }
 shared-slice-read-rate : tie.Need-shared-slice-read-rate Inv-loop μ-loop
 shared-slice-read-rate c = omega (arith, place (c .before) .within)
 
-next-at-requires : tie.Need-next-at-requires Inv-loop μ-loop
-next-at-requires c κs = (limited _ (c .before .before .before .before .before .before .before .before .before .pre .0 .sized) _ (c .before .before .before .before .before .of .ensures), omega (arith, c .before .before .if1 .taken))
+add-next : tie.Need-add-next Inv-loop μ-loop
+add-next c = record { fits = omega (arith, next-in (c .before), further (c .before) .few) }
 
 mul-next : tie.Need-mul-next Inv-loop μ-loop
-mul-next c = record { fits = omega (arith, next-here c .few) }
+mul-next c = record { fits = omega (arith, next-in (c .before), further (c .before) .few) }
 
 shared-slice-read-next : tie.Need-shared-slice-read-next Inv-loop μ-loop
-shared-slice-read-next c = omega (arith, next-here (c .before) .within)
+shared-slice-read-next c = omega (arith, next-in (c .before .before), further (c .before .before) .within)
 
 mul-if2 : tie.Need-mul-if2 Inv-loop μ-loop
-mul-if2 c = record { fits = omega (arith, low (c .before)) }
+mul-if2 c = record { fits = omega (arith, low (c .before .before)) }
 
 shared-slice-read-if2 : tie.Need-shared-slice-read-if2 Inv-loop μ-loop
-shared-slice-read-if2 c = rw (c .before .before .before .before .before .before .before .before .before .before .before .before .pre .1 .0 .size) (low (c .before .before))
+shared-slice-read-if2 c = rw (c .before .before .before .before .before .before .before .before .before .before .pre .1 .0 .size) (low (c .before .before .before))
 
 returns : tie.Need-returns Inv-loop μ-loop
-returns c = let n = (c .before .before .before) in
-    let t = turn n in
-    sym (missed-at (list t) (f t) _ (c .before .before .before .before .before .before .before .before .loop .inv .1) (miss-old (N t) (f t) (λ e. c .if2 .taken (old-sum n ∙ e ∙ sym (rate-at t)))) (there n))
+returns c = let t = (c .before .before .before .before) in
+    sym (missed-at (list t) (f t) _ (c .before .before .before .before .before .before .before .loop .inv .1) (miss-old (N t) (f t) (λ e. c .if2 .taken (old-sum t ∙ e ∙ sym (rate-at t)))) (there t))
 
 mul-if3 : tie.Need-mul-if3 Inv-loop μ-loop
-mul-if3 c = record { fits = omega (arith, low (c .before .before .before)) }
+mul-if3 c = record { fits = omega (arith, low (c .before .before .before .before)) }
 
 shared-slice-read-if3 : tie.Need-shared-slice-read-if3 Inv-loop μ-loop
-shared-slice-read-if3 c = rw (c .before .before .before .before .before .before .before .before .before .before .before .before .before .before .pre .1 .1 .size) (low (c .before .before .before .before))
+shared-slice-read-if3 c = rw (c .before .before .before .before .before .before .before .before .before .before .before .before .pre .1 .1 .size) (low (c .before .before .before .before .before))
 
 returns-2 : tie.Need-returns-2 Inv-loop μ-loop
-returns-2 c = let n = (c .before .before .before .before .before) in
-    let t = turn n in
-    sym (missed-at (list t) (f t) _ (c .before .before .before .before .before .before .before .before .before .before .loop .inv .1) (miss-new (N t) (f t) (sym (old-sum n) ∙ c .before .before .if2 .left ∙ rate-at t) (λ e. c .if3 .taken (new-sum n ∙ e ∙ sym (next-at n)))) (there n))
+returns-2 c = let t = (c .before .before .before .before .before .before) in
+    sym (missed-at (list t) (f t) _ (c .before .before .before .before .before .before .before .before .before .loop .inv .1) (miss-new (N t) (f t) (sym (old-sum t) ∙ c .before .before .if2 .left ∙ rate-at t) (λ e. c .if3 .taken (new-sum t ∙ e ∙ sym (next-at t)))) (there t))
 
 add-f : tie.Need-add-f Inv-loop μ-loop
 add-f c = search needs
@@ -129,16 +120,15 @@ loop-less : tie.Need-loop-less Inv-loop μ-loop
 loop-less c = search needs
 
 loop-again : tie.Need-loop-again Inv-loop μ-loop
-loop-again c = let n = (c .before .before .before .before .before) in
-    let t = turn n in (
-      omega (arith, c .before .before .before .before .before .before .before .before .if1 .taken),
-      first-on _ (f t) (c .before .before .before .before .before .before .before .before .before .before .loop .inv .1) (miss-none (N t) (f t) (sym (old-sum n) ∙ c .before .before .if2 .left ∙ rate-at t) (sym (new-sum n) ∙ c .if3 .left ∙ next-at n)),
-    )
+loop-again c = let t = (c .before .before .before .before .before .before) in (
+  omega (arith, c .before .before .before .before .before .before .before .if1 .taken),
+  first-on _ (f t) (c .before .before .before .before .before .before .before .before .before .loop .inv .1) (miss-none (N t) (f t) (sym (old-sum t) ∙ c .before .before .if2 .left ∙ rate-at t) (sym (new-sum t) ∙ c .if3 .left ∙ next-at t)),
+)
 
 returns-3 : tie.Need-returns-3 Inv-loop μ-loop
 unfolding networkOf
-returns-3 c = let l = c .before .before .before .before .before .before .before .args .list .now in
-    let e : c .before .before .loop .f ≡ networkSizes l .flows = omega (arith, c .before .before .loop .inv .0, ap (λ (n : counts.Network). n .flows) (c .before .before .before .of .ensures)) in
+returns-3 c = let l = c .before .before .before .before .before .before .args .list .now in
+    let e : c .before .before .loop .f ≡ networkSizes l .flows = omega (arith, c .before .before .loop .inv .0, ap (λ (n : counts.Network). n .flows) (c .before .before .before .before .before .before .pre .0 .1)) in
     sym (missed-none l (rw e at (c .before .before .loop .inv .1)))
 
 pub first-missed-spec : {M : Type 1} → statement M
@@ -147,13 +137,12 @@ first-missed-spec =
     (tie.spec
     Inv-loop
     μ-loop
-    of-requires
     loop-holds
     flow-at-requires
     add-rate
     mul-rate
     shared-slice-read-rate
-    next-at-requires
+    add-next
     mul-next
     shared-slice-read-next
     mul-if2

@@ -1,13 +1,12 @@
 -- `writers::write::put_flow` meets its contract.
-use Prim.Native.Nat.{ℕ, _≤_, _+_, _<_}
+use Prim.Native.Nat.{ℕ, _≤_, _+_}
 use mathlib.Core.Path.{_≡_, refl, sym, ap, subst, _∙_}
 use mathlib.Core.Bool.{Bool, true, false}
 use mathlib.Core.List.{List}
-use lib.ListN.{length}
 use Rattle.lists.specs.Lists.{hasNext, perFlow, networkSizes, flowAt}
 use Rattle.lists.specs.Good.{Sized}
 use Rattle.lists.specs.declared.Network as counts
-use Rattle.lists.proofs.Positions.{FlowPlace, NextPlace, flow-place, next-place, flow-some, with-next, without-next, next-at, limited}
+use Rattle.lists.proofs.Positions.{FlowPlace, flow-place, flow-some, with-next, without-next, next-third, limited}
 use Rattle.forms.proofs.Good.{network-ranges}
 use Rattle.forms.specs.Bytes.{bytes}
 use Rattle.forms.specs.declared.form.Form.the-variants.{Network}
@@ -21,7 +20,7 @@ use Rattle.writers.proofs.write.put_flow.Tie as tie
 use Rattle.lines.proofs.put_line.Reads as put-line-reads
 use Rattle.lists.proofs.Network.flow_at.Reads as flow-at-reads
 use Rattle.lists.proofs.Network.has_next.Reads as has-next-reads
-use Rattle.lists.proofs.Network.next_at.Reads as next-at-reads
+use Rattle.lists.proofs.Network.next.Reads as next-reads
 
 sized : (s : tie.Start) → Sized (s .args .list .now)
 sized s = network-ranges (s .args .list .now) (s .pre .0 .0) .sized
@@ -76,20 +75,20 @@ with-rate c =
     next-put Network (list t) (first t) _ (start t .pre .1) 1 (i t + 1) (two t) (omega (arith, place t .here)) (rate t .line) (with-class (c .before .before .before .before .before .before)) 2 refl (c .put-line2 .ensures)
 
 -- where there is a next
-module _ (c : tie.After-next-at) where
+module _ (c : tie.After-next) where
   abbrev turn : tie.After-flow-at
   turn = (c .before .before .before .before .before .before .before .before .before .before .before .before .before .before .before .before .before)
 
   has : hasNext (edition turn) ≡ true
   has = of-next turn true (sym (c .before .before .before .before .has-next .ensures) ∙ c .before .before .before .if1 .taken)
 
-  next-here : NextPlace (list turn) (start turn .args .f) (c .next-at .result)
-  next-here = next-place (list turn) (sized (start turn)) _ (start turn .pre .0 .1) _ _ (start turn .pre .0 .2) (c .next-at .ensures)
+  third-in : c .next .result ≡ 2
+  third-in = c .next .ensures ∙ next-third _ (sym (c .before .before .before .before .has-next .ensures) ∙ c .before .before .before .if1 .taken)
 
-  third-here : c .next-at .result ≡ first turn + 2
-  third-here = next-here .here ∙ next-at _ has _
+  third-here : i turn + c .next .result ≡ first turn + 2
+  third-here = omega (arith, place turn .here, third-in)
 
-  next : DecimalAt Network (list turn) (c .next-at .result) (bytes "next=")
+  next : DecimalAt Network (list turn) (i turn + c .next .result) (bytes "next=")
   next = next-line (list turn) (start turn .pre .0 .0) _ _ (place turn .there) has third-here
 
   three : perFlow (edition turn) ≡ 3
@@ -133,11 +132,14 @@ has-next-requires c κs = search needs
 slice-aggregate-put-line-3 : tie.Need-slice-aggregate-put-line-3
 slice-aggregate-put-line-3 c = search needs
 
-next-at-requires : tie.Need-next-at-requires
-next-at-requires c κs = (limited _ (sized (c .before .before .before .before .before .before .before .before .before .before .before .before .before .before .before .before .before .before .before)) _ (c .before .before .before .before .before .before .before .before .before .before .before .before .before .before .before .before .before .before .before .pre .0 .1), omega (arith, c .before .before .before .before .before .before .before .before .before .before .before .before .before .before .before .before .before .before .before .pre .0 .2))
+next-requires : tie.Need-next-requires
+next-requires c κs = search needs
+
+add-put-line-2 : tie.Need-add-put-line-2
+add-put-line-2 c = record { fits = omega (arith, third-in c, place (turn c) .few) }
 
 mul-put-line-3 : tie.Need-mul-put-line-3
-mul-put-line-3 c = record { fits = omega (arith, next-here c .few) }
+mul-put-line-3 c = record { fits = omega (arith, third-in c, place (turn c) .few) }
 
 shared-slice-read-put-line-3 : tie.Need-shared-slice-read-put-line-3
 shared-slice-read-put-line-3 c = next (c .before) .number .within
@@ -179,7 +181,8 @@ put-flow-spec =
     put-line-requires-2
     has-next-requires
     slice-aggregate-put-line-3
-    next-at-requires
+    next-requires
+    add-put-line-2
     mul-put-line-3
     shared-slice-read-put-line-3
     put-line-requires-3
