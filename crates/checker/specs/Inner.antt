@@ -1,29 +1,23 @@
 -- What the parts of the checker come to. No promise of the product cites these.
-use Prim.Native.Nat.{ℕ, _*_, _≤_, _<_, min, max}
+use Prim.Native.Nat.{ℕ, _≤_, _<_}
+use mathlib.Core.Path.{_≡_}
 use lib.ListN.{getD}
-use mathlib.Core.Bool.{Bool, cond}
+use mathlib.Core.Bool.{Bool, true, false, cond}
 use mathlib.Core.List.{List}
 use mathlib.Core.Option.{Option, none, some}
 use Rattle.model.specs.Outcome.{Place}
 use Rattle.model.specs.Net.{Net, Plan}
 use Rattle.model.specs.Scan.{Bound}
-use Rattle.model.specs.Rule.{mark}
+use Rattle.model.specs.Rule.{between, mark}
 use Rattle.model.specs.Listed.{listed}
 use Rattle.checker.specs.declared.sums.Missed.{Missed}
 use Rattle.checker.specs.declared.sums.Missed.the-variants as missed
 
--- what a flow's sum in a row lies between
-abbrev pub lowEnd : Net → ℕ → ℕ → ℕ
-lowEnd N parts f = parts * min (N .rate f) (N .next f)
-
-abbrev pub highEnd : Net → ℕ → ℕ → ℕ
-highEnd N parts f = parts * max (N .rate f) (N .next f)
-
--- the first of some flows whose sum does not lie between its ends
-pub record FirstMissed (flows : ℕ) (low high sums : List ℕ) (r : ℕ) : Type 0 where
-  pub most : r ≤ flows
-  pub before : (f : ℕ) → f < r → (getD low f 0 ≤ getD sums f 0) × (getD sums f 0 ≤ getD high f 0)
-  pub here : r < flows → getD low r 0 ≤ getD sums r 0 → getD sums r 0 ≤ getD high r 0 → ⊥
+-- the first flow whose sum does not lie between parts × the lesser and parts × the greater, of the network's flows
+pub record FirstMissed (N : Net) (parts : ℕ) (sums : List ℕ) (r : ℕ) : Type 0 where
+  pub most : r ≤ N .flows
+  pub before : (f : ℕ) → f < r → between N parts f (getD sums f 0) ≡ true
+  pub here : r < N .flows → between N parts r (getD sums r 0) ≡ false
 
 abbrev pub missedOf : Option Place → Missed
 missedOf none = missed.Nothing

@@ -1,16 +1,17 @@
 // The sums of a plan's rows: whether each flow's lies between parts × the lesser and parts × the greater of its rate and its next.
 ghost use mathlib.Core.Path.{_≡_};
-ghost use Prim.Native.Nat.{suc, _≤_, _<_, min, max};
+ghost use Prim.Native.Nat.{suc, _*_, _≤_, _<_, min, max};
+ghost use mathlib.Core.Bool.{_&&_};
+ghost use lib.Dec.{leb};
 ghost use lib.ListN.{length, replicate};
-ghost use Rattle.model.specs.Limits.{mostFlows, mostSteps};
+ghost use Rattle.model.specs.Limits.{mostFlows, mostSteps, mostAmount};
 ghost use Rattle.model.specs.Net;
 ghost use Rattle.model.specs.Rule.{missedRow};
 ghost use Rattle.judges.specs.Sums.{Gathered};
 ghost use Rattle.lists.specs.Lists.{networkSizes, networkOf, planSizes, planOf};
 ghost use Rattle.lists.specs.Good.{GoodNetwork};
 ghost use Rattle.overloads.specs.Inner.{Checkable};
-ghost use Rattle.overloads.specs.Columns.{Holds};
-ghost use Rattle.checker.specs.Inner.{lowEnd, highEnd, FirstMissed, missedOf};
+ghost use Rattle.checker.specs.Inner.{FirstMissed, missedOf};
 use lists::Network;
 use lists::PlanSizes;
 use overloads::rows;
@@ -37,48 +38,37 @@ fn row_sums(network: &[u64], plan: &[u64], i: usize, sums: &mut [u64])
     }
 }
 
-fn lesser(x: u64, y: u64) -> u64
-    ensures { λ r. ⌜ r ≡ min x y ⌝ }
+// Whether a flow's sum lies between parts × the lesser and parts × the greater of its rate and its next. In edition 1 the first
+// comparison settles it.
+fn lies_between(sum: u64, parts: u64, rate: u64, next: u64) -> bool
+    requires { ⌜ (parts ≤ mostSteps) × (rate ≤ mostAmount) × (next ≤ mostAmount) ⌝ }
+    ensures { λ r. ⌜ r ≡ (leb (parts * min rate next) sum && leb sum (parts * max rate next)) ⌝ }
 {
-    if x < y { x } else { y }
+    let by_rate = parts * rate;
+    if sum == by_rate {
+        return true;
+    }
+    let by_next = parts * next;
+    if by_rate < by_next {
+        by_rate <= sum && sum <= by_next
+    } else {
+        by_next <= sum && sum <= by_rate
+    }
 }
 
-fn greater(x: u64, y: u64) -> u64
-    ensures { λ r. ⌜ r ≡ max x y ⌝ }
-{
-    if x < y { y } else { x }
-}
-
-// What each flow's sum in a row lies between: parts × the lesser and parts × the greater of its rate and its next. They are made once,
-// and compared with in every row.
-fn ends(network: &[u64], parts: u64, low: &mut [u64], high: &mut [u64])
-    requires { ⌜ GoodNetwork (now network) × (parts ≤ mostSteps) × (mostFlows ≤ length (now low)) × (mostFlows ≤ length (now high)) ⌝ }
-    ensures { λ _. ⌜ Holds (now (low .exit)) (networkSizes (now (network .entry)) .flows) (lowEnd (networkOf (now (network .entry))) parts) ⌝ }
-    ensures { λ _. ⌜ Holds (now (high .exit)) (networkSizes (now (network .entry)) .flows) (highEnd (networkOf (now (network .entry))) parts) ⌝ }
+// The first flow whose sum does not lie between; past the last flow, where there is none.
+fn missed_flow(network: &[u64], parts: u64, sums: &[u64]) -> usize
+    requires { ⌜ GoodNetwork (now network) × (parts ≤ mostSteps) × (length (now sums) ≡ mostFlows) ⌝ }
+    ensures { λ r. ⌜ FirstMissed (networkOf (now (network .entry))) parts (now (sums .entry)) r ⌝ }
 {
     let sizes = Network::of(network);
+    let last = sizes.next();
     let mut f = 0;
     while f < sizes.flows {
         let at = sizes.flow_at(f);
         let rate = network[at + Network::RATE];
-        let next = network[at + sizes.next()];
-        low[f] = parts * lesser(rate, next);
-        high[f] = parts * greater(rate, next);
-        f += 1;
-    }
-}
-
-// The first flow whose sum does not lie between its ends; past the last flow, where there is none.
-fn missed_flow(flows: usize, low: &[u64], high: &[u64], sums: &[u64]) -> usize
-    requires { ⌜ (flows ≤ mostFlows) × (length (now low) ≡ mostFlows) × (length (now high) ≡ mostFlows) × (length (now sums) ≡ mostFlows) ⌝ }
-    ensures { λ r. ⌜ FirstMissed flows (now (low .entry)) (now (high .entry)) (now (sums .entry)) r ⌝ }
-{
-    let mut f = 0;
-    while f < flows {
-        if sums[f] < low[f] {
-            return f;
-        }
-        if high[f] < sums[f] {
+        let next = network[at + last];
+        if !lies_between(sums[f], parts, rate, next) {
             return f;
         }
         f += 1;
@@ -86,8 +76,8 @@ fn missed_flow(flows: usize, low: &[u64], high: &[u64], sums: &[u64]) -> usize
     f
 }
 
-// The lowest row in which a flow's sum does not lie between its ends, and the lowest such flow there. The first and the last row are
-// the network's own amounts, which do.
+// The lowest row in which a flow's sum does not lie between, and the lowest such flow there. The first and the last row are the
+// network's own amounts, whose sums do.
 pub(crate) fn missed_row(network: &[u64], plan: &[u64]) -> Missed
     requires { ⌜ Checkable (now network) (now plan) ⌝ }
     ensures { λ r. ⌜ r ≡ missedOf (missedRow (networkOf (now (network .entry))) (planOf (now (plan .entry)))) ⌝ }
@@ -96,14 +86,11 @@ pub(crate) fn missed_row(network: &[u64], plan: &[u64]) -> Missed
     let sizes = PlanSizes::of(plan);
     let parts = sizes.parts;
     let steps = sizes.steps;
-    let mut low = [0u64; FLOWS];
-    let mut high = [0u64; FLOWS];
-    ends(network, parts, &mut low, &mut high);
     let mut a = 1;
     while a < steps {
         let mut sums = [0u64; FLOWS];
         row_sums(network, plan, a - 1, &mut sums);
-        let f = missed_flow(flows, &low, &high, &sums);
+        let f = missed_flow(network, parts, &sums);
         if f < flows {
             return Missed::At(a, f);
         }

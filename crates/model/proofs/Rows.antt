@@ -2,7 +2,7 @@
 use Prim.Native.Nat.{ℕ, suc, _+_, _-_, _*_, _≤_, _<_, min, max}
 use mathlib.Core.Path.{_≡_, sym, ap, ap₂, _∙_, fun-ext}
 use mathlib.Core.Logic.{_↔_, ⊎-elim}
-use mathlib.Core.Bool.{Bool, true, false, cond, not, _&&_}
+use mathlib.Core.Bool.{Bool, true, cond, not, _&&_}
 use mathlib.Core.Option.{none, orElse}
 use native.Mathlib.Omega.{arith}
 use native.Mathlib.Nat.{eq-or-lt-of-le, le-of-suc-le-suc, le-max-left, le-max-right, min-le-left, min-le-right, mul-le-mul-left}
@@ -103,18 +103,9 @@ one-rate N e = record {
       ap (λ (b : Bool). onlyIf (not b) (record { place = a; second = f })) (between-same N (P .parts) f (flowSum N (row N P a) f) (e f h))));
 }
 
-pub lies-between : (N : Net) (parts f s : ℕ) → parts * min (N .rate f) (N .next f) ≤ s → s ≤ parts * max (N .rate f) (N .next f) → between N parts f s ≡ true
+lies-between : (N : Net) (parts f s : ℕ) → parts * min (N .rate f) (N .next f) ≤ s → s ≤ parts * max (N .rate f) (N .next f) → between N parts f s ≡ true
 unfolding between
 lies-between N parts f s h k = ap₂ _&&_ (le-leb _ _ h) (le-leb _ _ k)
-
-pub lies-outside : (N : Net) (parts f s : ℕ) → (parts * min (N .rate f) (N .next f) ≤ s → s ≤ parts * max (N .rate f) (N .next f) → ⊥) → between N parts f s ≡ false
-unfolding between
-lies-outside N parts f s out =
-    ⊎-elim
-    (λ (h : parts * min (N .rate f) (N .next f) ≤ s). ap₂ _&&_ (le-leb _ _ h)
-    (⊎-elim (λ (k : s ≤ parts * max (N .rate f) (N .next f)). absurd (out h k)) (λ (k : parts * max (N .rate f) (N .next f) < s). lt-leb _ _ k) (order s (parts * max (N .rate f) (N .next f)))))
-    (λ (h : s < parts * min (N .rate f) (N .next f)). ap (λ (b : Bool). b && leb s (parts * max (N .rate f) (N .next f))) (lt-leb _ _ h))
-    (order (parts * min (N .rate f) (N .next f)) s)
 
 -- the sums of rate and of next do
 pub rate-between : (N : Net) (parts f : ℕ) → between N parts f (parts * N .rate f) ≡ true

@@ -1,8 +1,7 @@
 -- `checker::sums::missed_row` meets its contract.
 use Prim.Native.Nat.{ℕ, _≤_, _-_, _+_, suc, _<_}
-use mathlib.Core.Path.{_≡_, refl, sym, ap, subst, _∙_}
+use mathlib.Core.Path.{_≡_, refl, sym, ap, subst}
 use mathlib.Core.Option.{none, Option, some}
-use lib.ListN.{length}
 use Rattle.model.specs.Search.{first}
 use Rattle.model.specs.Rule.{missedIn, missedRow}
 use Rattle.model.proofs.Searches.{first-zero, first-on, first-at}
@@ -10,8 +9,7 @@ use Rattle.lists.specs.Lists.{networkOf, planSizes, planOf}
 use Rattle.lists.specs.declared.Network as counts
 use Rattle.lists.specs.declared.PlanSizes as lengths
 use Rattle.lists.proofs.Positions.{head-in}
-use Rattle.overloads.specs.Columns.{Holds}
-use Rattle.checker.specs.Inner.{lowEnd, highEnd, missedOf}
+use Rattle.checker.specs.Inner.{missedOf}
 use Rattle.checker.proofs.Totals.{row-met, row-missed, missed-at, first-row-met, last-row-met}
 use Rattle.model.specs.Limits.{mostFlows}
 use Rattle.model.specs.Net.{Net, Plan}
@@ -20,17 +18,12 @@ use native.Mathlib.Omega.{arith}
 use borrow.Author.Needs.{needs}
 use Rattle.checker.proofs.sums.missed_row.Statement.{statement}
 use Rattle.checker.proofs.sums.missed_row.Tie as tie
-use Rattle.checker.proofs.sums.ends.Reads as ends-reads
-use Rattle.checker.proofs.sums.missed_flow.Reads as missed-flow-reads
-use Rattle.checker.proofs.sums.row_sums.Reads as row-sums-reads
-use Rattle.lists.proofs.Network.of.Reads as Network-of-reads
-use Rattle.lists.proofs.PlanSizes.of.Reads as PlanSizes-of-reads
 
 abbrev Inv-loop : tie.InvT-loop
-Inv-loop network plan flows parts steps low high a₀ a = (a ≤ steps) × (1 ≤ a) × (first a (λ b. first (networkOf network .flows) (missedIn (networkOf network) (planOf plan) b)) ≡ none)
+Inv-loop network plan flows parts steps a₀ a = (a ≤ steps) × (1 ≤ a) × (first a (λ b. first (networkOf network .flows) (missedIn (networkOf network) (planOf plan) b)) ≡ none)
 
 abbrev μ-loop : tie.MeasureT-loop
-μ-loop network plan flows parts steps low high a₀ a = steps - a
+μ-loop network plan flows parts steps a₀ a = steps - a
 
 -- the network's own flows, the plan's own parts and steps
 module _ (c : tie.After-of2 Inv-loop μ-loop) where
@@ -63,44 +56,25 @@ module _ (c : tie.After-of2 Inv-loop μ-loop) where
   unfolding planOf
   some-steps = omega (arith, start .pre .plan .steps)
 
-  few : N .flows ≤ mostFlows
-  unfolding networkOf
-  few = start .pre .network .ranges .sized .counts .flows
-
--- the ends, by the plan's own parts
-module _ (c : tie.After-ends Inv-loop μ-loop) where
-  abbrev of-plan : tie.After-of2 Inv-loop μ-loop
-  of-plan = (c .before .before .before)
-
-  lows : Holds (c .ends .last .1 .1 .0) (N of-plan .flows) (lowEnd (N of-plan) (P of-plan .parts))
-  unfolding networkOf
-  lows = rw (parts of-plan) at (c .ends .ensures .0)
-
-  highs : Holds (c .ends .last .1 .1 .1 .0) (N of-plan .flows) (highEnd (N of-plan) (P of-plan .parts))
-  unfolding networkOf
-  highs = rw (parts of-plan) at (c .ends .ensures .1)
-
 -- what a turn finds of its row
 module _ (c : tie.After-missed-flow Inv-loop μ-loop) where
-  abbrev ended : tie.After-ends Inv-loop μ-loop
-  ended = (c .before .before .before .before .before .before .before .before .before .before .before)
-
   abbrev sizes : tie.After-of2 Inv-loop μ-loop
-  sizes = of-plan ended
+  sizes = (c .before .before .before .before .before .before .before)
 
-  abbrev a : ℕ
-  a = c .before .before .before .before .before .before .before .before .loop .a
-
-  this : suc (a - 1) ≡ a
-  this = omega (arith, c .before .before .before .before .before .before .before .before .loop .inv .1)
-
-  met : N sizes .flows ≤ c .missed-flow .result → missed sizes a ≡ none
+  few : N sizes .flows ≤ mostFlows
   unfolding networkOf
-  met h = row-met (N sizes) (P sizes) a _ (rw this at (c .before .before .before .before .before .row-sums .ensures)) (few sizes) _ _ (lows ended) (highs ended) _ (missed-at _ _ _ _ _ _ (flows sizes) (c .missed-flow .ensures)) h
+  few = start sizes .pre .network .ranges .sized .counts .flows
 
-  found : c .missed-flow .result < N sizes .flows → missed sizes a ≡ some (record { place = a; second = c .missed-flow .result })
+  this : suc (c .before .before .before .before .before .before .loop .a - 1) ≡ c .before .before .before .before .before .before .loop .a
+  this = omega (arith, c .before .before .before .before .before .before .loop .inv .1)
+
+  met : N sizes .flows ≤ c .missed-flow .result → missed sizes (c .before .before .before .before .before .before .loop .a) ≡ none
   unfolding networkOf
-  found h = row-missed (N sizes) (P sizes) a _ (rw this at (c .before .before .before .before .before .row-sums .ensures)) (few sizes) _ _ (lows ended) (highs ended) _ (missed-at _ _ _ _ _ _ (flows sizes) (c .missed-flow .ensures)) h
+  met h = row-met (N sizes) (P sizes) (c .before .before .before .before .before .before .loop .a) _ (rw this at (c .before .before .before .row-sums .ensures)) few _ (missed-at _ _ _ _ _ (parts sizes) (c .missed-flow .ensures)) h
+
+  found : c .missed-flow .result < N sizes .flows → missed sizes (c .before .before .before .before .before .before .loop .a) ≡ some (record { place = c .before .before .before .before .before .before .loop .a; second = c .missed-flow .result })
+  unfolding networkOf
+  found h = row-missed (N sizes) (P sizes) (c .before .before .before .before .before .before .loop .a) _ (rw this at (c .before .before .before .row-sums .ensures)) few _ (missed-at _ _ _ _ _ (parts sizes) (c .missed-flow .ensures)) h
 
 of-requires : tie.Need-of-requires Inv-loop μ-loop
 of-requires c κs = head-in _ (c .before .before .pre .network .ranges .sized .size)
@@ -108,19 +82,9 @@ of-requires c κs = head-in _ (c .before .before .pre .network .ranges .sized .s
 of-requires-2 : tie.Need-of-requires-2 Inv-loop μ-loop
 of-requires-2 c κs = search needs
 
-slice-aggregate-ends : tie.Need-slice-aggregate-ends Inv-loop μ-loop
-slice-aggregate-ends c = search needs
-
-slice-aggregate-ends-2 : tie.Need-slice-aggregate-ends-2 Inv-loop μ-loop
-slice-aggregate-ends-2 c = search needs
-
-ends-requires : tie.Need-ends-requires Inv-loop μ-loop
-unfolding planOf
-ends-requires c κs = (c .before .before .before .before .before .before .pre .network, omega (arith, parts (c .before .before), c .before .before .before .before .before .before .pre .plan .parts), omega arith, omega arith)
-
 loop-holds : tie.Need-loop-holds Inv-loop μ-loop
 unfolding planOf
-loop-holds c = let s = (c .before .before .before .before .before) in (omega (arith, steps s, start s .pre .plan .steps), omega arith, first-on _ _ (first-zero _) (first-row-met (N s) (P s) (start s .pre .network .sums)))
+loop-holds c = (omega (arith, steps c, start c .pre .plan .steps), omega arith, first-on _ _ (first-zero _) (first-row-met (N c) (P c) (start c .pre .network .sums)))
 
 sub-row-sums : tie.Need-sub-row-sums Inv-loop μ-loop
 sub-row-sums c = omega (arith, c .before .loop .inv .1)
@@ -130,40 +94,35 @@ slice-aggregate-row-sums c = search needs
 
 row-sums-requires : tie.Need-row-sums-requires Inv-loop μ-loop
 unfolding planOf
-row-sums-requires c κs = (c .before .before .before .before .before .before .before .before .before .before .before .before .pre, omega (arith, c .before .loop-test .taken, steps (c .before .before .before .before .before .before .before .before)), refl)
+row-sums-requires c κs = (c .before .before .before .before .before .before .before .pre, omega (arith, c .before .loop-test .taken, steps (c .before .before .before)), refl)
 
 slice-aggregate-missed-flow : tie.Need-slice-aggregate-missed-flow Inv-loop μ-loop
 slice-aggregate-missed-flow c = search needs
 
-slice-aggregate-missed-flow-2 : tie.Need-slice-aggregate-missed-flow-2 Inv-loop μ-loop
-slice-aggregate-missed-flow-2 c = search needs
-
-slice-aggregate-missed-flow-3 : tie.Need-slice-aggregate-missed-flow-3 Inv-loop μ-loop
-slice-aggregate-missed-flow-3 c = search needs
-
 missed-flow-requires : tie.Need-missed-flow-requires Inv-loop μ-loop
-missed-flow-requires c κs = (omega (arith, flows (c .before .before .before .before .before .before .before .before .before .before .before .before .before), few (c .before .before .before .before .before .before .before .before .before .before .before .before .before)), c .before .before .before .before .before .before .before .before .before .before .ends .kept .1 .1 .0, c .before .before .before .before .before .before .before .before .before .before .ends .kept .1 .1 .1 .0, omega (arith, c .before .before .before .before .row-sums .kept))
+unfolding planOf
+missed-flow-requires c κs = (c .before .before .before .before .before .before .before .before .before .before .pre .network, omega (arith, parts (c .before .before .before .before .before .before), c .before .before .before .before .before .before .before .before .before .before .pre .plan .parts), omega (arith, c .before .before .row-sums .kept))
 
 returns : tie.Need-returns Inv-loop μ-loop
 unfolding missedRow
 returns c = let k = (c .before) in
     let s = sizes k in
-    sym (ap missedOf (first-at (missed s) (a k) (suc (P s .steps)) _ (c .before .before .before .before .before .before .before .before .before .loop .inv .2) (found k (omega (arith, c .if1 .taken, flows s))) (omega (arith, c .before .before .before .before .before .before .before .before .loop-test .taken, steps s))))
+    sym (ap missedOf (first-at (missed s) (c .before .before .before .before .before .before .before .loop .a) (suc (P s .steps)) _ (c .before .before .before .before .before .before .before .loop .inv .2) (found k (omega (arith, c .if1 .taken, flows s))) (omega (arith, c .before .before .before .before .before .before .loop-test .taken, steps s))))
 
 add-a : tie.Need-add-a Inv-loop μ-loop
 unfolding planOf
-add-a c = let s = (c .before .before .before .before .before .before .before .before .before .before .before .before .before .before .before) in record { fits = omega (arith, c .before .before .before .before .before .before .before .before .loop-test .taken, steps s, start s .pre .plan .steps) }
+add-a c = record { fits = omega (arith, c .before .before .before .before .before .before .loop-test .taken, steps (c .before .before .before .before .before .before .before .before), c .before .before .before .before .before .before .before .before .before .before .before .before .pre .plan .steps) }
 
 loop-less : tie.Need-loop-less Inv-loop μ-loop
 loop-less c = search needs
 
 loop-again : tie.Need-loop-again Inv-loop μ-loop
 loop-again c = let k = (c .before) in
-    (omega (arith, c .before .before .before .before .before .before .before .before .loop-test .taken), omega arith, first-on _ _ (c .before .before .before .before .before .before .before .before .before .loop .inv .2) (met k (omega (arith, c .if1 .left, flows (sizes k)))))
+    (omega (arith, c .before .before .before .before .before .before .loop-test .taken), omega arith, first-on _ _ (c .before .before .before .before .before .before .before .loop .inv .2) (met k (omega (arith, c .if1 .left, flows (sizes k)))))
 
 returns-2 : tie.Need-returns-2 Inv-loop μ-loop
 unfolding missedRow
-returns-2 c = let s = (c .before .before .before .before .before .before .before) in
+returns-2 c = let s = (c .before .before) in
     let e : c .before .loop .a ≡ P s .steps = omega (arith, c .loop-test .left, c .before .loop .inv .0, steps s) in
     let before = subst (λ (n : ℕ). first n (missed s) ≡ none) e (c .before .loop .inv .2) in
     let last : P s .steps + 1 ≡ suc (P s .steps) = omega arith in
@@ -177,16 +136,11 @@ missed-row-spec =
     μ-loop
     of-requires
     of-requires-2
-    slice-aggregate-ends
-    slice-aggregate-ends-2
-    ends-requires
     loop-holds
     sub-row-sums
     slice-aggregate-row-sums
     row-sums-requires
     slice-aggregate-missed-flow
-    slice-aggregate-missed-flow-2
-    slice-aggregate-missed-flow-3
     missed-flow-requires
     returns
     add-a
