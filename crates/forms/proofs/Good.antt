@@ -15,7 +15,7 @@ use Rattle.model.specs.Limits.{mostTunnels, mostSteps, mostAmount, newestEditio
 use Rattle.model.specs.Outcome.{good, Cause, unless, Place}
 use Rattle.model.specs.Rule as rule
 use Rattle.model.specs.Claim.{Valid}
-use Rattle.lists.specs.Lists.{at, hasNext, perLink, perFlow, nextIn, networkSizes, linkAt, flowAt, tunnelAt, networkSize, networkOf, planSizes, planSize}
+use Rattle.lists.specs.Lists.{at, hasNext, perFlow, nextIn, networkSizes, linkAt, flowAt, tunnelAt, networkSize, networkOf, planSizes, planSize}
 use Rattle.lists.specs.Good.{NetworkRanges, GoodNetwork, GoodPlan}
 use Rattle.lists.specs.declared.Network as counts
 use Rattle.lists.proofs.Positions.{link-some, flow-some, next-last, link-after, flow-after, tunnel-after, each-number, link-in, flow-in, tunnel-in}

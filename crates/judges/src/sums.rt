@@ -70,7 +70,8 @@ fn first_missed(list: &[u64], sizes: Network, last: usize, old: &[u64], new: &[u
     Answer::Done(list.len())
 }
 
-// Judges the sums of a network's list whose numbers are judged already.
+// Judges the sums of a network's list whose numbers are judged already. The edition is looked at once, here: so the function stays small
+// enough for the compiler to put it into its callers.
 pub fn add_up(list: &[u64]) -> Answer
     requires { ⌜ NetworkRanges (now list) ⌝ }
     ensures { λ r. ⌜ r ≡ done (addUp Form.Network (now (list .entry))) ⌝ }

@@ -5,7 +5,6 @@ use native.Mathlib.Nat.{mul-le-mul}
 use borrow.Author.Tests.{le-leb, lt-leb}
 use Rattle.checker.proofs.Totals.{lies-at-rate, lies-up, lies-down}
 use native.Mathlib.Omega.{arith}
-use borrow.Author.Needs.{needs}
 use Rattle.checker.proofs.sums.lies_between.Statement.{statement}
 use Rattle.checker.proofs.sums.lies_between.Tie as tie
 

@@ -1,6 +1,5 @@
 -- `lists::Network::head` meets its contract.
 use Rattle.lists.specs.Lists.{headSize}
-use native.Mathlib.Omega.{arith}
 use borrow.Author.Needs.{needs}
 use Rattle.lists.proofs.Network.head.Statement.{statement}
 use Rattle.lists.proofs.Network.head.Tie as tie

@@ -1,7 +1,6 @@
 -- `lists::Network::of` meets its contract.
-use Rattle.lists.specs.Lists.{networkSizes, linkAt, headSize}
+use Rattle.lists.specs.Lists.{networkSizes, headSize}
 use Rattle.lists.proofs.Positions.{head-size}
-use mathlib.Core.Path.{ap}
 use native.Mathlib.Omega.{arith}
 use borrow.Author.Needs.{needs}
 use Rattle.lists.proofs.Network.of.Statement.{statement}

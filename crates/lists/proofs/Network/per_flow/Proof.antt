@@ -1,7 +1,6 @@
 -- `lists::Network::per_flow` meets its contract.
-use Rattle.lists.specs.Lists.{perFlow, hasNext}
+use Rattle.lists.specs.Lists.{perFlow}
 use mathlib.Core.Path.{sym, _∙_}
-use native.Mathlib.Omega.{arith}
 use borrow.Author.Needs.{needs}
 use Rattle.lists.proofs.Network.per_flow.Statement.{statement}
 use Rattle.lists.proofs.Network.per_flow.Tie as tie

@@ -1,6 +1,5 @@
 -- `lists::Network::per_link` meets its contract.
 use Rattle.lists.specs.Lists.{perLink}
-use native.Mathlib.Omega.{arith}
 use borrow.Author.Needs.{needs}
 use Rattle.lists.proofs.Network.per_link.Statement.{statement}
 use Rattle.lists.proofs.Network.per_link.Tie as tie

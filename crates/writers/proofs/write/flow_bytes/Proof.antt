@@ -1,7 +1,6 @@
 -- `writers::write::flow_bytes` meets its contract.
 use mathlib.Core.Path.{sym, _∙_}
 use Rattle.writers.specs.Write.{flowBytes}
-use native.Mathlib.Omega.{arith}
 use borrow.Author.Needs.{needs}
 use Rattle.writers.proofs.write.flow_bytes.Statement.{statement}
 use Rattle.writers.proofs.write.flow_bytes.Tie as tie

@@ -1,7 +1,7 @@
 -- `writers::write::network_len` meets its contract.
 use Prim.Native.Nat.{ℕ, _*_, _≤_}
 use mathlib.Core.Path.{_≡_, ap, _∙_}
-use native.Mathlib.Nat.{mul-le-mul-left, mul-le-mul-right}
+use native.Mathlib.Nat.{mul-le-mul-right}
 use Rattle.model.specs.Limits.{mostFlows}
 use Rattle.lists.specs.Lists.{networkSizes, tunnelAt, mostNumbers}
 use Rattle.lists.specs.Good.{Sized, Limited}

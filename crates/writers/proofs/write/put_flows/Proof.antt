@@ -2,9 +2,7 @@
 use Prim.Native.Nat.{ℕ, _≤_, _+_, _*_, _-_, _<_}
 use mathlib.Core.Path.{_≡_, ap}
 use mathlib.Core.List.{List}
-use lib.ListN.{length}
 use native.Mathlib.Nat.{mul-le-mul-left}
-use Rattle.model.specs.Limits.{mostFlows}
 use Rattle.lists.specs.Lists.{perFlow, networkSizes, flowAt}
 use Rattle.lists.specs.Good.{Sized}
 use Rattle.lists.specs.declared.Network as counts
