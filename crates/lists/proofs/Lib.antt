@@ -1,3 +1,4 @@
 pub mod Positions
+pub mod Held
 pub mod Rooms
 pub mod Editions

@@ -20,6 +20,10 @@ at l i = getD l i 0
 abbrev pub hasNext : ℕ → Bool
 hasNext edition = leb 2 edition
 
+-- "Edition `net=3` is edition 2 with `unit` 0 or 1 after `overrun`, and with `held` 0..cap after each `cap`"
+abbrev pub hasHeld : ℕ → Bool
+hasHeld edition = leb 3 edition
+
 -- how many lines there are by edition: in the head, for a link and for a flow
 unfoldable pub headSize : ℕ → ℕ
 headSize edition = 6
@@ -51,14 +55,19 @@ tunnelAt n t = flowAt n (n .flows) + 4 * t
 abbrev pub networkSize : Network → ℕ
 networkSize n = tunnelAt n (n .tunnels)
 
+-- what is held of link k: "Older editions have `unit` and `held` 0"
+unfoldable pub heldOf : List ℕ → ℕ → ℕ
+heldOf l k = cond (hasHeld (at l 0)) (at l (linkAt (networkSizes l) k + 1)) 0
+
 unfoldable pub networkOf : List ℕ → Net
 networkOf l = record {
   scratch = at l 1;
   overrun = at l 2;
+  unit = cond (hasHeld (at l 0)) (at l 3) 0;
   links = networkSizes l .links;
   flows = networkSizes l .flows;
   tunnels = networkSizes l .tunnels;
-  cap = λ k. at l (linkAt (networkSizes l) k);
+  cap = λ k. at l (linkAt (networkSizes l) k) - heldOf l k;
   class = λ f. at l (flowAt (networkSizes l) f);
   rate = λ f. at l (flowAt (networkSizes l) f + 1);
   next = λ f. at l (flowAt (networkSizes l) f + nextIn (networkSizes l .edition));

@@ -2,11 +2,12 @@
 // network's numbers stand in its list and, by `Position`, which of them stands where; the types that do the same for plans
 // and for rule tables; and the answers.
 ghost use mathlib.Core.Path.{_≡_};
-ghost use Prim.Native.Nat.{_≤_};
+ghost use Prim.Native.Nat.{_≤_, _<_};
 ghost use lib.ListN.{length};
+ghost use Rattle.model.specs.Rule.{byFlow};
 ghost use Rattle.model.specs.Limits.{mostSteps, mostTunnels, mostSwitches};
-ghost use Rattle.lists.specs.Lists.{hasNext, headSize, perLink, perFlow, nextIn, networkSizes, linkAt, flowAt, tunnelAt, planSizes, rowAt, tableSizes, roomAt, ruleAt};
-ghost use Rattle.lists.specs.Good.{Limited, StandsAt};
+ghost use Rattle.lists.specs.Lists.{hasNext, hasHeld, headSize, perLink, perFlow, nextIn, networkSizes, linkAt, flowAt, tunnelAt, networkOf, planSizes, rowAt, tableSizes, roomAt, ruleAt};
+ghost use Rattle.lists.specs.Good.{Limited, StandsAt, NetworkRanges};
 
 // A network's edition, and how many links, flows and tunnels it has.
 pub struct Network {
@@ -33,6 +34,9 @@ impl Network {
 
     pub const NEXT_SINCE: u64 = 2;
 
+    // The first in which it is said whether switches change a whole flow, and what is held of each link.
+    pub const HELD_SINCE: u64 = 3;
+
     // The least and the largest scratch, and overrun if it is not 0, in thousandths.
     pub const SHARE_LOW: u64 = 20;
 
@@ -43,8 +47,12 @@ impl Network {
 
     pub const OVERRUN: usize = 2;
 
+    pub const UNIT: usize = 3;
+
     // How many numbers a link has.
     pub const PER_LINK: usize = 1;
+
+    pub const HELD: usize = 1;
 
     // How many numbers a flow has since it has its next rate, which is the last, and which of them, after the class, is the rate.
     pub const PER_FLOW: usize = 3;
@@ -93,6 +101,36 @@ impl Network {
         ensures { λ r. ⌜ r ≡ perLink (self .edition) ⌝ }
     {
         Self::PER_LINK
+    }
+
+    // Whether each link's capacity is followed by what is held of it.
+    pub fn has_held(self) -> bool
+        ensures { λ r. ⌜ r ≡ hasHeld (self .edition) ⌝ }
+    {
+        Self::HELD_SINCE <= self.edition
+    }
+
+    // Do the switches of the network that a list holds, which has a head, change a whole flow in one operation?
+    pub fn by_flow(list: &[u64]) -> bool
+        requires { ⌜ linkAt (networkSizes (now list)) 0 ≤ length (now list) ⌝ }
+        ensures { λ r. ⌜ r ≡ byFlow (networkOf (now (list .entry))) ⌝ }
+    {
+        if Self::HELD_SINCE <= list[0] {
+            return list[Self::UNIT] == 1;
+        }
+        false
+    }
+
+    // What is left of the capacity of link k, of the network that a list holds: all but what is held of it.
+    pub fn capacity(self, list: &[u64], k: usize) -> u64
+        requires { ⌜ (self ≡ networkSizes (now list)) × NetworkRanges (now list) × (k < self .links) ⌝ }
+        ensures { λ r. ⌜ r ≡ networkOf (now (list .entry)) .cap k ⌝ }
+    {
+        let at = self.link_at(k);
+        if self.has_held() {
+            return list[at] - list[at + Self::HELD];
+        }
+        list[at]
     }
 
     // Whether a flow's rate is followed by the next.

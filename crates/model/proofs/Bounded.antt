@@ -16,7 +16,8 @@ use Rattle.model.specs.Even.{even, fewest, ceilDiv, stepBound, leavesScr
 use Rattle.model.specs.ThreeSums.{oldLoad, newLoad, peakLoad, endLoad}
 use Rattle.model.specs.Claim.{Valid}
 use Rattle.model.proofs.Searches.{only-true, only-some, only-none, first-none, first-some, first-least, none-true, not-false, and-true}
-use Rattle.model.proofs.Choices.{load-mono, load-add, factor, room}
+use Rattle.model.proofs.Movers.{load-mono, load-add}
+use Rattle.model.proofs.Choices.{factor, room}
 use Rattle.model.proofs.Evens.{either, even-accepted}
 use Rattle.model.specs.Search.{onlyIf}
 

@@ -9,15 +9,16 @@ use Rattle.model.specs.Sum.{sumOver}
 use Rattle.model.specs.Search.{onlyIf, isNone, first}
 use Rattle.model.specs.Net.{Net, Plan, row}
 use Rattle.model.specs.Scan.{Bound, Overload, scan, testLink, test}
-use Rattle.model.specs.Rule.{crosses, onLink, counts, load, exceeds, flowSum, between, missedIn, missedRow, stepCount, worst, worstOver, firstOverload, accepted, mark}
+use Rattle.model.specs.Rule.{crosses, across, byFlow, movers, moverOf, flowOf, onLink, counts, load, exceeds, flowSum, between, missedIn, missedRow, stepCount, worst, worstOver, firstOverload, accepted, mark}
 use Rattle.model.specs.Even.{evenRow, even, fewest, ceilDiv, stepBound, leavesScratch, keepsScratch}
 use Rattle.model.specs.Limits.{mostSteps}
 
--- two links of the same cap and flows of the same class, of rate 10 and of the same next; of the tunnels, lists
-unfoldable pub network : ℕ → ℕ → ℕ → ℕ → ℕ → List ℕ → List ℕ → List ℕ → List ℕ → Net
-network next cap class overrun flows flow via old new = record {
+-- two links of the same cap, and flows of the same class, of rate 10 and of the same next; of the tunnels, lists
+unfoldable pub network : ℕ → ℕ → ℕ → ℕ → ℕ → ℕ → List ℕ → List ℕ → List ℕ → List ℕ → Net
+network unit next cap class overrun flows flow via old new = record {
   scratch = 333;
   overrun = overrun;
+  unit = unit;
   links = 2;
   flows = flows;
   tunnels = length flow;
@@ -34,7 +35,7 @@ network next cap class overrun flows flow via old new = record {
 -- the paper's session, with another next, and with other caps, classes and overrun
 unfoldable pub swapTo : ℕ → ℕ → ℕ → ℕ → Net
 swapTo next cap class overrun =
-    network next cap class overrun 2 (0 ∷ 0 ∷ 1 ∷ 1 ∷ []) (1 ∷ 2 ∷ 2 ∷ 1 ∷ []) (10 ∷ 0 ∷ 10 ∷ 0 ∷ []) (0 ∷ next ∷ 0 ∷ next ∷ [])
+    network 0 next cap class overrun 2 (0 ∷ 0 ∷ 1 ∷ 1 ∷ []) (1 ∷ 2 ∷ 2 ∷ 1 ∷ []) (10 ∷ 0 ∷ 10 ∷ 0 ∷ []) (0 ∷ next ∷ 0 ∷ next ∷ [])
 
 unfoldable pub swap : ℕ → ℕ → ℕ → Net
 swap = swapTo 10
@@ -44,11 +45,16 @@ unfoldable pub through : List ℕ → Plan
 through row = record { parts = 1; steps = 2; at = λ a t. getD row t 0 }
 
 -- one flow, moved from a tunnel over link 0 to one over links 0 and 1
-unfoldable pub longer : Net
-longer = network 10 15 0 0 1 (0 ∷ 0 ∷ []) (1 ∷ 3 ∷ []) (10 ∷ 0 ∷ []) (0 ∷ 10 ∷ [])
+unfoldable pub longer : ℕ → Net
+longer unit = network unit 10 15 0 0 1 (0 ∷ 0 ∷ []) (1 ∷ 3 ∷ []) (10 ∷ 0 ∷ []) (0 ∷ 10 ∷ [])
+
+-- two flows: one is gathered from two links on a tunnel of the first, beside a tunnel that it leaves; the other goes from the first link to the second
+unfoldable pub gather : ℕ → ℕ → Net
+gather unit cap =
+    network unit 10 cap 0 0 2 (0 ∷ 0 ∷ 0 ∷ 1 ∷ 1 ∷ []) (1 ∷ 1 ∷ 2 ∷ 1 ∷ 2 ∷ []) (6 ∷ 0 ∷ 4 ∷ 10 ∷ 0 ∷ []) (0 ∷ 10 ∷ 0 ∷ 0 ∷ 10 ∷ [])
 
 unfoldable pub empty : Net
-empty = network 10 15 0 0 0 [] [] [] []
+empty = network 0 10 15 0 0 0 [] [] [] []
 
 -- the marks of the tunnels 0, 1, .. n - 1 where the one-step plan overloads link 0
 unfoldable pub marks : Net → ℕ → List Bool
@@ -68,9 +74,9 @@ pub record Cases : Type 0 where
   -- P8 and P9; class 0 in place of 2, or class 2 without an overrun, has no plan
   pub background : fewest (swap 10 2 100) ∷ fewest (swap 10 2 20) ∷ fewest (swap 10 0 100) ∷ fewest (swap 10 2 0) ∷ [] ≡ some 10 ∷ some 50 ∷ none ∷ none ∷ []
   -- what refusal 9 names in P7 and where class 2 has no overrun; P10 and P11 in one step
-  pub overloads : firstOverload (swap 10 0 0) (even (swap 10 0 0) mostSteps) ∷ firstOverload (swap 10 2 0) (even (swap 10 2 0) mostSteps) ∷ firstOverload (swap 15 0 0) (even (swap 15 0 0) 1) ∷ firstOverload longer (even longer 1) ∷ []
+  pub overloads : firstOverload (swap 10 0 0) (even (swap 10 0 0) mostSteps) ∷ firstOverload (swap 10 2 0) (even (swap 10 2 0) mostSteps) ∷ firstOverload (swap 15 0 0) (even (swap 15 0 0) 1) ∷ firstOverload (longer 0) (even (longer 0) 1) ∷ []
       ≡ inStep1 Bound.protected ∷ inStep1 Bound.total ∷ inStep1 Bound.protected ∷ inStep1 Bound.protected ∷ []
-  pub marked : marks (swap 15 0 0) 4 ∷ marks longer 2 ∷ [] ≡ (false ∷ false ∷ false ∷ true ∷ []) ∷ (false ∷ true ∷ []) ∷ []
+  pub marked : marks (swap 15 0 0) 4 ∷ marks (longer 0) 2 ∷ [] ≡ (false ∷ false ∷ false ∷ true ∷ []) ∷ (false ∷ true ∷ []) ∷ []
   -- 10 of 15 leave 333 thousandths of the capacity free, 10 of 14 do not; with an overrun all classes may fill it
   pub scratch : keepsScratch (swap 15 0 0) ∷ keepsScratch (swap 14 0 0) ∷ keepsScratch (swap 10 2 20) ∷ keepsScratch (swap 9 2 20) ∷ [] ≡ true ∷ false ∷ true ∷ false ∷ []
   -- (v): the flows of the swap go from 10 to 14
@@ -79,7 +85,13 @@ pub record Cases : Type 0 where
   -- a row may have any sums from 10 to 14, but neither 15 nor 9
   pub sums : missedRow (swapTo 14 40 0 0) (through (4 ∷ 10 ∷ 7 ∷ 3 ∷ [])) ∷ missedRow (swapTo 14 40 0 0) (through (10 ∷ 0 ∷ 15 ∷ 0 ∷ [])) ∷ missedRow (swapTo 14 40 0 0) (through (5 ∷ 4 ∷ 10 ∷ 0 ∷ [])) ∷ []
       ≡ none ∷ some (record { place = 1; second = 1 }) ∷ some (record { place = 1; second = 0 }) ∷ []
+  -- (vii): with `unit=1` "the move of P11" passes, and a flow's sum stands for the amounts of its tunnels
+  pub units : firstOverload (longer 1) (even (longer 1) 1) ∷ firstOverload (gather 0 20) (even (gather 0 20) 1) ∷ firstOverload (gather 1 20) (even (gather 1 20) 1) ∷ firstOverload (gather 1 15) (even (gather 1 15) 1) ∷ []
+      ≡ none ∷ inStep1 Bound.protected ∷ none ∷ inStep1 Bound.protected ∷ []
+  pub by-flows : fewest (gather 0 20) ∷ fewest (gather 1 20) ∷ fewest (gather 1 15) ∷ [] ≡ some 3 ∷ some 1 ∷ none ∷ []
+  -- the mark falls on a tunnel that its flow leaves, too, where the flow's sum rises
+  pub marked-flows : marks (gather 0 15) 5 ∷ marks (gather 1 15) 5 ∷ [] ≡ (false ∷ true ∷ false ∷ false ∷ false ∷ []) ∷ (true ∷ true ∷ false ∷ false ∷ false ∷ []) ∷ []
 
 pub cases : Cases
-unfolding network swapTo swap through longer empty marks inStep1 stepBound ceilDiv fewest even evenRow keepsScratch leavesScratch accepted missedRow missedIn between flowSum firstOverload stepCount scan testLink test worstOver exceeds load counts worst mark row onLink crosses sumOver onlyIf isNone orElse first
-cases = record { bounds = refl; protected = refl; background = refl; overloads = refl; marked = refl; scratch = refl; changing = refl; sums = refl }
+unfolding network swapTo swap through gather longer empty marks inStep1 stepBound ceilDiv fewest even evenRow keepsScratch leavesScratch accepted missedRow missedIn between flowSum firstOverload stepCount scan testLink test worstOver exceeds load counts worst mark row onLink byFlow movers moverOf flowOf across crosses sumOver onlyIf isNone orElse first
+cases = record { bounds = refl; protected = refl; background = refl; overloads = refl; marked = refl; scratch = refl; changing = refl; sums = refl; units = refl; by-flows = refl; marked-flows = refl }

@@ -1,6 +1,6 @@
 -- The worst amounts stand for every choice: no choice shows more on a link, and the marked choice shows exactly as much.
 use Prim.Native.Nat.{ℕ, suc, _+_, _*_, _≤_, _<_, max}
-use mathlib.Core.Path.{_≡_, refl, sym, ap, _∙_, fun-ext}
+use mathlib.Core.Path.{_≡_, sym, ap, ap₂, _∙_, subst}
 use mathlib.Core.Logic.{⊎-elim}
 use mathlib.Core.Bool.{Bool, true, false, cond, _&&_, true≢false}
 use mathlib.Core.Option.{none, some}
@@ -10,31 +10,15 @@ use borrow.Author.Tests.{ltb-true, ltb-false, lt-ltb, le-ltb}
 use lib.Dec.{ltb}
 use Rattle.model.specs.Net.{Net, Plan, row}
 use Rattle.model.specs.Scan.{Bound, Overload}
-use Rattle.model.specs.Rule.{crosses, onLink, counts, load, exceeds, stepCount, worst, Choice, shown, overloads, worstOver, firstOverload, mark, marked}
-use Rattle.model.proofs.Sums.{sum-mono, sum-cong, sum-add, sum-mul}
-use Rattle.model.proofs.Searches.{bool-cases, option-cases}
+use Rattle.model.specs.Rule.{crosses, movers, moverOf, onLink, load, exceeds, stepCount, worst, Choice, shown, overloads, worstOver, firstOverload, mark, moversOf, marked}
+use Rattle.model.proofs.Searches.{bool-cases, option-cases, and-true}
+use Rattle.model.proofs.Movers.{mover-crosses, picked-mover, mover-picked, load-mono, load-cong}
 use Rattle.model.proofs.Scans.{scan-none, scan-some, none-scan}
 
 ltb-mono : (a b c : ℕ) → b ≤ c → ltb a b ≡ true → ltb a c ≡ true
 ltb-mono a b c h e = lt-ltb a c (omega (arith, ltb-true a b e))
 
--- ---- loads and bounds go up with the amounts
-
-pub load-mono : (N : Net) (b : Bound) {y z : ℕ → ℕ} → ((t : ℕ) → y t ≤ z t) → load N b y ≤ load N b z
-unfolding load
-load-mono N b h = sum-mono (N .tunnels) (counts N b) (λ t _ _. h t)
-
-pub load-cong : (N : Net) (b : Bound) {y z : ℕ → ℕ} → ((t : ℕ) → y t ≡ z t) → load N b y ≡ load N b z
-unfolding load
-load-cong N b h = sum-cong (N .tunnels) (counts N b) (λ t _ _. h t)
-
-pub load-add : (N : Net) (b : Bound) (y z : ℕ → ℕ) → load N b (λ t. y t + z t) ≡ load N b y + load N b z
-unfolding load
-load-add N b y z = sum-add (N .tunnels) (counts N b) y z
-
-pub load-mul : (N : Net) (b : Bound) (k : ℕ) (y : ℕ → ℕ) → load N b (λ t. k * y t) ≡ k * load N b y
-unfolding load
-load-mul N b k y = sum-mul (N .tunnels) (counts N b) k y
+-- ---- bounds go up with the loads
 
 exceeds-mono : (N : Net) (b : Bound) (parts l : ℕ) {w v : ℕ} → w ≤ v → exceeds N b parts l w ≡ true → exceeds N b parts l v ≡ true
 unfolding exceeds
@@ -75,21 +59,40 @@ pub shown-worst : (N : Net) (P : Plan) (i l : ℕ) (c : Choice N P i) (t : ℕ) 
 unfolding shown worst
 shown-worst N P i l c t = shown-either (λ a. onLink N l (row N P a) t) i (c t)
 
-larger : (f : ℕ → ℕ) (i : ℕ) → f (cond (ltb (f i) (f (suc i))) (suc i) i) ≡ max (f i) (f (suc i))
-larger f i =
+-- a mover whose amount rises on the named link has a marked tunnel, and only such a mover has one
+module _ (N : Net) (P : Plan) (o : Overload) (m : ℕ) where
+  abbrev shows : ℕ → ℕ → ℕ
+  shows a k = onLink N (o .link) (row N P a) k
+
+  abbrev rises : ℕ → Bool
+  rises k = ltb (shows (o .from) k) (shows (suc (o .from)) k)
+
+  rises-marked : m < movers N → rises m ≡ true → marked N P o m ≡ true
+  unfolding marked mark
+  rises-marked h r =
+      let s = mover-crosses N (o .link) (row N P (suc (o .from))) m h (omega (arith, ltb-true (shows (o .from) m) (shows (suc (o .from)) m) r)) in
+      subst (λ (k : ℕ). moversOf N (mark N P o) k ≡ true) (s .3)
+      (picked-mover N (mark N P o) (s .0) (s .1) (ap₂ _&&_ (s .2) (ap rises (s .3) ∙ r)))
+
+  marked-rises : marked N P o m ≡ true → rises m ≡ true
+  unfolding marked mark
+  marked-rises e =
+      let s = mover-picked N (mark N P o) m e in sym (ap rises (s .3)) ∙ and-true (crosses N (o .link) (s .0)) (rises (moverOf N (s .0))) (s .2) .1
+
+pub marked-worst : (N : Net) (P : Plan) (o : Overload) (m : ℕ) → m < movers N
+    → shown N P (o .from) (o .link) (marked N P o) m ≡ worst N P (o .from) (o .link) m
+unfolding shown worst
+marked-worst N P o m h =
+    let f : ℕ → ℕ = λ a. shows N P o m a m in
+    let i : ℕ = o .from in
     ⊎-elim
-    (λ e. rw e (omega (arith, ltb-true (f i) (f (suc i)) e)))
-    (λ e. rw e (omega (arith, ltb-false (f i) (f (suc i)) e)))
-    (bool-cases (ltb (f i) (f (suc i))))
-
-larger-on : (b : Bool) (f : ℕ → ℕ) (i : ℕ)
-    → cond b (f (cond (b && ltb (f i) (f (suc i))) (suc i) i)) 0 ≡ max (cond b (f i) 0) (cond b (f (suc i)) 0)
-larger-on true f i = larger f i
-larger-on false f i = refl
-
-pub marked-worst : (N : Net) (P : Plan) (o : Overload) → shown N P (o .from) (o .link) (marked N P o) ≡ worst N P (o .from) (o .link)
-unfolding shown worst marked mark onLink
-marked-worst N P o = fun-ext (λ t. larger-on (crosses N (o .link) t) (λ a. row N P a t) (o .from))
+    (λ e. ap (λ (c : Bool). f (cond c (suc i) i)) e ∙ omega (arith, ltb-true (f i) (f (suc i)) (marked-rises N P o m e)))
+    (λ e. ap (λ (c : Bool). f (cond c (suc i) i)) e ∙ omega (arith, ltb-false (f i) (f (suc i)) (not-rises e)))
+    (bool-cases (marked N P o m))
+  where
+    not-rises : marked N P o m ≡ false → rises N P o m m ≡ false
+    not-rises e =
+        ⊎-elim (λ r. absurd (true≢false (sym (rises-marked N P o m h r) ∙ e))) (λ r. r) (bool-cases (rises N P o m m))
 
 -- no choice shows more on a link than the worst load, and the marked choice shows exactly it
 pub shown-load : (N : Net) (P : Plan) (i l : ℕ) (c : Choice N P i) (b : Bound) → load N b (shown N P i l c) ≤ load N b (worst N P i l)
@@ -97,7 +100,7 @@ shown-load N P i l c b = load-mono N b (shown-worst N P i l c)
 
 pub marked-load : (N : Net) (P : Plan) (o : Overload) (b : Bound)
     → load N b (shown N P (o .from) (o .link) (marked N P o)) ≡ load N b (worst N P (o .from) (o .link))
-marked-load N P o b = ap (load N b) (marked-worst N P o)
+marked-load N P o b = load-cong N b (marked-worst N P o)
 
 -- ---- no overload is found exactly if the worst amounts keep both bounds on each link in each step
 

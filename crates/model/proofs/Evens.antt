@@ -2,18 +2,19 @@
 use Prim.Native.Nat.{ℕ, suc, _+_, _-_, _*_, _≤_, _<_, max}
 use mathlib.Core.Path.{_≡_, ap, ap₂, _∙_}
 use mathlib.Core.Logic.{_↔_, _⊎_, inl, inr, ⊎-elim}
-use mathlib.Core.Bool.{Bool, true, false, cond}
+use mathlib.Core.Bool.{true}
 use mathlib.Core.Option.{none}
 use native.Mathlib.Omega.{arith}
 use native.Mathlib.Decide.{decLe}
 use native.Mathlib.Nat.{le-max-left, le-max-right, max-eq-left, max-eq-right, mul-le-mul-left}
-use Rattle.model.specs.Net.{Net}
+use Rattle.model.specs.Net.{Net, row}
 use Rattle.model.specs.Scan.{Bound, scan}
-use Rattle.model.specs.Rule.{crosses, onLink, load, exceeds, missedRate, stepCount, worst, worstOver, firstOverload, accepted}
+use Rattle.model.specs.Rule.{onLink, load, exceeds, missedRate, stepCount, worst, worstOver, firstOverload, accepted}
 use Rattle.model.specs.Even.{evenRow, even}
 use Rattle.model.specs.ThreeSums.{oldLoad, newLoad, peakLoad, stepLoad, endLoad, ThreeSums}
 use Rattle.model.proofs.Scans.{scan-cong}
-use Rattle.model.proofs.Choices.{load-cong, load-add, load-mul, factor, room, kept-mono, kept-le, le-kept, none-kept, kept-none}
+use Rattle.model.proofs.Movers.{on-line, load-cong, load-add, load-mul}
+use Rattle.model.proofs.Choices.{factor, room, kept-mono, kept-le, le-kept, none-kept, kept-none}
 use Rattle.model.proofs.Rows.{accepted-both, even-row, even-at, even-adds-up}
 
 pub either : (a b : ℕ) → (a ≤ b) ⊎ (b ≤ a)
@@ -21,25 +22,19 @@ either a b = elim (decLe a b) [ yes h ↦ inl h | no h ↦ inr (omega arith) ]
 
 -- ---- the worst load in a step
 
--- the two rows of the step from row i have (q - i - 1) × old + i × new in common; the rest is old in the one and new in the other
-larger-end : (b : Bool) (d i o n : ℕ)
-    → max (cond b (suc d * o + i * n) 0) (cond b (d * o + suc i * n) 0) ≡ d * cond b o 0 + i * cond b n 0 + max (cond b o 0) (cond b n 0)
-larger-end true d i o n = omega arith
-larger-end false d i o n = omega arith
+-- what a mover puts on a link in row a
+pub even-on : (N : Net) (l q a m : ℕ) → a ≤ q → onLink N l (row N (even N q) a) m ≡ (q - a) * onLink N l (N .old) m + a * onLink N l (N .new) m
+unfolding evenRow
+even-on N l q a m h = on-line N l (q - a) a _ (N .old) (N .new) (λ t. even-row N q a t h ∙ even-at q a (N .old t) (N .new t) h) m
 
-even-worst : (N : Net) (l q i t : ℕ) → i < q
-    → worst N (even N q) i l t
-    ≡ (q - suc i) * onLink N l (N .old) t + i * onLink N l (N .new) t + max (onLink N l (N .old) t) (onLink N l (N .new) t)
-unfolding worst onLink evenRow
-even-worst N l q i t h =
+-- the two rows of the step from row i have (q - i - 1) × old + i × new in common; the rest is old in the one and new in the other
+even-worst : (N : Net) (l q i m : ℕ) → i < q
+    → worst N (even N q) i l m
+    ≡ (q - suc i) * onLink N l (N .old) m + i * onLink N l (N .new) m + max (onLink N l (N .old) m) (onLink N l (N .new) m)
+unfolding worst
+even-worst N l q i m h =
     let e : q - i ≡ suc (q - suc i) = omega arith in
-    let low : i ≤ q = omega arith in
-    let o = N .old t in
-    let n = N .new t in
-    ap₂ (λ (u v : ℕ). max (cond (crosses N l t) u 0) (cond (crosses N l t) v 0))
-    (even-row N q i t low ∙ even-at q i o n low ∙ ap (λ (k : ℕ). k * o + i * n) e)
-    (even-row N q (suc i) t h ∙ even-at q (suc i) o n h)
-    ∙ larger-end (crosses N l t) (q - suc i) i o n
+    omega (arith, even-on N l q i m (omega arith), even-on N l q (suc i) m h, ap (λ (k : ℕ). k * onLink N l (N .old) m) e)
 
 pub even-load : (N : Net) (b : Bound) (l q i : ℕ) → i < q → load N b (worst N (even N q) i l) ≡ stepLoad N b q i l
 unfolding stepLoad oldLoad newLoad peakLoad
@@ -47,7 +42,7 @@ even-load N b l q i h =
     let o : ℕ → ℕ = onLink N l (N .old) in
     let n : ℕ → ℕ = onLink N l (N .new) in
     let m : ℕ → ℕ = λ t. max (o t) (n t) in
-    load-cong N b (λ t. even-worst N l q i t h)
+    load-cong N b (λ t _. even-worst N l q i t h)
     ∙ load-add N b (λ t. (q - suc i) * o t + i * n t) m
     ∙ ap (λ (k : ℕ). k + load N b m)
     (load-add N b (λ t. (q - suc i) * o t) (λ t. i * n t) ∙ ap₂ _+_ (load-mul N b (q - suc i) o) (load-mul N b i n))

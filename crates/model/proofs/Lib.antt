@@ -5,8 +5,11 @@ pub mod Listed
 pub mod Sets
 pub mod Outcomes
 pub mod Scans
+pub mod Movers
+pub mod Gathered
 pub mod Choices
 pub mod Rows
+pub mod Weaker
 pub mod Evens
 pub mod Bounded
 pub mod Main

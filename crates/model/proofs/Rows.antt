@@ -1,8 +1,8 @@
 -- The rows of a plan: what a plan is judged by, and the rows of even plans.
 use Prim.Native.Nat.{ℕ, suc, _+_, _-_, _*_, _≤_, _<_, min, max}
-use mathlib.Core.Path.{_≡_, sym, ap, ap₂, _∙_, fun-ext}
+use mathlib.Core.Path.{_≡_, sym, ap, ap₂, _∙_}
 use mathlib.Core.Logic.{_↔_, ⊎-elim}
-use mathlib.Core.Bool.{Bool, true, cond, not, _&&_}
+use mathlib.Core.Bool.{Bool, true, not, _&&_}
 use mathlib.Core.Option.{none, orElse}
 use native.Mathlib.Omega.{arith}
 use native.Mathlib.Nat.{eq-or-lt-of-le, le-of-suc-le-suc, le-max-left, le-max-right, min-le-left, min-le-right, mul-le-mul-left}
@@ -12,12 +12,13 @@ use Rattle.model.specs.Sum.{sumOver}
 use Rattle.model.specs.Search.{onlyIf, isNone, first}
 use Rattle.model.specs.Net.{Net, Plan, row}
 use Rattle.model.specs.Scan.{scan}
-use Rattle.model.specs.Rule.{crosses, onLink, counts, load, exceeds, flowSum, missedBy, between, missedRate, missedIn, missedRow, stepCount, worst, worstOver, firstOverload, accepted}
+use Rattle.model.specs.Rule.{exceeds, flowSum, missedBy, between, missedRate, missedIn, missedRow, stepCount, worst, worstOver, firstOverload, accepted}
 use Rattle.model.specs.Even.{evenRow, even}
 use Rattle.model.specs.OneRate.{OneRate}
-use Rattle.model.proofs.Sums.{sum-cong, sum-add, sum-mul}
+use Rattle.model.proofs.Sums.{sum-cong, sum-line}
 use Rattle.model.proofs.Searches.{order, only-none, only-false, or-none, first-none, none-first, first-cong, none-true, true-none, not-false, and-true}
 use Rattle.model.proofs.Scans.{scan-cong}
+use Rattle.model.proofs.Movers.{on-same, load-cong}
 
 -- ---- the three kinds of row
 
@@ -64,12 +65,11 @@ module _ (N : Net) (P Q : Plan) (s : Same N P Q) where
       ∙ ap (λ (n : ℕ). first (suc n) (λ a. first (N .flows) (missedIn N Q a))) (s .steps)
 
   pub overload-same : firstOverload N P ≡ firstOverload N Q
-  unfolding firstOverload stepCount worstOver load worst onLink
+  unfolding firstOverload stepCount worstOver worst
   overload-same =
       scan-cong (P .steps) (N .links) (worstOver N P) (worstOver N Q) (λ i l hi hl b.
       ap₂ (λ (parts w : ℕ). exceeds N b parts l w) (s .parts)
-      (sum-cong (N .tunnels) (counts N b) (λ t k _.
-      ap₂ (λ (u v : ℕ). max (cond (crosses N l t) u 0) (cond (crosses N l t) v 0)) (row-same i t (omega arith) k) (row-same (suc i) t hi k))))
+      (load-cong N b (λ m k. ap₂ max (on-same N l (λ t. row-same i t (omega arith)) m k) (on-same N l (λ t. row-same (suc i) t hi) m k))))
       ∙ ap (λ (n : ℕ). scan n (N .links) (worstOver N Q)) (s .steps)
 
 -- ---- sums that lie between the rates
@@ -142,10 +142,7 @@ pub even-sum : (N : Net) (n : ℕ) (p : ℕ → Bool) (q a : ℕ) → a ≤ q
     → sumOver n p (evenRow N q a) ≡ (q - a) * sumOver n p (N .old) + a * sumOver n p (N .new)
 unfolding evenRow
 even-sum N n p q a h =
-    let w : evenRow N q a ≡ (λ t. (q - a) * N .old t + a * N .new t) = fun-ext (λ t. even-at q a (N .old t) (N .new t) h) in
-    ap (sumOver n p) w
-    ∙ sum-add n p (λ t. (q - a) * N .old t) (λ t. a * N .new t)
-    ∙ ap₂ _+_ (sum-mul n p (q - a) (N .old)) (sum-mul n p a (N .new))
+    sum-line n p (q - a) a (evenRow N q a) (N .old) (N .new) (λ t _. even-at q a (N .old t) (N .new t) h)
 
 -- where old amounts add up to the rates and new ones to the nexts, they do so flow by flow
 pub rate-met : (N : Net) → missedRate N ≡ none → (f : ℕ) → f < N .flows

@@ -1,12 +1,13 @@
 -- The laws of sums: a proof about sums cites these and does not open `sumOver`.
 use Prim.Native.Nat.{ℕ, zero, suc, _+_, _*_, _≤_, _<_}
 use mathlib.Core.Path.{_≡_, refl, sym, ap, ap₂, _∙_}
-use mathlib.Core.Logic.{_≢_, ⊎-elim}
+use mathlib.Core.Logic.{_≢_, _⊎_, inl, inr, ⊎-elim}
 use mathlib.Core.Bool.{Bool, true, false, cond, true≢false}
 use native.Mathlib.Nat.{add-zero, eq-or-lt-of-le, le-of-suc-le-suc}
 use native.Mathlib.Numerals.{add-one}
 use native.Mathlib.Omega.{arith}
-use lib.Dec.{T}
+use borrow.Author.Tests.{eq-eqb, ne-eqb}
+use lib.Dec.{T, eqb}
 use Rattle.model.specs.Sum.{sumOver}
 
 -- ---- one more summand: what a loop that goes up proves at each turn
@@ -68,6 +69,12 @@ unfolding sumOver
 sum-mul zero p k x = omega arith
 sum-mul (suc n) p k x = omega (arith, sum-mul n p k x, cond-mul (p n) k (x n))
 
+-- of summands that are d times some and i times others
+pub sum-line : (n : ℕ) (p : ℕ → Bool) (d i : ℕ) (x o v : ℕ → ℕ) → ((t : ℕ) → t < n → x t ≡ d * o t + i * v t)
+    → sumOver n p x ≡ d * sumOver n p o + i * sumOver n p v
+sum-line n p d i x o v h =
+    sum-cong n p (λ t k _. h t k) ∙ sum-add n p (λ t. d * o t) (λ t. i * v t) ∙ ap₂ _+_ (sum-mul n p d o) (sum-mul n p i v)
+
 cond-more : (b : Bool) {u v : ℕ} → b ≡ true → u ≡ suc v → cond b u 0 ≡ suc (cond b v 0)
 cond-more true e h = h
 cond-more false e h = absurd (true≢false (sym e))
@@ -128,3 +135,47 @@ unfolding sumOver
 sum-one zero i p x h e = absurd (omega (arith, h))
 sum-one (suc n) i p x h e =
     ⊎-elim (λ (k : i ≡ n). rw k (omega (arith, ap (λ (b : Bool). cond b (x n) 0) (ap p (sym k) ∙ e)))) (λ (k : i < n). omega (arith, sum-one n i p x k e)) (eq-or-lt-of-le (le-of-suc-le-suc h))
+
+-- a sum that is not 0 has a summand that is not
+pub sum-pos : (n : ℕ) (p : ℕ → Bool) (x : ℕ → ℕ) → 0 < sumOver n p x → (t : ℕ) × (t < n) × (p t ≡ true) × (0 < x t)
+unfolding sumOver
+sum-pos zero p x h = absurd (omega arith)
+sum-pos (suc n) p x h =
+    ⊎-elim
+    (λ (k : 0 < sumOver n p x). let r = sum-pos n p x k in (r .0, omega (arith, r .1), r .2, r .3))
+    (λ (k : 0 < cond (p n) (x n) 0). let r = cond-pos (p n) (x n) k in (n, omega arith, r .0, r .1))
+    (either (sumOver n p x) _ h)
+  where
+    either : (a b : ℕ) → 0 < a + b → (0 < a) ⊎ (0 < b)
+    either zero b h = inr (omega arith)
+    either (suc a) b h = inl (omega arith)
+
+    cond-pos : (b : Bool) (u : ℕ) → 0 < cond b u 0 → (b ≡ true) × (0 < u)
+    cond-pos true u h = (refl, h)
+    cond-pos false u h = absurd (omega arith)
+
+-- ---- sums by groups
+
+-- a sum all of whose summands but one are 0
+sum-only : (n : ℕ) (p : ℕ → Bool) (x : ℕ → ℕ) (k : ℕ) → ((m : ℕ) → m ≢ k → x m ≡ 0) → k < n → sumOver n p x ≡ cond (p k) (x k) 0
+unfolding sumOver
+sum-only zero p x k z h = absurd (omega (arith, h))
+sum-only (suc n) p x k z h =
+    ⊎-elim
+    (λ (e : k ≡ n).
+    let s : sumOver n p x ≤ n * 0 = sum-bound n p x 0 (λ t g. omega (arith, z t (λ q. omega (arith, q)))) in
+    omega (arith, ap (λ (m : ℕ). cond (p m) (x m) 0) e))
+    (λ (g : k < n). omega (arith, sum-only n p x k z g, cond-bound (p n) {u = x n} {v = 0} (omega (arith, z n (λ q. omega (arith, q))))))
+    (eq-or-lt-of-le (le-of-suc-le-suc h))
+
+-- group by group, where g t is the group of t, or all at once
+pub sum-groups : (M n : ℕ) (p : ℕ → Bool) (g : ℕ → ℕ) (x : ℕ → ℕ) → ((t : ℕ) → t < n → g t < M)
+    → sumOver M p (λ m. sumOver n (λ t. eqb (g t) m) x) ≡ sumOver n (λ t. p (g t)) x
+unfolding sumOver
+sum-groups M zero p g x h = omega (arith, sum-bound M p (λ m. 0) 0 (λ t k. omega arith))
+sum-groups M (suc n) p g x h =
+    let y : ℕ → ℕ = λ m. cond (eqb (g n) m) (x n) 0 in
+    let off : (m : ℕ) → m ≢ g n → y m ≡ 0 = λ m q. ap (λ (b : Bool). cond b (x n) 0) (ne-eqb (g n) m (λ e. q (sym e))) in
+    let on : y (g n) ≡ x n = ap (λ (b : Bool). cond b (x n) 0) (eq-eqb (g n) (g n) refl) in
+    sum-add M p (λ m. sumOver n (λ t. eqb (g t) m) x) y
+    ∙ ap₂ _+_ (sum-groups M n p g x (λ t k. h t (omega arith))) (sum-only M p y (g n) off (h n (omega arith)) ∙ ap (λ (u : ℕ). cond (p (g n)) u 0) on)

@@ -10,4 +10,5 @@ pub mod Rule
 pub mod Even
 pub mod OneRate
 pub mod ThreeSums
+pub mod Weaker
 pub mod Claim
