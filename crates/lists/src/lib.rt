@@ -6,7 +6,7 @@ ghost use Prim.Native.Nat.{_≤_, _<_};
 ghost use lib.ListN.{length};
 ghost use Rattle.model.specs.Rule.{byFlow};
 ghost use Rattle.model.specs.Limits.{mostSteps, mostTunnels, mostSwitches};
-ghost use Rattle.lists.specs.Lists.{hasNext, hasHeld, headSize, perLink, perFlow, nextIn, networkSizes, linkAt, flowAt, tunnelAt, networkOf, planSizes, rowAt, tableSizes, roomAt, ruleAt};
+ghost use Rattle.lists.specs.Lists.{hasNext, hasHeld, headSize, perLink, perFlow, nextIn, networkSizes, linkAt, flowAt, tunnelAt, heldOf, networkOf, planSizes, rowAt, tableSizes, roomAt, ruleAt};
 ghost use Rattle.lists.specs.Good.{Limited, StandsAt, NetworkRanges};
 
 // A network's edition, and how many links, flows and tunnels it has.
@@ -121,16 +121,15 @@ impl Network {
         false
     }
 
-    // What is left of the capacity of link k, of the network that a list holds: all but what is held of it.
-    pub fn capacity(self, list: &[u64], k: usize) -> u64
+    // What is held of link k of the network that a list holds: 0 where nothing is said of it.
+    pub fn held(self, list: &[u64], k: usize) -> u64
         requires { ⌜ (self ≡ networkSizes (now list)) × NetworkRanges (now list) × (k < self .links) ⌝ }
-        ensures { λ r. ⌜ r ≡ networkOf (now (list .entry)) .cap k ⌝ }
+        ensures { λ r. ⌜ r ≡ heldOf (now (list .entry)) k ⌝ }
     {
-        let at = self.link_at(k);
         if self.has_held() {
-            return list[at] - list[at + Self::HELD];
+            return list[self.link_at(k) + Self::HELD];
         }
-        list[at]
+        0
     }
 
     // Whether a flow's rate is followed by the next.
