@@ -43,6 +43,14 @@ module _ (links part : ℕ) (sums s : List ℕ) (few : links ≤ mostLinks) (hp 
 
 -- ---- flow by flow
 
+pub fewer-amounts : (links : ℕ) (vias earlier later : List ℕ) (n m : ℕ) → m ≤ n → Amounts links vias earlier later n → Amounts links vias earlier later m
+fewer-amounts links vias earlier later n m h a = record {
+  few = (a .few .0, omega (arith, a .few), omega (arith, a .few));
+  sets = record { each = λ t k. a .sets .each t (omega arith) };
+  size = a .size;
+  within = (fewer-within _ _ _ h (a .within .0), fewer-within _ _ _ h (a .within .1));
+}
+
 -- what a set has not is 0, so that it does not matter whether it is added
 inside : (b c : Bool) (x : ℕ) → (c ≡ false → x ≡ 0) → cond (b && c) x 0 ≡ cond b x 0
 inside true true x h = refl
