@@ -43,6 +43,28 @@ module _ (links part : ℕ) (sums s : List ℕ) (few : links ≤ mostLinks) (hp 
 
 -- ---- flow by flow
 
+-- sums over tests that agree
+sum-test : (n : ℕ) (p q : ℕ → Bool) (x : ℕ → ℕ) → ((t : ℕ) → t < n → p t ≡ q t) → sumOver n p x ≡ sumOver n q x
+unfolding sumOver
+sum-test zero p q x h = refl
+sum-test (suc n) p q x h = ap₂ _+_ (sum-test n p q x (λ t k. h t (omega arith))) (ap (λ (b : Bool). cond b (x n) 0) (h n (omega arith)))
+
+-- what counts on both sides alike is gathered alike
+pub by-flow-cong : (via via′ flow flow′ : ℕ → ℕ) (c c′ : ℕ → Bool) (x x′ y y′ : ℕ → ℕ) (n m l : ℕ) → ((t : ℕ) → t < n → via t ≡ via′ t) → ((t : ℕ) → t < n → flow t ≡ flow′ t)
+    → ((f : ℕ) → f < m → c f ≡ c′ f) → ((t : ℕ) → t < n → x t ≡ x′ t) → ((t : ℕ) → t < n → y t ≡ y′ t)
+    → gatheredByFlow via flow c x y n m l ≡ gatheredByFlow via′ flow′ c′ x′ y′ n m l
+unfolding gatheredByFlow largerSum ofFlow
+by-flow-cong via via′ flow flow′ c c′ x x′ y y′ n m l hv hf hc hx hy =
+    let of : (f t : ℕ) → t < n → ofFlow flow f t ≡ ofFlow flow′ f t = λ f t h. ap (λ (i : ℕ). eqb i f) (hf t h) in
+    sum-test m c c′ _ hc
+    ∙ sum-cong m c′ (λ f _ _. ap₂ max (gathered-cong via via′ (ofFlow flow f) (ofFlow flow′ f) x x′ n l hv (of f) hx) (gathered-cong via via′ (ofFlow flow f) (ofFlow flow′ f) y y′ n l hv (of f) hy))
+
+-- both parts together are all flows
+pub by-flow-parts : (via flow class x y : ℕ → ℕ) (n m l : ℕ)
+    → gatheredByFlow via flow (inPart class 0) x y n m l + gatheredByFlow via flow (inPart class 1) x y n m l ≡ gatheredByFlow via flow (λ f. true) x y n m l
+unfolding gatheredByFlow inPart
+by-flow-parts via flow class x y n m l = sum-both m (inPart class 0) (inPart class 1) (λ f. true) _ (λ f u. part-cases (leb (class f) 1) u)
+
 pub fewer-amounts : (links : ℕ) (vias earlier later : List ℕ) (n m : ℕ) → m ≤ n → Amounts links vias earlier later n → Amounts links vias earlier later m
 fewer-amounts links vias earlier later n m h a = record {
   few = (a .few .0, omega (arith, a .few), omega (arith, a .few));
