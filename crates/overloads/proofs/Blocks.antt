@@ -18,7 +18,7 @@ use Rattle.lists.specs.Lists.{at, networkSizes, networkOf, planSizes, planOf}
 use Rattle.loads.specs.Claim.{worstAmount}
 use Rattle.loads.specs.Gathered.{gathered, gatheredByFlow}
 use Rattle.loads.specs.Tables.{blockSteps, amountAt, amountsSize, loadAt, loadsSize, inPart, SetsWithin, LoadsWithin, Loads}
-use Rattle.loads.specs.Flows.{Amounts, FlowLoads}
+use Rattle.loads.specs.Flows.{FlowsWithin, Amounts, FlowLoads}
 use Rattle.loads.proofs.Vectors.{at-same, at-other, last-or}
 use Rattle.loads.proofs.Passes.{gathered-cong, gathered-parts, loads-within}
 use Rattle.loads.proofs.ByFlow.{by-flow-cong, by-flow-parts, flows-within}
@@ -93,6 +93,19 @@ part-0 false = refl
 pub sets-within : (l p vias : List ℕ) → Checkable l p → Holds vias (networkSizes l .tunnels) (networkOf l .via) → SetsWithin (networkSizes l .links) vias (networkSizes l .tunnels)
 unfolding networkOf
 sets-within l p vias c h = record { each = λ u k. rw (h .each u k) (c .network .ranges .tunnels .via u k .1) }
+
+pub owners-within : (l p flows : List ℕ) → Checkable l p → Holds flows (networkSizes l .tunnels) (networkOf l .flow) → FlowsWithin flows (networkSizes l .tunnels)
+unfolding networkOf
+owners-within l p flows c h = record { each = λ u k. rw (h .each u k) (omega (arith, c .network .ranges .tunnels .flow u k, c .network .ranges .sized .counts)) }
+
+pub flow-amounts : (l p vias earlier later : List ℕ) → Checkable l p → mostTunnels ≤ length vias → Holds vias (networkSizes l .tunnels) (networkOf l .via) → AmountTable l earlier
+    → AmountTable l later → Amounts (networkSizes l .links) vias earlier later (networkSizes l .tunnels)
+flow-amounts l p vias earlier later c size h a b = record {
+  few = (c .network .ranges .sized .counts .links, c .network .ranges .sized .counts .tunnels, omega (arith, c .network .ranges .sized .counts, size));
+  sets = sets-within l p vias c h;
+  size = (a .size, b .size);
+  within = (a .within, b .within);
+}
 
 module _ (l p : List ℕ) (c : Checkable l p) (i b : ℕ) (e : i ≡ blockSteps * b) where
   abbrev N : Net
