@@ -90,11 +90,11 @@ module _ (links : ℕ) (vias flows : List ℕ) (n : ℕ) (classes earlier later 
     each = λ q l k hq hl hk. z .each (loadAt l q k) (omega arith) ∙ sym (sum-zero (inPart (at classes) q) (sumOf l k));
   }
 
-  pub flows-more : (f m set : ℕ) (prior sums s s₁ : List ℕ) → Chain (ofFlow (at flows) f) prior n m → ChainSums links vias prior m earlier later set sums
-      → FlowLoads links vias flows n classes f earlier later s → SetAdded links (partOf (at classes f)) (inSet set) (largerAt sums) s s₁
+  pub flows-more : (f m set part : ℕ) (prior sums s s₁ : List ℕ) → part ≡ partOf (at classes f) → Chain (ofFlow (at flows) f) prior n m → ChainSums links vias prior m earlier later set sums
+      → FlowLoads links vias flows n classes f earlier later s → SetAdded links part (inSet set) (largerAt sums) s s₁
       → FlowLoads links vias flows n classes (f + 1) earlier later s₁
   unfolding gatheredByFlow largerSum largerAt inPart
-  flows-more f m set prior sums s s₁ c a g d = record {
+  flows-more f m set part prior sums s s₁ p c a g d = record {
     size = d .size ∙ g .size;
     each = λ q l k hq hl hk.
         let e : largerAt sums l k ≡ sumOf l k f =
@@ -102,6 +102,7 @@ module _ (links : ℕ) (vias flows : List ℕ) (n : ℕ) (classes earlier later 
         let none : inSet set l ≡ false → largerAt sums l k ≡ 0 =
         λ o. ap₂ max (a .outside 0 l k (omega arith) hl hk o) (a .outside 1 l k (omega arith) hl hk o) in
         d .each q l k hq hl hk
+        ∙ ap (λ (b : ℕ). at s (loadAt l q k) + cond (eqb b q && inSet set l) (largerAt sums l k) 0) p
         ∙ ap₂ _+_ (g .each q l k hq hl hk) (inside (inPart (at classes) q f) (inSet set l) (largerAt sums l k) none ∙ ap (λ (y : ℕ). cond (inPart (at classes) q f) y 0) e)
         ∙ sym (sum-next f (inPart (at classes) q) (sumOf l k));
   }

@@ -66,7 +66,8 @@ pub(crate) fn links(network: &[u64], parts: u64, capacities: &mut [u64], all: &m
     let times = 1000 + network[Network::OVERRUN];
     let mut l = 0;
     while l < sizes.links {
-        let left = network[sizes.link_at(l)] - sizes.held(network, l);
+        let cap = network[sizes.link_at(l)];
+        let left = cap - sizes.held(network, l);
         let capacity = parts * left;
         capacities[l] = capacity;
         all[l] = times * capacity / 1000;

@@ -88,7 +88,7 @@ loop-less c = search needs
 loop-again : tie.Need-loop-again Inv-loop μ-loop
 loop-again c = record {
   low = omega (arith, c .before .before .before .before .before .before .before .before .before .before .before .loop-test .taken);
-  loads = flows-more _ _ _ _ _ _ _ (c .before .before .before .before .before .before .before .before .before .before .before .before .loop .f) _ _ _ _ _ _ (chain-of _ _ _ _ (c .before .before .before .before .before .before .before .before .before .before .before .before .before .before .before .before .before .before .before .chain .ensures) _ (here ((c .before .before .before .before .before .before .before .before .before .before .before)))) (c .before .before .before .before .before .before .before .before .chain-sums .ensures) (c .before .before .before .before .before .before .before .before .before .before .before .before .loop .inv .loads) (rw (← c .before .before .before .before .before .part-of .ensures .0) (c .before .before .add-larger .ensures));
+  loads = flows-more _ _ _ _ _ _ _ (c .before .before .before .before .before .before .before .before .before .before .before .before .loop .f) _ _ _ _ _ _ _ (c .before .before .before .before .before .part-of .ensures .0) (chain-of _ _ _ _ (c .before .before .before .before .before .before .before .before .before .before .before .before .before .before .before .before .before .before .before .chain .ensures) _ (here ((c .before .before .before .before .before .before .before .before .before .before .before)))) (c .before .before .before .before .before .before .before .before .chain-sums .ensures) (c .before .before .before .before .before .before .before .before .before .before .before .before .loop .inv .loads) (c .before .before .add-larger .ensures);
   sums = c .before .before .before .before .before .before .before .before .chain-sums .ensures .within .size;
 }
 
