@@ -1,21 +1,19 @@
 -- Laws of the loads that are gathered flow by flow.
 use Prim.Native.Nat.{ℕ, zero, suc, _+_, _*_, _≤_, _<_, max}
 use mathlib.Core.Path.{_≡_, refl, sym, ap, ap₂, _∙_, subst}
-use mathlib.Core.Logic.{⊎-elim}
 use mathlib.Core.Bool.{Bool, true, false, cond, _&&_}
 use mathlib.Core.List.{List}
 use native.Mathlib.Omega.{arith}
 use native.Mathlib.Nat.{max-le}
 use lib.Dec.{eqb, leb}
-use lib.ListN.{length}
 use Rattle.model.specs.Limits.{mostLinks, mostFlows, mostTunnels, mostSteps, mostAmount}
 use Rattle.model.specs.Sets.{inSet}
 use Rattle.model.specs.Sum.{sumOver}
-use Rattle.model.proofs.Searches.{bool-cases, and-false, cond-most}
+use Rattle.model.proofs.Searches.{cond-most}
 use Rattle.model.proofs.Sums.{sum-zero, sum-next, sum-mono, sum-cong, sum-bound, sum-both, sum-groups}
 use Rattle.lists.specs.Lists.{at}
 use Rattle.loads.specs.Gathered.{gathered, ofFlow, largerSum, gatheredByFlow}
-use Rattle.loads.specs.Tables.{blockSteps, amountAt, loadAt, loadsSize, partOf, inPart, AmountsWithin, SetAdded, LoadsWithin, Cleared}
+use Rattle.loads.specs.Tables.{blockSteps, amountAt, loadAt, partOf, inPart, SetAdded, LoadsWithin, Cleared}
 use Rattle.loads.specs.Flows.{Chain, Amounts, ChainSums, largerAt, LargerFits, FlowLoads}
 use Rattle.loads.proofs.Passes.{gathered-most, gathered-sum, gathered-cong, part-cases, fewer-within}
 

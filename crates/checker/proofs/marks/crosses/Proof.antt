@@ -3,7 +3,6 @@ use Prim.Native.Nat.{_/_, _^_}
 use mathlib.Core.Path.{ap}
 use lib.Bits.{and-mask}
 use lib.Dec.{eqb}
-use native.Mathlib.Omega.{arith}
 use borrow.Author.Needs.{needs}
 use Rattle.checker.proofs.marks.crosses.Statement.{statement}
 use Rattle.checker.proofs.marks.crosses.Tie as tie

@@ -1,10 +1,8 @@
 -- `checker::marks::on_link` meets its contract.
 use mathlib.Core.Path.{sym, _∙_}
-use native.Mathlib.Omega.{arith}
 use borrow.Author.Needs.{needs}
 use Rattle.checker.proofs.marks.on_link.Statement.{statement}
 use Rattle.checker.proofs.marks.on_link.Tie as tie
-use Rattle.checker.proofs.marks.crosses.Reads as crosses-reads
 
 crosses-requires : tie.Need-crosses-requires
 crosses-requires c κs = search needs

@@ -1,11 +1,9 @@
 -- `checker::marks::rises` meets its contract.
 use mathlib.Core.Path.{sym, _∙_}
 use borrow.Author.Tests.{lt-ltb, le-ltb}
-use native.Mathlib.Omega.{arith}
 use borrow.Author.Needs.{needs}
 use Rattle.checker.proofs.marks.rises.Statement.{statement}
 use Rattle.checker.proofs.marks.rises.Tie as tie
-use Rattle.checker.proofs.marks.crosses.Reads as crosses-reads
 
 crosses-requires : tie.Need-crosses-requires
 crosses-requires c κs = search needs

@@ -7,8 +7,6 @@ use native.Mathlib.Omega.{arith}
 use borrow.Author.Needs.{needs}
 use Rattle.loads.proofs.flows.chain_sums.Statement.{statement}
 use Rattle.loads.proofs.flows.chain_sums.Tie as tie
-use Rattle.loads.proofs.gather.add_tunnel.Reads as add-tunnel-reads
-use Rattle.loads.proofs.gather.clear.Reads as clear-reads
 
 abbrev Inv-loop : tie.InvT-loop
 Inv-loop links vias prior m earlier later sums₀ set₀ from₀ sums set from = Walking links vias prior m earlier later from set sums

@@ -13,9 +13,6 @@ use native.Mathlib.Omega.{arith}
 use borrow.Author.Needs.{needs}
 use Rattle.overloads.proofs.columns.links.Statement.{statement}
 use Rattle.overloads.proofs.columns.links.Tie as tie
-use Rattle.lists.proofs.Network.held.Reads as held-reads
-use Rattle.lists.proofs.Network.link_at.Reads as link-at-reads
-use Rattle.lists.proofs.Network.of.Reads as of-reads
 
 abbrev Inv-loop : tie.InvT-loop
 Inv-loop network parts capacities₀ all₀ sizes times l₀ capacities all l = record {

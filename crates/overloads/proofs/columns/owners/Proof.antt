@@ -12,8 +12,6 @@ use native.Mathlib.Omega.{arith}
 use borrow.Author.Needs.{needs}
 use Rattle.overloads.proofs.columns.owners.Statement.{statement}
 use Rattle.overloads.proofs.columns.owners.Tie as tie
-use Rattle.lists.proofs.Network.of.Reads as of-reads
-use Rattle.lists.proofs.Network.tunnel_at.Reads as tunnel-at-reads
 
 abbrev Inv-loop : tie.InvT-loop
 Inv-loop network flows₀ sizes t₀ flows t = record { low : t ≤ sizes .tunnels; size : length flows ≡ length flows₀; holds : Holds flows t (networkOf network .flow) }

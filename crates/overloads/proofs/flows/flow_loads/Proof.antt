@@ -8,11 +8,6 @@ use native.Mathlib.Omega.{arith}
 use borrow.Author.Needs.{needs}
 use Rattle.overloads.proofs.flows.flow_loads.Statement.{statement}
 use Rattle.overloads.proofs.flows.flow_loads.Tie as tie
-use Rattle.lists.proofs.Network.of.Reads as of-reads
-use Rattle.loads.proofs.flows.gather_flows.Reads as gather-flows-reads
-use Rattle.overloads.proofs.columns.flow_classes.Reads as flow-classes-reads
-use Rattle.overloads.proofs.columns.owners.Reads as owners-reads
-use Rattle.overloads.proofs.rows.row_amounts.Reads as row-amounts-reads
 
 of-requires : tie.Need-of-requires
 of-requires c κs = head-in _ (c .before .before .before .before .before .pre .0 .network .ranges .sized .size)
