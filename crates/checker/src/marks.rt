@@ -26,7 +26,7 @@ fn crosses(via: u64, l: u64) -> bool
     (via >> l) & 1 == 1
 }
 
-// A tunnel's mark: 1 if it crosses link l and what moves it rises.
+// A tunnel's mark: 1 if it crosses link l and an amount, its own or its flow's, rises.
 fn rises(via: u64, l: u64, earlier: u64, later: u64) -> u8
     requires { ⌜ l < mostLinks ⌝ }
     ensures { λ r. ⌜ r ≡ cond (inSet via l && ltb earlier later) 1 0 ⌝ }

@@ -31,7 +31,7 @@ pub(crate) fn tunnels(network: &[u64], vias: &mut [u64], classes: &mut [u64])
 }
 
 // The flow of each tunnel.
-pub(crate) fn owners(network: &[u64], flows: &mut [u64])
+pub(crate) fn tunnel_flows(network: &[u64], flows: &mut [u64])
     requires { ⌜ GoodNetwork (now network) × (mostTunnels ≤ length (now flows)) ⌝ }
     ensures { λ _. ⌜ Holds (now (flows .exit)) (networkSizes (now (network .entry)) .tunnels) (networkOf (now (network .entry)) .flow) ⌝ }
 {
