@@ -16,8 +16,8 @@ use Rattle.model.proofs.Gathered.{mark-by-tunnel, mark-by-flow}
 use Rattle.judges.specs.Sums.{Gathered}
 use Rattle.judges.proofs.Gathering.{gathered-all}
 use Rattle.lists.specs.Lists.{networkSizes, networkOf, planSizes, planOf}
-use Rattle.overloads.specs.Inner.{Checkable}
-use Rattle.overloads.proofs.Good.{row-small}
+use Rattle.amounts.specs.Rows.{Checkable}
+use Rattle.amounts.proofs.Good.{row-small}
 
 -- what a tunnel puts on a link, by its set and its amount
 pub across-of : (N : Net) (l t via amount v : ℕ) (x : ℕ → ℕ) → via ≡ N .via t → amount ≡ x t → v ≡ cond (inSet via l) amount 0 → v ≡ across N l x t

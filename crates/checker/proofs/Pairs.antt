@@ -20,7 +20,7 @@ use Rattle.forms.specs.Named.{judgeNetwork, judgePlan}
 use Rattle.forms.proofs.Answers.{done-good, NotDone, refused-then}
 use Rattle.forms.proofs.Good.{good-network, good-plan}
 use Rattle.checker.specs.Check.{judgeRows, judgePair}
-use Rattle.overloads.specs.Inner.{Checkable}
+use Rattle.amounts.specs.Rows.{Checkable}
 use Rattle.checker.specs.Inner.{missedOf}
 use Rattle.checker.specs.declared.sums.Missed.the-variants as missed
 

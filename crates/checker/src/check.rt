@@ -6,7 +6,7 @@ ghost use Rattle.model.specs.Outcome.{Outcome};
 ghost use Rattle.model.specs.Rule.{firstOverload};
 ghost use Rattle.lists.specs.Lists.{networkSizes, networkOf, planOf};
 ghost use Rattle.checker.specs.Check.{verdict, checked, marksAfter};
-ghost use Rattle.overloads.specs.Inner.{Checkable};
+ghost use Rattle.amounts.specs.Rows.{Checkable};
 use crate::marks;
 use crate::pair;
 use lists::Answer;

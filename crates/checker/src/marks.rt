@@ -11,10 +11,10 @@ ghost use Rattle.model.specs.Rule.{across, byFlow};
 ghost use Rattle.model.specs.Sets.{inSet};
 ghost use Rattle.judges.specs.Sums.{Gathered};
 ghost use Rattle.lists.specs.Lists.{networkSizes, networkOf, planSizes, planOf};
-ghost use Rattle.overloads.specs.Inner.{Checkable};
+ghost use Rattle.amounts.specs.Rows.{Checkable};
 ghost use Rattle.checker.specs.Inner.{marksOf, marksAt};
+use amounts::rows;
 use lists::Network;
-use overloads::rows;
 
 const FLOWS: usize = Network::FLOWS as usize;
 

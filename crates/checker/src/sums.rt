@@ -10,11 +10,11 @@ ghost use Rattle.model.specs.Rule.{missedRow};
 ghost use Rattle.judges.specs.Sums.{Gathered};
 ghost use Rattle.lists.specs.Lists.{networkSizes, networkOf, planSizes, planOf};
 ghost use Rattle.lists.specs.Good.{GoodNetwork};
-ghost use Rattle.overloads.specs.Inner.{Checkable};
+ghost use Rattle.amounts.specs.Rows.{Checkable};
 ghost use Rattle.checker.specs.Inner.{FirstMissed, missedOf};
+use amounts::rows;
 use lists::Network;
 use lists::PlanSizes;
-use overloads::rows;
 
 const FLOWS: usize = Network::FLOWS as usize;
 

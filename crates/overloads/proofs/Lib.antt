@@ -1,4 +1,2 @@
-pub mod Laws
-pub mod Good
 pub mod Overloads
 pub mod Blocks

@@ -12,7 +12,7 @@ use Rattle.model.specs.Net.{Net, Plan}
 use Rattle.model.specs.Scan.{Bound, Overload, test, testLink}
 use Rattle.model.specs.Rule.{load, exceeds, worst, worstOver}
 use Rattle.model.proofs.Searches.{bool-cases}
-use Rattle.overloads.specs.Columns.{capacity, raised}
+use Rattle.amounts.specs.Columns.{capacity, raised}
 use Rattle.overloads.specs.Inner.{overNumber, overBy, foundOf}
 use Rattle.overloads.specs.declared.steps.Found.the-variants.{At}
 

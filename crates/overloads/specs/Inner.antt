@@ -1,23 +1,13 @@
 -- What the parts of the search for an overload come to. No promise of the product cites these.
 use Prim.Native.Nat.{ℕ}
-use mathlib.Core.Path.{_≡_}
 use mathlib.Core.Bool.{Bool, cond}
-use mathlib.Core.List.{List}
 use mathlib.Core.Option.{Option, none, some}
 use Rattle.model.specs.Outcome.{number}
 use Rattle.model.specs.Net.{Net}
 use Rattle.model.specs.Scan.{Bound, Overload, cause}
 use Rattle.model.specs.Rule.{exceeds}
-use Rattle.lists.specs.Lists.{networkSizes, planSizes}
-use Rattle.lists.specs.Good.{GoodNetwork, GoodPlan}
 use Rattle.overloads.specs.declared.steps.Found.{Found}
 use Rattle.overloads.specs.declared.steps.Found.the-variants.{Nothing, At}
-
--- a network and a plan that are good, of the same number of tunnels
-pub record Checkable (n p : List ℕ) : Type 0 where
-  pub network : GoodNetwork n
-  pub plan : GoodPlan p
-  pub tunnels : planSizes p .tunnels ≡ networkSizes n .tunnels
 
 -- the refusal that two loads of a link meet, 7 before 8, or 0
 abbrev pub overNumber : Bool → Bool → ℕ

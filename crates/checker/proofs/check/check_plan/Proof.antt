@@ -5,7 +5,7 @@ use Rattle.lists.specs.Lists.{networkOf}
 use Rattle.lists.specs.declared.Network as counts
 use Rattle.lists.proofs.Positions.{head-in}
 use Rattle.checker.specs.Check.{judgePair}
-use Rattle.overloads.specs.Inner.{Checkable}
+use Rattle.amounts.specs.Rows.{Checkable}
 use Rattle.checker.proofs.Pairs.{pair-judged}
 use Rattle.checker.proofs.Checking.{refused-gives, short-gives, steps-give}
 use native.Mathlib.Omega.{arith}

@@ -12,7 +12,7 @@ use Rattle.judges.specs.Sums.{Gathered}
 use Rattle.judges.proofs.Gathering.{gathered-none, gathered-more, gathered-fits}
 use Rattle.checker.proofs.Totals.{gathered-at}
 use Rattle.checker.proofs.Marking.{across-of, across-small}
-use Rattle.overloads.proofs.Good.{flow-here, flow-low, via-here}
+use Rattle.amounts.proofs.Good.{flow-here, flow-low, via-here}
 use native.Mathlib.Omega.{arith}
 use borrow.Author.Needs.{needs}
 use Rattle.checker.proofs.marks.flow_sums.Statement.{statement}

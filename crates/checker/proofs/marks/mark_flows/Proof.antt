@@ -9,7 +9,7 @@ use Rattle.lists.proofs.Positions.{TunnelPlace, tunnel-place, limited, head-in}
 use Rattle.model.specs.Limits.{mostFlows}
 use Rattle.model.proofs.Listed.{listed-none, listed-on, listed-to}
 use Rattle.checker.specs.Inner.{marksAt}
-use Rattle.overloads.proofs.Good.{flow-here, flow-low, via-here}
+use Rattle.amounts.proofs.Good.{flow-here, flow-low, via-here}
 use Rattle.checker.proofs.Marking.{sum-of, mark-of-flow}
 use native.Mathlib.Omega.{arith}
 use borrow.Author.Needs.{needs}

@@ -8,7 +8,7 @@ use Rattle.lists.specs.declared.Network as counts
 use Rattle.lists.proofs.Positions.{TunnelPlace, tunnel-place, limited, head-in}
 use Rattle.model.proofs.Listed.{listed-none, listed-on, listed-to}
 use Rattle.checker.specs.Inner.{marksAt}
-use Rattle.overloads.proofs.Good.{via-here}
+use Rattle.amounts.proofs.Good.{via-here}
 use Rattle.checker.proofs.Marking.{mark-of-tunnel}
 use native.Mathlib.Omega.{arith}
 use borrow.Author.Needs.{needs}

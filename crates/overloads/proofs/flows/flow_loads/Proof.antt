@@ -3,7 +3,8 @@ use Prim.Native.Nat.{_*_, _/_}
 use mathlib.Core.Path.{_≡_}
 use Rattle.lists.proofs.Positions.{head-in}
 use Rattle.loads.specs.Tables.{blockSteps}
-use Rattle.overloads.proofs.Blocks.{no-amounts, tunnel-flows-within, flow-amounts, flows-gather}
+use Rattle.amounts.proofs.Tables.{no-amounts}
+use Rattle.overloads.proofs.Blocks.{tunnel-flows-within, flow-amounts, flows-gather}
 use native.Mathlib.Omega.{arith}
 use borrow.Author.Needs.{needs}
 use Rattle.overloads.proofs.flows.flow_loads.Statement.{statement}

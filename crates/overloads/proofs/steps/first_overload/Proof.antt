@@ -15,9 +15,11 @@ use Rattle.lists.proofs.Positions.{head-in}
 use Rattle.loads.specs.Tables.{loadsSize}
 use Rattle.overloads.specs.declared.steps.Found.the-variants.{At, Nothing}
 use Rattle.overloads.specs.Inner.{foundOf}
-use Rattle.overloads.specs.Blocks.{AmountTable, InBlock}
+use Rattle.amounts.specs.Rows.{AmountTable}
+use Rattle.overloads.specs.Blocks.{InBlock}
 use Rattle.overloads.proofs.Overloads.{overIn, over-none, over-some}
-use Rattle.overloads.proofs.Blocks.{no-amounts, in-first, in-next, fewer-links, number-in}
+use Rattle.amounts.proofs.Tables.{no-amounts}
+use Rattle.overloads.proofs.Blocks.{in-first, in-next, fewer-links, number-in}
 use Rattle.model.specs.Net.{Net, Plan}
 use native.Mathlib.Omega.{arith}
 use borrow.Author.Needs.{needs}

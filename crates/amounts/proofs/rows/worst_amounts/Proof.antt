@@ -1,17 +1,17 @@
--- `overloads::rows::worst_amounts` meets its contract.
+-- `amounts::rows::worst_amounts` meets its contract.
 use Prim.Native.Nat.{_≤_, _-_}
 use mathlib.Core.Path.{_≡_, ap, sym, _∙_}
 use Rattle.lists.specs.Lists.{networkOf, planSizes, planOf}
 use Rattle.lists.specs.declared.PlanSizes as lengths
 use Rattle.loads.specs.Claim.{worstAmount}
 use Rattle.loads.specs.Tables.{blockSteps}
-use Rattle.overloads.specs.Blocks.{StepAmounts}
-use Rattle.overloads.proofs.Good.{worst-small}
-use Rattle.overloads.proofs.Blocks.{steps-none, steps-more, steps-end}
+use Rattle.amounts.specs.Rows.{StepAmounts}
+use Rattle.amounts.proofs.Good.{worst-small}
+use Rattle.amounts.proofs.Tables.{steps-none, steps-more, steps-end}
 use native.Mathlib.Omega.{arith}
 use borrow.Author.Needs.{needs}
-use Rattle.overloads.proofs.rows.worst_amounts.Statement.{statement}
-use Rattle.overloads.proofs.rows.worst_amounts.Tie as tie
+use Rattle.amounts.proofs.rows.worst_amounts.Statement.{statement}
+use Rattle.amounts.proofs.rows.worst_amounts.Tie as tie
 
 abbrev Inv-loop : tie.InvT-loop
 Inv-loop network plan i amounts₀ steps k₀ amounts k = record { low : k ≤ blockSteps; worst : StepAmounts (worstAmount (networkOf network) (planOf plan)) network plan i k amounts }

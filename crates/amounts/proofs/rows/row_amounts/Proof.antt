@@ -1,17 +1,17 @@
--- `overloads::rows::row_amounts` meets its contract.
+-- `amounts::rows::row_amounts` meets its contract.
 use Prim.Native.Nat.{_≤_, _-_, suc}
 use mathlib.Core.Path.{_≡_, ap, sym, _∙_}
 use Rattle.model.specs.Net.{row}
 use Rattle.lists.specs.Lists.{networkOf, planSizes, planOf}
 use Rattle.lists.specs.declared.PlanSizes as lengths
 use Rattle.loads.specs.Tables.{blockSteps}
-use Rattle.overloads.specs.Blocks.{StepAmounts}
-use Rattle.overloads.proofs.Good.{row-small}
-use Rattle.overloads.proofs.Blocks.{steps-none, steps-more, steps-end}
+use Rattle.amounts.specs.Rows.{StepAmounts}
+use Rattle.amounts.proofs.Good.{row-small}
+use Rattle.amounts.proofs.Tables.{steps-none, steps-more, steps-end}
 use native.Mathlib.Omega.{arith}
 use borrow.Author.Needs.{needs}
-use Rattle.overloads.proofs.rows.row_amounts.Statement.{statement}
-use Rattle.overloads.proofs.rows.row_amounts.Tie as tie
+use Rattle.amounts.proofs.rows.row_amounts.Statement.{statement}
+use Rattle.amounts.proofs.rows.row_amounts.Tie as tie
 
 abbrev Inv-loop : tie.InvT-loop
 Inv-loop network plan i earlier₀ later₀ steps k₀ earlier later k = record {

@@ -4,18 +4,18 @@ ghost use lib.ListN.{length};
 ghost use Rattle.model.specs.Limits.{mostLinks, mostFlows, mostTunnels, mostSteps};
 ghost use Rattle.lists.specs.Lists.{networkSizes, networkOf};
 ghost use Rattle.lists.specs.Good.{GoodNetwork};
-ghost use Rattle.overloads.specs.Columns.{Holds, classOf, capacity, raised};
+ghost use Rattle.amounts.specs.Columns.{Holds, classOf, capacity, raised};
 use lists::Network;
 
 // The most tunnels, flows and links, for which every column has room.
-pub(crate) const TUNNELS: usize = Network::TUNNELS as usize;
+pub const TUNNELS: usize = Network::TUNNELS as usize;
 
-pub(crate) const FLOWS: usize = Network::FLOWS as usize;
+pub const FLOWS: usize = Network::FLOWS as usize;
 
-pub(crate) const LINKS: usize = Network::LINKS as usize;
+pub const LINKS: usize = Network::LINKS as usize;
 
 // The links of each tunnel, and the class of its flow.
-pub(crate) fn tunnels(network: &[u64], vias: &mut [u64], classes: &mut [u64])
+pub fn tunnels(network: &[u64], vias: &mut [u64], classes: &mut [u64])
     requires { ⌜ GoodNetwork (now network) × (mostTunnels ≤ length (now vias)) × (mostTunnels ≤ length (now classes)) ⌝ }
     ensures { λ _. ⌜ Holds (now (vias .exit)) (networkSizes (now (network .entry)) .tunnels) (networkOf (now (network .entry)) .via) ⌝ }
     ensures { λ _. ⌜ Holds (now (classes .exit)) (networkSizes (now (network .entry)) .tunnels) (classOf (networkOf (now (network .entry)))) ⌝ }
@@ -31,7 +31,7 @@ pub(crate) fn tunnels(network: &[u64], vias: &mut [u64], classes: &mut [u64])
 }
 
 // The flow of each tunnel.
-pub(crate) fn tunnel_flows(network: &[u64], flows: &mut [u64])
+pub fn tunnel_flows(network: &[u64], flows: &mut [u64])
     requires { ⌜ GoodNetwork (now network) × (mostTunnels ≤ length (now flows)) ⌝ }
     ensures { λ _. ⌜ Holds (now (flows .exit)) (networkSizes (now (network .entry)) .tunnels) (networkOf (now (network .entry)) .flow) ⌝ }
 {
@@ -44,7 +44,7 @@ pub(crate) fn tunnel_flows(network: &[u64], flows: &mut [u64])
 }
 
 // The class of each flow.
-pub(crate) fn flow_classes(network: &[u64], classes: &mut [u64])
+pub fn flow_classes(network: &[u64], classes: &mut [u64])
     requires { ⌜ GoodNetwork (now network) × (mostFlows ≤ length (now classes)) ⌝ }
     ensures { λ _. ⌜ Holds (now (classes .exit)) (networkSizes (now (network .entry)) .flows) (networkOf (now (network .entry)) .class) ⌝ }
 {
@@ -57,7 +57,7 @@ pub(crate) fn flow_classes(network: &[u64], classes: &mut [u64])
 }
 
 // What each link can carry of what is not held, in parts: of protected traffic, and with the overrun, rounded down.
-pub(crate) fn links(network: &[u64], parts: u64, capacities: &mut [u64], all: &mut [u64])
+pub fn links(network: &[u64], parts: u64, capacities: &mut [u64], all: &mut [u64])
     requires { ⌜ GoodNetwork (now network) × (parts ≤ mostSteps) × (mostLinks ≤ length (now capacities)) × (mostLinks ≤ length (now all)) ⌝ }
     ensures { λ _. ⌜ Holds (now (capacities .exit)) (networkSizes (now (network .entry)) .links) (capacity (networkOf (now (network .entry))) parts) ⌝ }
     ensures { λ _. ⌜ Holds (now (all .exit)) (networkSizes (now (network .entry)) .links) (raised (networkOf (now (network .entry))) parts) ⌝ }

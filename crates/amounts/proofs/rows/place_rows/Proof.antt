@@ -1,4 +1,4 @@
--- `overloads::rows::place_rows` meets its contract.
+-- `amounts::rows::place_rows` meets its contract.
 use Prim.Native.Nat.{_≤_, _-_, _<_, suc}
 use mathlib.Core.Path.{ap}
 use Rattle.model.specs.Net.{row}
@@ -6,12 +6,12 @@ use Rattle.lists.specs.Lists.{networkSizes, networkOf, planOf}
 use Rattle.lists.specs.declared.Network as counts
 use Rattle.lists.proofs.Positions.{head-in}
 use Rattle.loads.specs.Tables.{amountsSize}
-use Rattle.overloads.specs.Blocks.{Placed}
-use Rattle.overloads.proofs.Blocks.{placed-none, placed-more, placed-at}
+use Rattle.amounts.specs.Rows.{Placed}
+use Rattle.amounts.proofs.Tables.{placed-none, placed-more, placed-at}
 use native.Mathlib.Omega.{arith}
 use borrow.Author.Needs.{needs}
-use Rattle.overloads.proofs.rows.place_rows.Statement.{statement}
-use Rattle.overloads.proofs.rows.place_rows.Tie as tie
+use Rattle.amounts.proofs.rows.place_rows.Statement.{statement}
+use Rattle.amounts.proofs.rows.place_rows.Tie as tie
 
 abbrev Inv-loop : tie.InvT-loop
 Inv-loop network plan i k earlier₀ later₀ n t₀ earlier later t = record {

@@ -1,17 +1,17 @@
--- `overloads::columns::tunnel_flows` meets its contract.
+-- `amounts::columns::tunnel_flows` meets its contract.
 use Prim.Native.Nat.{_≤_, _-_}
 use mathlib.Core.Path.{_≡_, refl, ap}
 use lib.ListN.{length, length-set}
 use Rattle.lists.specs.Lists.{networkOf}
 use Rattle.lists.specs.declared.Network as counts
 use Rattle.lists.proofs.Positions.{TunnelPlace, tunnel-place, limited, head-in}
-use Rattle.overloads.specs.Columns.{Holds}
-use Rattle.overloads.proofs.Good.{flow-here}
-use Rattle.overloads.proofs.Laws.{holds-none, holds-more, holds-at}
+use Rattle.amounts.specs.Columns.{Holds}
+use Rattle.amounts.proofs.Good.{flow-here}
+use Rattle.amounts.proofs.Laws.{holds-none, holds-more, holds-at}
 use native.Mathlib.Omega.{arith}
 use borrow.Author.Needs.{needs}
-use Rattle.overloads.proofs.columns.tunnel_flows.Statement.{statement}
-use Rattle.overloads.proofs.columns.tunnel_flows.Tie as tie
+use Rattle.amounts.proofs.columns.tunnel_flows.Statement.{statement}
+use Rattle.amounts.proofs.columns.tunnel_flows.Tie as tie
 
 abbrev Inv-loop : tie.InvT-loop
 Inv-loop network flows₀ sizes t₀ flows t = record { low : t ≤ sizes .tunnels; size : length flows ≡ length flows₀; holds : Holds flows t (networkOf network .flow) }

@@ -14,8 +14,8 @@ use Rattle.lists.specs.declared.Network.{Network}
 use Rattle.lists.specs.Good.{GoodNetwork}
 use Rattle.lists.proofs.Positions.{LinkPlace, FlowPlace, TunnelPlace, row-in, short-plan}
 use Rattle.loads.specs.Claim.{worstAmount}
-use Rattle.overloads.specs.Columns.{classOf, capacity, raised}
-use Rattle.overloads.specs.Inner.{Checkable}
+use Rattle.amounts.specs.Columns.{classOf, capacity, raised}
+use Rattle.amounts.specs.Rows.{Checkable}
 
 in-parts : (parts m : ℕ) → parts ≤ mostSteps → m ≤ mostAmount → parts * m ≤ mostAmount * mostSteps
 in-parts parts m h k = let q : parts * m ≤ mostSteps * mostAmount = mul-le-mul h k in omega arith

@@ -1,17 +1,17 @@
--- `overloads::columns::tunnels` meets its contract.
+-- `amounts::columns::tunnels` meets its contract.
 use Prim.Native.Nat.{_≤_, _-_}
 use mathlib.Core.Path.{_≡_, refl, ap}
 use lib.ListN.{length, length-set}
 use Rattle.lists.specs.Lists.{networkOf, at}
 use Rattle.lists.specs.declared.Network as counts
 use Rattle.lists.proofs.Positions.{TunnelPlace, tunnel-place, flow-place, limited, head-in, FlowPlace}
-use Rattle.overloads.specs.Columns.{Holds, classOf}
-use Rattle.overloads.proofs.Good.{flow-low, via-here, class-here}
-use Rattle.overloads.proofs.Laws.{holds-none, holds-more, holds-at}
+use Rattle.amounts.specs.Columns.{Holds, classOf}
+use Rattle.amounts.proofs.Good.{flow-low, via-here, class-here}
+use Rattle.amounts.proofs.Laws.{holds-none, holds-more, holds-at}
 use native.Mathlib.Omega.{arith}
 use borrow.Author.Needs.{needs}
-use Rattle.overloads.proofs.columns.tunnels.Statement.{statement}
-use Rattle.overloads.proofs.columns.tunnels.Tie as tie
+use Rattle.amounts.proofs.columns.tunnels.Statement.{statement}
+use Rattle.amounts.proofs.columns.tunnels.Tie as tie
 
 abbrev Inv-loop : tie.InvT-loop
 Inv-loop network vias₀ classes₀ sizes t₀ vias classes t = record {

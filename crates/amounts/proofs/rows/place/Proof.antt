@@ -1,16 +1,16 @@
--- `overloads::rows::place` meets its contract.
+-- `amounts::rows::place` meets its contract.
 use Prim.Native.Nat.{_≤_, _-_, max}
 use mathlib.Core.Path.{ap, ap₂, _∙_}
 use Rattle.lists.specs.Lists.{networkOf, planOf}
 use Rattle.lists.specs.declared.Network as counts
 use Rattle.lists.proofs.Positions.{head-in}
 use Rattle.loads.specs.Claim.{worstAmount}
-use Rattle.overloads.specs.Blocks.{Placed}
-use Rattle.overloads.proofs.Blocks.{placed-none, placed-more, placed-at}
+use Rattle.amounts.specs.Rows.{Placed}
+use Rattle.amounts.proofs.Tables.{placed-none, placed-more, placed-at}
 use native.Mathlib.Omega.{arith}
 use borrow.Author.Needs.{needs}
-use Rattle.overloads.proofs.rows.place.Statement.{statement}
-use Rattle.overloads.proofs.rows.place.Tie as tie
+use Rattle.amounts.proofs.rows.place.Statement.{statement}
+use Rattle.amounts.proofs.rows.place.Tie as tie
 
 abbrev Inv-loop : tie.InvT-loop
 Inv-loop network plan i k amounts₀ n t₀ amounts t = record { low : t ≤ n; placed : Placed (worstAmount (networkOf network) (planOf plan) i) t k amounts₀ amounts }

@@ -6,8 +6,7 @@ ghost use Rattle.model.specs.Net;
 ghost use Rattle.lists.specs.Lists.{networkSizes, networkOf, planSizes, planOf};
 ghost use Rattle.loads.specs.Claim.{worstAmount};
 ghost use Rattle.loads.specs.Tables.{blockSteps, amountsSize};
-ghost use Rattle.overloads.specs.Inner.{Checkable};
-ghost use Rattle.overloads.specs.Blocks.{Placed, AmountTable, StepAmounts};
+ghost use Rattle.amounts.specs.Rows.{Checkable, AmountTable, Placed, StepAmounts};
 use lists::Network;
 use lists::PlanSizes;
 use loads::gather;
@@ -55,7 +54,7 @@ fn place(network: &[u64], plan: &[u64], i: usize, k: usize, amounts: &mut [u64])
 }
 
 // The worst amounts in the steps from row i on, as many as a block has.
-pub(crate) fn worst_amounts(network: &[u64], plan: &[u64], i: usize, amounts: &mut [u64])
+pub fn worst_amounts(network: &[u64], plan: &[u64], i: usize, amounts: &mut [u64])
     requires { ⌜ Checkable (now network) (now plan) × (i < planSizes (now plan) .steps) × AmountTable (now network) (now amounts) ⌝ }
     ensures { λ _. ⌜ StepAmounts (worstAmount (networkOf (now (network .entry))) (planOf (now (plan .entry)))) (now (network .entry)) (now (plan .entry)) i blockSteps (now (amounts .exit)) ⌝ }
 {
@@ -94,13 +93,7 @@ fn place_rows(
 }
 
 // The amounts before and after each of the steps from row i on, as many as a block has.
-pub(crate) fn row_amounts(
-    network: &[u64],
-    plan: &[u64],
-    i: usize,
-    earlier: &mut [u64],
-    later: &mut [u64],
-)
+pub fn row_amounts(network: &[u64], plan: &[u64], i: usize, earlier: &mut [u64], later: &mut [u64])
     requires { ⌜ Checkable (now network) (now plan) × (i < planSizes (now plan) .steps) × AmountTable (now network) (now earlier) × AmountTable (now network) (now later) ⌝ }
     ensures { λ _. ⌜ StepAmounts (Net.row (networkOf (now (network .entry))) (planOf (now (plan .entry)))) (now (network .entry)) (now (plan .entry)) i blockSteps (now (earlier .exit)) ⌝ }
     ensures { λ _. ⌜ StepAmounts (λ a. Net.row (networkOf (now (network .entry))) (planOf (now (plan .entry))) (suc a)) (now (network .entry)) (now (plan .entry)) i blockSteps (now (later .exit)) ⌝ }

@@ -1,4 +1,4 @@
--- `overloads::columns::links` meets its contract.
+-- `amounts::columns::links` meets its contract.
 use Prim.Native.Nat.{_≤_, _-_}
 use mathlib.Core.Path.{_≡_, refl, ap}
 use lib.ListN.{length, length-set}
@@ -6,13 +6,13 @@ use Rattle.lists.specs.Lists.{at, networkSizes, networkOf}
 use Rattle.lists.specs.declared.Network as counts
 use Rattle.lists.proofs.Held.{held-most}
 use Rattle.lists.proofs.Positions.{LinkPlace, link-place, limited, head-in, head-least}
-use Rattle.overloads.specs.Columns.{Holds, capacity, raised}
-use Rattle.overloads.proofs.Good.{times-fits, left-here, capacity-here, raised-here, capacity-fits, raised-fits, cap-low}
-use Rattle.overloads.proofs.Laws.{holds-none, holds-more, holds-at}
+use Rattle.amounts.specs.Columns.{Holds, capacity, raised}
+use Rattle.amounts.proofs.Good.{times-fits, left-here, capacity-here, raised-here, capacity-fits, raised-fits, cap-low}
+use Rattle.amounts.proofs.Laws.{holds-none, holds-more, holds-at}
 use native.Mathlib.Omega.{arith}
 use borrow.Author.Needs.{needs}
-use Rattle.overloads.proofs.columns.links.Statement.{statement}
-use Rattle.overloads.proofs.columns.links.Tie as tie
+use Rattle.amounts.proofs.columns.links.Statement.{statement}
+use Rattle.amounts.proofs.columns.links.Tie as tie
 
 abbrev Inv-loop : tie.InvT-loop
 Inv-loop network parts capacities₀ all₀ sizes times l₀ capacities all l = record {

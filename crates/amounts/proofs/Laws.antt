@@ -7,7 +7,7 @@ use native.Mathlib.Omega.{arith}
 use native.Mathlib.Nat.{eq-or-lt-of-le}
 use lib.ListN.{length, getD, set}
 use lib.Seq.{getD-set-same, getD-set-other}
-use Rattle.overloads.specs.Columns.{Holds}
+use Rattle.amounts.specs.Columns.{Holds}
 
 pub holds-none : (xs : List ℕ) (f : ℕ → ℕ) → Holds xs 0 f
 holds-none xs f = record { each = λ t h. absurd (omega arith) }

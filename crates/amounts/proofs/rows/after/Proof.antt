@@ -1,17 +1,17 @@
--- `overloads::rows::after` meets its contract.
+-- `amounts::rows::after` meets its contract.
 use Prim.Native.Nat.{_+_, _<_}
 use mathlib.Core.Path.{ap, _∙_, _≡_}
 use Rattle.lists.specs.Lists.{rowAt, at, networkOf, planOf, mostPlan}
 use Rattle.lists.specs.declared.PlanSizes as lengths
 use Rattle.lists.proofs.Positions.{TunnelPlace, tunnel-place, limited, head-in}
-use Rattle.overloads.proofs.Good.{new-fits, new-amount, listed-amount, own-tunnel}
+use Rattle.amounts.proofs.Good.{new-fits, new-amount, listed-amount, own-tunnel}
 use native.Mathlib.Numerals.{add-one}
 use lib.ListN.{length}
 use Rattle.model.specs.Net.{row}
 use native.Mathlib.Omega.{arith}
 use borrow.Author.Needs.{needs}
-use Rattle.overloads.proofs.rows.after.Statement.{statement}
-use Rattle.overloads.proofs.rows.after.Tie as tie
+use Rattle.amounts.proofs.rows.after.Statement.{statement}
+use Rattle.amounts.proofs.rows.after.Tie as tie
 
 place : (c : tie.After-tunnel-at) → TunnelPlace (c .before .before .before .before .before .before .before .args .network .now) (c .before .before .before .before .before .before .before .args .t) (c .tunnel-at .result)
 place c = tunnel-place _ (c .before .before .before .before .before .before .before .pre .0 .network .ranges .sized) _ (c .before .of2 .ensures) _ _ (own-tunnel _ _ _ (c .before .of2 .ensures) (c .before .before .before .before .before .before .before .pre .2)) (c .tunnel-at .ensures)

@@ -1,17 +1,17 @@
--- `overloads::columns::flow_classes` meets its contract.
+-- `amounts::columns::flow_classes` meets its contract.
 use Prim.Native.Nat.{_≤_, _-_}
 use mathlib.Core.Path.{_≡_, refl, ap}
 use lib.ListN.{length, length-set}
 use Rattle.lists.specs.Lists.{networkOf}
 use Rattle.lists.specs.declared.Network as counts
 use Rattle.lists.proofs.Positions.{FlowPlace, flow-place, limited, head-in}
-use Rattle.overloads.specs.Columns.{Holds}
-use Rattle.overloads.proofs.Good.{flow-class}
-use Rattle.overloads.proofs.Laws.{holds-none, holds-more, holds-at}
+use Rattle.amounts.specs.Columns.{Holds}
+use Rattle.amounts.proofs.Good.{flow-class}
+use Rattle.amounts.proofs.Laws.{holds-none, holds-more, holds-at}
 use native.Mathlib.Omega.{arith}
 use borrow.Author.Needs.{needs}
-use Rattle.overloads.proofs.columns.flow_classes.Statement.{statement}
-use Rattle.overloads.proofs.columns.flow_classes.Tie as tie
+use Rattle.amounts.proofs.columns.flow_classes.Statement.{statement}
+use Rattle.amounts.proofs.columns.flow_classes.Tie as tie
 
 abbrev Inv-loop : tie.InvT-loop
 Inv-loop network classes₀ sizes f₀ classes f = record { low : f ≤ sizes .flows; size : length classes ≡ length classes₀; holds : Holds classes f (networkOf network .class) }
