@@ -269,7 +269,7 @@ short l s = omega (arith, s .size, most-network (networkSizes l) (s .counts))
 
 -- ---- what code knows of a position i that it has from the sizes n of a list
 
--- of link k, of flow f, of the same flow up to its next, of tunnel t: `last` is the last of the numbers that are read from there on
+-- of link k, of flow f, of the same flow up to its next, of tunnel t: `last` is the last of the numbers that may be read from there on
 pub record Place (l : List ℕ) (start count : Network → ℕ) (last k i : ℕ) : Type 0 where
   pub here : i ≡ start (networkSizes l)
   pub there : k < count (networkSizes l)
@@ -277,7 +277,7 @@ pub record Place (l : List ℕ) (start count : Network → ℕ) (last k i : ℕ)
   pub few : i + last < mostNumbers
 
 abbrev pub LinkPlace : List ℕ → ℕ → ℕ → Type 0
-LinkPlace l k i = Place l (λ n. linkAt n k) (λ n. n .links) 0 k i
+LinkPlace l k i = Place l (λ n. linkAt n k) (λ n. n .links) (perLink (networkSizes l .edition) - 1) k i
 
 abbrev pub FlowPlace : List ℕ → ℕ → ℕ → Type 0
 FlowPlace l f i = Place l (λ n. flowAt n f) (λ n. n .flows) 1 f i
@@ -298,7 +298,7 @@ module _ (l : List ℕ) (s : Sized l) (n : Network) (same : n ≡ networkSizes l
       record { here = here; there = there; within = within; few = omega (arith, short l s, most-in-all) }
 
   pub link-place : (k i : ℕ) → k < n .links → i ≡ linkAt n k → LinkPlace l k i
-  link-place k i h e = place (λ m. linkAt m k) (λ m. m .links) 0 k i h e (λ g. link-in l (s .size) k 0 g (link-some (networkSizes l .edition)))
+  link-place k i h e = place (λ m. linkAt m k) (λ m. m .links) _ k i h e (λ g. link-in l (s .size) k _ g (omega (arith, link-some (networkSizes l .edition))))
 
   pub flow-place : (f i : ℕ) → f < n .flows → i ≡ flowAt n f → FlowPlace l f i
   flow-place f i h e = place (λ m. flowAt m f) (λ m. m .flows) 1 f i h e (λ g. flow-in l (s .size) f 1 g (flow-some (networkSizes l .edition)))
