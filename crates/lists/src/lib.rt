@@ -42,8 +42,10 @@ impl Network {
 
     pub const SHARE_HIGH: u64 = 500;
 
-    // How many numbers the head has since the unit is among them, of which the last three are the counts, and which of them are the overrun and the unit.
+    // How many numbers the head has since the unit is among them, how many of them, the last, are counts, and which are the overrun and the unit.
     pub const HEAD: usize = 7;
+
+    pub const COUNTS: usize = 3;
 
     pub const OVERRUN: usize = 2;
 
@@ -83,7 +85,7 @@ impl Network {
         let head = Self::head(edition);
         Network {
             edition,
-            links: list[head - 3] as usize,
+            links: list[head - Self::COUNTS] as usize,
             flows: list[head - 2] as usize,
             tunnels: list[head - 1] as usize,
         }
