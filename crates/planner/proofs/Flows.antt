@@ -79,16 +79,19 @@ flows-none N x s e = record {
       ∙ sym (sum-zero (λ t. eqb (N .flow t) f) (across N l x));
 }
 
--- a tunnel more
-pub flows-on : (N : Net) (n : ℕ) (x : ℕ → ℕ) (s s′ : List ℕ) → FlowSums N n x s → FlowAdded (N .flow n) (inSet (N .via n)) (x n) s s′ → FlowSums N (n + 1) x s′
+-- a tunnel more, of the flow f and the set v
+pub flows-on : (N : Net) (n : ℕ) (x : ℕ → ℕ) (s s′ : List ℕ) (f v y : ℕ) → FlowSums N n x s → f ≡ N .flow n → v ≡ N .via n → y ≡ x n → FlowAdded f (inSet v) y s s′
+    → FlowSums N (n + 1) x s′
 unfolding across crosses
-flows-on N n x s s′ F a = record {
-  size = a .size ∙ F .size;
-  each = λ f l hf hl.
-      a .each f l hf hl
-      ∙ ap₂ _+_ (F .each f l hf hl) (cond-and (eqb (N .flow n) f) (inSet (N .via n) l) (x n))
-      ∙ sym (sum-next n (λ t. eqb (N .flow t) f) (across N l x));
-}
+flows-on N n x s s′ f v y F ef ev ey a =
+    let b : FlowAdded (N .flow n) (inSet (N .via n)) (x n) s s′ = rw (← ef, ← ev, ← ey) a in
+    record {
+      size = a .size ∙ F .size;
+      each = λ g l hg hl.
+          b .each g l hg hl
+          ∙ ap₂ _+_ (F .each g l hg hl) (cond-and (eqb (N .flow n) g) (inSet (N .via n) l) (x n))
+          ∙ sym (sum-next n (λ t. eqb (N .flow t) g) (across N l x));
+    }
 
 pub flows-room : (N : Net) → InRange N → (n : ℕ) (x : ℕ → ℕ) (s : List ℕ) → FlowSums N n x s → n ≤ N .tunnels → ((t : ℕ) → t < N .tunnels → x t ≤ mostAmount) → FlowRoom s
 flows-room N r n x s F h most = record {
@@ -179,8 +182,10 @@ module _ (N : Net) (e : byFlow N ≡ true) (r : InRange N) (f : ℕ) (hf : f < m
             ∙ sym (part-flow p l ∙ ap₂ (λ (o n : ℕ). amount o n p) (gone N r (N .old) f l up) (gone N r (N .new) f l up) ∙ nothing p))
       ]
 
-  pub flow-take : (c : ℕ → Bool) (s s′ : List ℕ) → Table N f c s → c f ≡ true → SumsAdded (N .links) f olds news s s′ → Table N (f + 1) c s′
-  flow-take c s s′ T k a = record {
-    size = a .size ∙ T .size;
-    each = λ p l h. omega (arith, a .each p l h, T .each p l h, counted p l h, sum-take f c (onPart N l p) k);
-  }
+  pub flow-take : (c : ℕ → Bool) (s s′ : List ℕ) (n : ℕ) → Table N f c s → c f ≡ true → n ≡ N .links → SumsAdded n f olds news s s′ → Table N (f + 1) c s′
+  flow-take c s s′ n T k same a =
+      let b : SumsAdded (N .links) f olds news s s′ = rw (← same) a in
+      record {
+        size = a .size ∙ T .size;
+        each = λ p l h. omega (arith, b .each p l h, T .each p l h, counted p l h, sum-take f c (onPart N l p) k);
+      }

@@ -1,26 +1,25 @@
--- `planner::sums::split` meets its contract: each table has those of the tunnels passed that it is for.
+-- `planner::sums::split_tunnels` meets its contract: each table has those of the tunnels passed that it is for.
 use Prim.Native.Nat.{ℕ, _+_, _-_, _≤_, _<_}
 use mathlib.Core.Path.{_≡_, ap, subst, _∙_}
 use mathlib.Core.Logic.{⊎-elim}
-use mathlib.Core.Bool.{not}
+use mathlib.Core.Bool.{Bool, not}
 use mathlib.Core.List.{List}
 use lib.ListN.{getD}
-use Rattle.model.specs.Limits.{mostAmount}
 use Rattle.model.specs.Net.{Net}
 use Rattle.model.specs.Scan.{Bound}
 use Rattle.model.specs.Sets.{inSet}
-use Rattle.model.specs.Rule.{counts}
-use Rattle.lists.specs.Lists.{at, networkSizes, networkOf}
-use Rattle.lists.specs.Good.{NetworkRanges}
+use Rattle.model.specs.Rule.{movers, counts}
+use Rattle.model.proofs.Movers.{movers-tunnels}
+use Rattle.lists.specs.Lists.{at, networkOf}
 use Rattle.lists.specs.declared.Network as sizes
 use Rattle.lists.proofs.Positions.{TunnelPlace, tunnel-place, FlowPlace, flow-place, limited, head-in}
-use Rattle.planner.specs.Tables.{Added, Table, unprotected}
+use Rattle.planner.specs.Tables.{mostSums, Room, Added, Table, unprotected}
 use Rattle.planner.proofs.Tables.{table-zero, table-take, table-skip, table-room}
-use Rattle.planner.proofs.Good.{good-range, is-protected, not-protected}
+use Rattle.planner.proofs.Good.{good-range, is-protected, not-protected, TunnelAt, tunnel-at}
 use native.Mathlib.Omega.{arith}
 use borrow.Author.Needs.{needs}
-use Rattle.planner.proofs.sums.split.Statement.{statement}
-use Rattle.planner.proofs.sums.split.Tie as tie
+use Rattle.planner.proofs.sums.split_tunnels.Statement.{statement}
+use Rattle.planner.proofs.sums.split_tunnels.Tie as tie
 use Rattle.lists.proofs.Network.flow_at.Reads as flow-at-reads
 use Rattle.lists.proofs.Network.of.Reads as of-reads
 use Rattle.lists.proofs.Network.tunnel_at.Reads as tunnel-at-reads
@@ -50,66 +49,41 @@ module _ (c : tie.After-tunnel-at Inv-loop μ-loop) where
   abbrev t : ℕ
   t = c .before .before .before .loop .t
 
-  abbrev ranges : NetworkRanges list
-  ranges = begin .pre .0 .ranges
-
   place : TunnelPlace list t (c .tunnel-at .result)
-  place = tunnel-place list (ranges .sized) _ (c .before .before .before .before .of .ensures) t _ (c .before .if1 .taken) (c .tunnel-at .ensures)
+  place = tunnel-place list (begin .pre .0 .0 .ranges .sized) _ (c .before .before .before .before .of .ensures) t _ (c .before .if1 .taken) (c .tunnel-at .ensures)
 
-  there : t < N .tunnels
-  unfolding networkOf
-  there = place .there
-
-  flow-at : getD list (c .tunnel-at .result) 0 ≡ N .flow t
-  unfolding networkOf
-  flow-at = ap (at list) (place .here)
-
-  via-at : getD list (c .tunnel-at .result + 1) 0 ≡ N .via t
-  unfolding networkOf
-  via-at = ap (λ (i : ℕ). at list (i + 1)) (place .here)
-
-  old-at : getD list (c .tunnel-at .result + 2) 0 ≡ N .old t
-  unfolding networkOf
-  old-at = ap (λ (i : ℕ). at list (i + 2)) (place .here)
-
-  new-at : getD list (c .tunnel-at .result + 3) 0 ≡ N .new t
-  unfolding networkOf
-  new-at = ap (λ (i : ℕ). at list (i + 3)) (place .here)
-
-  old-most : getD list (c .tunnel-at .result + 2) 0 ≤ mostAmount
-  unfolding networkOf
-  old-most = omega (arith, old-at, ranges .tunnels .old t (place .there))
-
-  new-most : getD list (c .tunnel-at .result + 3) 0 ≤ mostAmount
-  unfolding networkOf
-  new-most = omega (arith, new-at, ranges .tunnels .new t (place .there))
+  numbers : TunnelAt list t (c .tunnel-at .result)
+  numbers = tunnel-at list (begin .pre .0 .0 .ranges) t _ place
 
   -- the tunnel's flow is one of the network's
   flow-low : getD list (c .tunnel-at .result) 0 < c .before .before .before .before .of .result .flows
-  unfolding networkOf
-  flow-low = omega (arith, flow-at, ranges .tunnels .flow t (place .there), ap (λ (n : sizes.Network). n .flows) (c .before .before .before .before .of .ensures))
+  flow-low = omega (arith, numbers .flow-low, ap (λ (n : sizes.Network). n .flows) (c .before .before .before .before .of .ensures))
+
+  -- there is room for it
+  room : (p : ℕ → Bool) (s : List ℕ) → Table N t p s → Room mostSums s
+  room p s T = table-room N (good-range list (begin .pre .0 .0)) t p s T (omega (arith, numbers .there, movers-tunnels N (begin .pre .0 .1)))
 
   -- what a table becomes by the amounts that are added
   added : {s s′ : List ℕ} → Added (inSet (getD list (c .tunnel-at .result + 1) 0)) (getD list (c .tunnel-at .result + 2) 0) (getD list (c .tunnel-at .result + 3) 0) s s′ → Added (inSet (N .via t)) (N .old t) (N .new t) s s′
-  added a = rw (← via-at, ← old-at, ← new-at) a
+  added a = rw (← numbers .via, ← numbers .old, ← numbers .new) a
 
 class-place : (c : tie.After-flow-at Inv-loop μ-loop) → FlowPlace (c .before .before .before .before .before .before .before .before .before .before .before .before .before .args .network .now) (getD (c .before .before .before .before .before .before .before .before .before .before .before .before .before .args .network .now) (c .before .before .before .before .before .tunnel-at .result) 0) (c .flow-at .result)
 class-place c =
     let p = c .before .before .before .before .before in
-    flow-place _ (ranges p .sized) _ (c .before .before .before .before .before .before .before .before .before .of .ensures) _ _ (flow-low p) (c .flow-at .ensures)
+    flow-place _ (begin p .pre .0 .0 .ranges .sized) _ (c .before .before .before .before .before .before .before .before .before .of .ensures) _ _ (flow-low p) (c .flow-at .ensures)
 
 class-at : (c : tie.After-flow-at Inv-loop μ-loop) → let p = c .before .before .before .before .before in getD (list p) (c .flow-at .result) 0 ≡ N p .class (N p .flow (t p))
 unfolding networkOf
-class-at c = ap (at (list (c .before .before .before .before .before))) (class-place c .here) ∙ ap (λ (f : ℕ). networkOf (list (c .before .before .before .before .before)) .class f) (flow-at (c .before .before .before .before .before))
+class-at c = ap (at (list (c .before .before .before .before .before))) (class-place c .here) ∙ ap (λ (f : ℕ). networkOf (list (c .before .before .before .before .before)) .class f) (numbers (c .before .before .before .before .before) .flow)
 
 of-requires : tie.Need-of-requires Inv-loop μ-loop
-of-requires c κs = head-in _ (c .before .before .before .pre .0 .ranges .sized .size)
+of-requires c κs = head-in _ (c .before .before .before .pre .0 .0 .ranges .sized .size)
 
 loop-holds : tie.Need-loop-holds Inv-loop μ-loop
 loop-holds c = record { low = omega arith; protected = table-zero _ _ _ (c .before .before .before .before .pre .1 .0); others = table-zero _ _ _ (c .before .before .before .before .pre .1 .1) }
 
 tunnel-at-requires : tie.Need-tunnel-at-requires Inv-loop μ-loop
-tunnel-at-requires c κs = (limited _ (c .before .before .before .before .before .before .before .pre .0 .ranges .sized) _ (c .before .before .before .of .ensures), omega (arith, c .if1 .taken))
+tunnel-at-requires c κs = (limited _ (c .before .before .before .before .before .before .before .pre .0 .0 .ranges .sized) _ (c .before .before .before .of .ensures), omega (arith, c .if1 .taken))
 
 mul-flow : tie.Need-mul-flow Inv-loop μ-loop
 mul-flow c = record { fits = omega (arith, place (c) .few) }
@@ -145,7 +119,7 @@ shared-slice-read-new : tie.Need-shared-slice-read-new Inv-loop μ-loop
 shared-slice-read-new c = omega (arith, place (c .before .before .before .before) .within)
 
 flow-at-requires : tie.Need-flow-at-requires Inv-loop μ-loop
-flow-at-requires c κs = (limited _ (c .before .before .before .before .before .before .before .before .before .before .before .before .pre .0 .ranges .sized) _ (c .before .before .before .before .before .before .before .before .of .ensures), omega (arith, flow-low (c .before .before .before .before)))
+flow-at-requires c κs = (limited _ (c .before .before .before .before .before .before .before .before .before .before .before .before .pre .0 .0 .ranges .sized) _ (c .before .before .before .before .before .before .before .before .of .ensures), omega (arith, flow-low (c .before .before .before .before)))
 
 mul-class : tie.Need-mul-class Inv-loop μ-loop
 mul-class c = record { fits = omega (arith, class-place (c) .few) }
@@ -154,16 +128,14 @@ shared-slice-read-class : tie.Need-shared-slice-read-class Inv-loop μ-loop
 shared-slice-read-class c = omega (arith, class-place (c .before) .within)
 
 add-tunnel-requires : tie.Need-add-tunnel-requires Inv-loop μ-loop
-unfolding networkOf
 add-tunnel-requires c κs =
     let p = c .before .before .before .before .before .before .before .before in
-    (table-room _ _ _ _ (c .before .before .before .before .before .before .before .before .before .before .before .loop .inv .protected) (omega (arith, there p)) (good-range _ (c .before .before .before .before .before .before .before .before .before .before .before .before .before .before .before .before .pre .0)), old-most p, new-most p)
+    (room p _ _ (c .before .before .before .before .before .before .before .before .before .before .before .loop .inv .protected), numbers p .old-most, numbers p .new-most)
 
 add-tunnel-requires-2 : tie.Need-add-tunnel-requires-2 Inv-loop μ-loop
-unfolding networkOf
 add-tunnel-requires-2 c κs =
     let p = c .before .before .before .before .before .before .before .before in
-    (table-room _ _ _ _ (c .before .before .before .before .before .before .before .before .before .before .before .loop .inv .others) (omega (arith, there p)) (good-range _ (c .before .before .before .before .before .before .before .before .before .before .before .before .before .before .before .before .pre .0)), old-most p, new-most p)
+    (room p _ _ (c .before .before .before .before .before .before .before .before .before .before .before .loop .inv .others), numbers p .old-most, numbers p .new-most)
 
 add-t : tie.Need-add-t Inv-loop μ-loop
 add-t c = search needs
@@ -175,13 +147,14 @@ loop-again : tie.Need-loop-again Inv-loop μ-loop
 loop-again c = let p = c .before .before .before .before .before .before .before in
     let e = class-at (c .before .before) in
     let n = N p in
+    let u = begin p .pre .0 .1 in
     let k = t p in
     let tables : Table n (k + 1) (counts n Bound.protected) (c .if2 .protected) × Table n (k + 1) (unprotected n) (c .if2 .others) =
     ⊎-elim
-    (λ w. let q = is-protected n k (omega (arith, e, w .0 .taken)) in
-    (rw (w .5) (table-take n k _ _ _ (c .before .before .before .before .before .before .before .before .before .before .loop .inv .protected) q (added p (w .2 .ensures))), rw (w .6) (table-skip n k _ _ (c .before .before .before .before .before .before .before .before .before .before .loop .inv .others) (ap not q))))
-    (λ w. let q = not-protected n k (omega (arith, e, w .0 .left)) in
-    (rw (w .5) (table-skip n k _ _ (c .before .before .before .before .before .before .before .before .before .before .loop .inv .protected) q), rw (w .6) (table-take n k _ _ _ (c .before .before .before .before .before .before .before .before .before .before .loop .inv .others) (ap not q) (added p (w .2 .ensures)))))
+    (λ w. let q = is-protected n u k (omega (arith, e, w .0 .taken)) in
+    (rw (w .5) (table-take n u k _ _ _ (c .before .before .before .before .before .before .before .before .before .before .loop .inv .protected) q (added p (w .2 .ensures))), rw (w .6) (table-skip n k _ _ (c .before .before .before .before .before .before .before .before .before .before .loop .inv .others) (ap not q))))
+    (λ w. let q = not-protected n u k (omega (arith, e, w .0 .left)) in
+    (rw (w .5) (table-skip n k _ _ (c .before .before .before .before .before .before .before .before .before .before .loop .inv .protected) q), rw (w .6) (table-take n u k _ _ _ (c .before .before .before .before .before .before .before .before .before .before .loop .inv .others) (ap not q) (added p (w .2 .ensures)))))
     (c .if2 .came) in
     record { low = omega (arith, c .before .before .before .before .before .before .before .before .if1 .taken); protected = tables .0; others = tables .1 }
 
@@ -194,14 +167,15 @@ same-length-2 c = search needs
 returns : tie.Need-returns Inv-loop μ-loop
 unfolding networkOf
 returns c =
-    let l = c .before .before .before .before .before .before .before .args .network .now in
-    let e : c .before .before .loop .t ≡ networkSizes l .tunnels = omega (arith, c .before .before .loop .inv .low, ap (λ (n : sizes.Network). n .tunnels) (c .before .before .before .of .ensures)) in (
-      subst (λ (n : ℕ). Table (networkOf l) n (counts (networkOf l) Bound.protected) (c .before .before .loop .protected)) e (c .before .before .loop .inv .protected),
-      subst (λ (n : ℕ). Table (networkOf l) n (unprotected (networkOf l)) (c .before .before .loop .others)) e (c .before .before .loop .inv .others),
+    let a = c .before .before .before .before .before .before .before in
+    let N = networkOf (a .args .network .now) in
+    let e : c .before .before .loop .t ≡ movers N = omega (arith, c .before .before .loop .inv .low, ap (λ (n : sizes.Network). n .tunnels) (c .before .before .before .of .ensures), movers-tunnels N (a .pre .0 .1)) in (
+      subst (λ (n : ℕ). Table N n (counts N Bound.protected) (c .before .before .loop .protected)) e (c .before .before .loop .inv .protected),
+      subst (λ (n : ℕ). Table N n (unprotected N) (c .before .before .loop .others)) e (c .before .before .loop .inv .others),
     )
 
-pub split-spec : {M : Type 1} → statement M
-split-spec =
+pub split-tunnels-spec : {M : Type 1} → statement M
+split-tunnels-spec =
     tie.close
     (tie.spec
     Inv-loop
