@@ -1,17 +1,16 @@
 -- The laws of the sums of the flows, and of the tables that are gathered from them.
-use Prim.Native.Nat.{ℕ, suc, _+_, _*_, _≤_, _<_}
+use Prim.Native.Nat.{ℕ, _+_, _*_, _≤_, _<_}
 use mathlib.Core.Path.{_≡_, refl, sym, ap, ap₂, _∙_}
 use mathlib.Core.Logic.{⊎-elim}
 use mathlib.Core.Bool.{Bool, true, false, cond, _&&_}
 use mathlib.Core.List.{List}
 use native.Mathlib.Omega.{arith}
 use native.Mathlib.Decide.{decLt}
-use native.Mathlib.Nat.{add-zero, le-refl}
+use native.Mathlib.Nat.{add-zero}
 use lib.Dec.{eqb, ltb}
 use lib.ListN.{length, set, replicate, length-set, length-replicate, getD-replicate}
 use borrow.Author.Tests.{eq-eqb, ne-eqb, eqb-true, eqb-false, lt-ltb, le-ltb}
 use Rattle.model.specs.Limits.{mostLinks, mostFlows, mostTunnels, mostAmount}
-use Rattle.model.specs.Sum.{sumOver}
 use Rattle.model.specs.Sets.{inSet}
 use Rattle.model.specs.Net.{Net}
 use Rattle.model.specs.Rule.{crosses, across, flowSum, byFlow}

@@ -27,7 +27,7 @@ held-requires : tie.Need-held-requires
 held-requires c κs = search needs
 
 sub-result : tie.Need-sub-result
-sub-result c =     let a = (c .before .before .before .before) in
+sub-result c = let a = (c .before .before .before .before) in
     let p = place (c .before .before) in
     omega (arith, c .held .ensures, ap (at (a .args .network .now)) (p .here), held-most (a .args .network .now) (a .args .link) (a .pre .0) (p .there))
 

@@ -89,7 +89,7 @@ loop-less c = search needs
 
 loop-again : tie.Need-loop-again Inv-loop μ-loop
 unfolding networkOf
-loop-again c = 
+loop-again c =
     let both = kept-both (here (c .before .before .before .before)) (omega (arith, c .before .before .before .end-load .ensures, c .before .before .if2 .left)) (omega (arith, ap (λ (w : ℕ). 1000 * w) (c .before .end-load2 .ensures), c .if3 .left)) in
     record {
       low = omega (arith, c .before .before .before .before .before .if1 .taken);
@@ -98,7 +98,7 @@ loop-again c =
 
 returns-3 : tie.Need-returns-3 Inv-loop μ-loop
 unfolding networkOf
-returns-3 c = 
+returns-3 c =
     let a = (c .before .before .before .before .before .before .before .before) in
     sym (even-accepted (networkOf (a .args .network .now)) (a .pre .0 .good .sums) (a .args .q) (a .pre .1 .0) .1 (λ k h. c .before .before .loop .inv .kept k (omega (arith, c .if1 .left, ap (λ (n : counts.Network). n .links) (c .before .before .before .of .ensures)))))
 

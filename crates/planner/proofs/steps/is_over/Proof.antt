@@ -1,5 +1,5 @@
 -- `planner::steps::is_over` meets its contract: the two comparisons are the two bounds of the rule.
-use Prim.Native.Nat.{ℕ, _+_, _*_, _<_}
+use Prim.Native.Nat.{ℕ, _+_, _*_}
 use mathlib.Core.Path.{ap, _∙_}
 use lib.Dec.{ltb}
 use Rattle.model.specs.Limits.{mostSteps}
@@ -9,7 +9,6 @@ use Rattle.lists.proofs.Positions.{head-in, head-least}
 use Rattle.planner.proofs.Tables.{step-room}
 use Rattle.planner.proofs.Searching.{AtLink, link-low, protected-room, all-room, overrun-most, cap-room, overrun-room, is-over-first, is-over-second}
 use native.Mathlib.Omega.{arith}
-use borrow.Author.Needs.{needs}
 use Rattle.planner.proofs.steps.is_over.Statement.{statement}
 use Rattle.planner.proofs.steps.is_over.Tie as tie
 use Rattle.lists.proofs.Network.of.Reads as of-reads
@@ -59,7 +58,7 @@ mul-result-2 c = let h = here (c .before .before .before .before) in record { fi
 
 returns-2 : tie.Need-returns-2
 unfolding networkOf
-returns-2 c = 
+returns-2 c =
     ap (λ (w : ℕ). ltb ((1000 + at (c .before .before .before .before .before .before .before .before .before .args .network .now) 2) * (mostSteps * c .before .before .before .before .capacity .result)) (1000 * w)) (c .step-load2 .ensures)
     ∙ is-over-second (here (c .before .before .before .before)) _ (c .before .before .before .before .before .before .before .before .before .pre .1 .0) (omega (arith, c .before .before .before .step-load .ensures, c .before .before .if1 .left))
 

@@ -37,7 +37,7 @@ add-add : tie.Need-add-add Inv-loop μ-loop
 add-add c = record { fits = omega (arith, low (c .before), c .before .before .before .before .pre .1) }
 
 add-requires : tie.Need-add-requires Inv-loop μ-loop
-add-requires c κs =     let s = (c .before .before .before .before) in
+add-requires c κs = let s = (c .before .before .before .before) in
     let d = c .before .before .loop .inv .done in
     let l = low (c .before) in
     (omega (arith, l, d .size, s .pre), omega (arith, across-most _ _ _ _ _ d (s .pre .0) (s .args .flow) _ (s .pre .1) l, s .pre .2))
@@ -46,12 +46,12 @@ sub-set : tie.Need-sub-set Inv-loop μ-loop
 sub-set c = search needs
 
 loop-less : tie.Need-loop-less Inv-loop μ-loop
-loop-less c =     let s = (c .before .before .before .before .before .before .before) in
+loop-less c = let s = (c .before .before .before .before .before .before .before) in
     let i = c .before .before .before .before .before .loop in
     next-less (s .args .via) (i .inv .link) (i .set) (s .fits .via .fits) (i .inv .left-from) (c .before .before .before .before .loop-test .taken)
 
 loop-again : tie.Need-loop-again Inv-loop μ-loop
-loop-again c =     let s = (c .before .before .before .before .before .before .before) in
+loop-again c = let s = (c .before .before .before .before .before .before .before) in
     let i = c .before .before .before .before .before .loop in
     passing-on _ (s .args .via) (i .set) _ _ (s .fits .via .fits) (c .before .before .before .before .loop-test .taken) (i .inv) (λ a e h d. across-on (s .args .flow) _ _ a e _ _ _ (s .pre .1) (low (c .before .before .before .before)) (s .pre .0 .size) d (c .before .before .add .ensures) h)
 

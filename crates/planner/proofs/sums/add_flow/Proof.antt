@@ -45,7 +45,7 @@ shared-slice-read-new : tie.Need-shared-slice-read-new Inv-loop μ-loop
 shared-slice-read-new c = omega (arith, low (c .before .before), c .before .before .before .before .before .before .before .pre .3, c .before .before .before .before .before .before .before .pre .2 .size)
 
 add-link-requires : tie.Need-add-link-requires Inv-loop μ-loop
-add-link-requires c κs =     let s = (c .before .before .before .before .before .before .before .before) in
+add-link-requires c κs = let s = (c .before .before .before .before .before .before .before .before) in
     let i = c .before .before .before .before .loop in
     let l = low (c .before .before .before) in
     (sums-room _ _ _ _ _ _ (s .pre .3) (i .inv .added) (s .pre .1) (s .pre .2) (s .pre .0), l, s .pre .1 .most (s .args .flow) (i .link) (s .pre .3) l, s .pre .2 .most (s .args .flow) (i .link) (s .pre .3) l)
@@ -63,7 +63,7 @@ same-length : tie.Need-same-length Inv-loop μ-loop
 same-length c = search needs
 
 returns : tie.Need-returns Inv-loop μ-loop
-returns c =     let s = (c .before .before .before .before .before) in
+returns c = let s = (c .before .before .before .before .before) in
     let e : c .before .loop .link ≡ s .args .links = omega (arith, c .before .loop .inv .low, c .loop-test .left) in
     subst (λ (n : ℕ). SumsAdded n (s .args .flow) (s .args .olds .now) (s .args .news .now) (s .args .table .now) (c .before .loop .table)) e (c .before .loop .inv .added)
 
