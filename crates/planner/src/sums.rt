@@ -4,26 +4,28 @@
 ghost use mathlib.Core.Path.{_≡_};
 ghost use mathlib.Core.Bool.{true, false};
 ghost use Prim.Native.Nat.{_+_, _*_, _≤_, _<_, _^_, max};
-ghost use lib.Dec.{eqb};
+ghost use lib.Dec.{eqb, leb};
 ghost use lib.ListN.{length, getD, set, replicate};
 ghost use Rattle.model.specs.Limits.{mostAmount, mostLinks, mostFlows, mostTunnels};
 ghost use Rattle.model.specs.Scan.{Bound};
 ghost use Rattle.model.specs.Rule.{byFlow, movers};
 ghost use Rattle.model.specs.Sets.{inSet};
-ghost use Rattle.lists.specs.Lists.{networkOf};
-ghost use Rattle.lists.specs.Good.{GoodNetwork};
+ghost use Rattle.lists.specs.Lists.{networkSizes, networkOf};
+ghost use Rattle.lists.specs.Good.{Sized, GoodNetwork};
 ghost use Rattle.planner.specs.Tables.{tableSize, mostSums, Room, Added, Table, unprotected, Loads, Ready, Joined, flowsSize, FlowRoom, FlowAdded, FlowSums, SumsAdded};
 use lists::Network;
 
+const LINKS: usize = Network::LINKS as usize;
+
 // Where a table's second part begins, and its third, and where it ends.
-pub const NEW_AT: usize = Network::LINKS as usize;
+pub const NEW_AT: usize = LINKS;
 
-pub const PEAK_AT: usize = 2 * NEW_AT;
+pub const PEAK_AT: usize = 2 * LINKS;
 
-pub const TABLE: usize = 3 * NEW_AT;
+pub const TABLE: usize = 3 * LINKS;
 
-// A number for each link, for each flow that a network can have.
-const FLOWS: usize = Network::FLOWS as usize * NEW_AT;
+// How many sums there are of the flows: one for each link, for each flow that a network can have.
+const FLOW_SUMS: usize = Network::FLOWS as usize * LINKS;
 
 pub fn larger(a: u64, b: u64) -> u64
     ensures { λ r. ⌜ r ≡ max a b ⌝ }
@@ -61,6 +63,14 @@ fn add_tunnel(table: &mut [u64], via: u64, old: u64, new: u64)
     }
 }
 
+// Is a flow of one of the protected classes?
+fn is_protected(network: &[u64], sizes: Network, flow: usize) -> bool
+    requires { ⌜ Sized (now network) × (sizes ≡ networkSizes (now network)) × (flow < sizes .flows) ⌝ }
+    ensures { λ r. ⌜ r ≡ leb (networkOf (now (network .entry)) .class flow) 1 ⌝ }
+{
+    network[sizes.flow_at(flow)] <= 1
+}
+
 // One pass over the tunnels: the protected ones are added to the first table, the others to the second.
 fn split_tunnels(network: &[u64], protected: &mut [u64], others: &mut [u64])
     requires { ⌜ GoodNetwork (now network) × (byFlow (networkOf (now network)) ≡ false) ⌝ }
@@ -76,8 +86,7 @@ fn split_tunnels(network: &[u64], protected: &mut [u64], others: &mut [u64])
         let via = network[at + Network::VIA];
         let old = network[at + Network::OLD];
         let new = network[at + Network::NEW];
-        let class = network[sizes.flow_at(flow)];
-        if class <= 1 {
+        if is_protected(network, sizes, flow) {
             add_tunnel(protected, via, old, new);
         } else {
             add_tunnel(others, via, old, new);
@@ -91,7 +100,7 @@ fn add_across(sums: &mut [u64], flow: usize, via: u64, amount: u64)
     requires { ⌜ FlowRoom (now sums) × (flow < mostFlows) × (amount ≤ mostAmount) ⌝ }
     ensures { λ _. ⌜ FlowAdded flow (inSet via) amount (now (sums .entry)) (now (sums .exit)) ⌝ }
 {
-    let from = NEW_AT * flow;
+    let from = LINKS * flow;
     let mut set = via;
     while set != 0 {
         let link = u64::trailing_zeros(set) as usize;
@@ -108,14 +117,14 @@ fn sum_flows(network: &[u64], olds: &mut [u64], news: &mut [u64])
     ensures { λ _. ⌜ FlowSums (networkOf (now (network .entry))) (networkOf (now (network .entry)) .tunnels) (networkOf (now (network .entry)) .new) (now (news .exit)) ⌝ }
 {
     let sizes = Network::of(network);
-    let mut t: usize = 0;
-    while t < sizes.tunnels {
-        let at = sizes.tunnel_at(t);
+    let mut tunnel: usize = 0;
+    while tunnel < sizes.tunnels {
+        let at = sizes.tunnel_at(tunnel);
         let flow = network[at] as usize;
         let via = network[at + Network::VIA];
         add_across(olds, flow, via, network[at + Network::OLD]);
         add_across(news, flow, via, network[at + Network::NEW]);
-        t += 1;
+        tunnel += 1;
     }
 }
 
@@ -124,7 +133,7 @@ fn add_flow(table: &mut [u64], olds: &[u64], news: &[u64], flow: usize, links: u
     requires { ⌜ Room mostSums (now table) × FlowRoom (now olds) × FlowRoom (now news) × (flow < mostFlows) × (links ≤ mostLinks) ⌝ }
     ensures { λ _. ⌜ SumsAdded links flow (now (olds .entry)) (now (news .entry)) (now (table .entry)) (now (table .exit)) ⌝ }
 {
-    let from = NEW_AT * flow;
+    let from = LINKS * flow;
     let mut link: usize = 0;
     while link < links {
         let old = olds[from + link];
@@ -152,8 +161,7 @@ fn split_flows(
     let sizes = Network::of(network);
     let mut flow: usize = 0;
     while flow < sizes.flows {
-        let class = network[sizes.flow_at(flow)];
-        if class <= 1 {
+        if is_protected(network, sizes, flow) {
             add_flow(protected, olds, news, flow, sizes.links);
         } else {
             add_flow(others, olds, news, flow, sizes.links);
@@ -169,8 +177,8 @@ fn gather_flows(network: &[u64], protected: &mut [u64], others: &mut [u64])
     ensures { λ _. ⌜ Loads (networkOf (now (network .entry))) Bound.protected (now (protected .exit)) ⌝ }
     ensures { λ _. ⌜ Table (networkOf (now (network .entry))) (movers (networkOf (now (network .entry)))) (unprotected (networkOf (now (network .entry)))) (now (others .exit)) ⌝ }
 {
-    let mut olds = [0u64; FLOWS];
-    let mut news = [0u64; FLOWS];
+    let mut olds = [0u64; FLOW_SUMS];
+    let mut news = [0u64; FLOW_SUMS];
     sum_flows(network, &mut olds, &mut news);
     split_flows(network, &olds, &news, protected, others);
 }

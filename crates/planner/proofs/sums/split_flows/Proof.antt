@@ -1,30 +1,30 @@
 -- `planner::sums::split_flows` meets its contract: each table has those of the flows passed that it is for.
 use Prim.Native.Nat.{ℕ, _+_, _-_, _≤_, _<_}
-use mathlib.Core.Path.{_≡_, ap, subst}
+use mathlib.Core.Path.{_≡_, sym, ap, subst, _∙_}
 use mathlib.Core.Logic.{⊎-elim}
 use mathlib.Core.Bool.{Bool, not}
 use mathlib.Core.List.{List}
 use native.Mathlib.Nat.{le-refl}
-use lib.ListN.{getD}
 use Rattle.model.specs.Limits.{mostLinks, mostFlows}
 use Rattle.model.specs.Net.{Net}
 use Rattle.model.specs.Scan.{Bound}
 use Rattle.model.specs.Rule.{movers, counts}
 use Rattle.model.proofs.Movers.{movers-flows}
-use Rattle.lists.specs.Lists.{at, networkOf}
+use Rattle.model.proofs.Gathered.{counts-by-flow}
+use Rattle.lists.specs.Lists.{networkOf}
 use Rattle.lists.specs.declared.Network as sizes
-use Rattle.lists.proofs.Positions.{FlowPlace, flow-place, limited, head-in}
+use Rattle.lists.proofs.Positions.{head-in}
 use Rattle.planner.specs.Tables.{mostSums, Room, FlowRoom, Table, unprotected}
 use Rattle.planner.proofs.Tables.{table-zero, table-skip, table-room}
 use Rattle.planner.proofs.Flows.{flows-room, flow-take}
-use Rattle.planner.proofs.Good.{good-range, flow-protected, flow-not-protected}
+use Rattle.planner.proofs.Good.{good-range}
 use native.Mathlib.Omega.{arith}
 use borrow.Author.Needs.{needs}
 use Rattle.planner.proofs.sums.split_flows.Statement.{statement}
 use Rattle.planner.proofs.sums.split_flows.Tie as tie
-use Rattle.lists.proofs.Network.flow_at.Reads as flow-at-reads
 use Rattle.lists.proofs.Network.of.Reads as of-reads
 use Rattle.planner.proofs.sums.add_flow.Reads as add-flow-reads
+use Rattle.planner.proofs.sums.is_protected.Reads as is-protected-reads
 
 abbrev Inv-loop : tie.InvT-loop
 Inv-loop network olds news protected₀ others₀ sizes flow₀ protected others flow = record {
@@ -37,7 +37,7 @@ abbrev μ-loop : tie.MeasureT-loop
 μ-loop network olds news protected₀ others₀ sizes flow₀ protected others flow = sizes .flows - flow
 
 -- in a turn: the flow
-module _ (c : tie.After-flow-at Inv-loop μ-loop) where
+module _ (c : tie.After-is-protected Inv-loop μ-loop) where
   abbrev begin : tie.Start Inv-loop μ-loop
   begin = c .before .before .before .before .before .before .before .before .before .before
 
@@ -50,15 +50,12 @@ module _ (c : tie.After-flow-at Inv-loop μ-loop) where
   abbrev f : ℕ
   f = c .before .before .before .loop .flow
 
-  place : FlowPlace list f (c .flow-at .result)
-  place = flow-place list (begin .pre .0 .0 .ranges .sized) _ (c .before .before .before .before .of .ensures) f _ (c .before .if1 .taken) (c .flow-at .ensures)
-
-  class-at : getD list (c .flow-at .result) 0 ≡ N .class f
+  there : f < N .flows
   unfolding networkOf
-  class-at = ap (at list) (place .here)
+  there = omega (arith, c .before .if1 .taken, ap (λ (n : sizes.Network). n .flows) (c .before .before .before .before .of .ensures))
 
   low : f < mostFlows
-  low = omega (arith, place .there, begin .pre .0 .0 .ranges .sized .counts .flows)
+  low = omega (arith, there, good-range list (begin .pre .0 .0) .flows)
 
   links : c .before .before .before .before .of .result .links ≡ N .links
   unfolding networkOf
@@ -69,12 +66,16 @@ module _ (c : tie.After-flow-at Inv-loop μ-loop) where
   unfolding networkOf
   rooms p s T =
       let r = good-range list (begin .pre .0 .0) in (
-        table-room N r f p s T (omega (arith, place .there, movers-flows N (begin .pre .0 .1))),
+        table-room N r f p s T (omega (arith, there, movers-flows N (begin .pre .0 .1))),
         flows-room N r _ _ _ (begin .pre .1 .0) (le-refl _) (r .old),
         flows-room N r _ _ _ (begin .pre .1 .1 .0) (le-refl _) (r .new),
         low,
         omega (arith, links, begin .pre .0 .0 .ranges .sized .counts .links),
       )
+
+  -- whether it is protected is told by its class
+  class-told : counts N Bound.protected f ≡ c .is-protected .result
+  class-told = counts-by-flow N (begin .pre .0 .1) f ∙ sym (c .is-protected .ensures)
 
 of-requires : tie.Need-of-requires Inv-loop μ-loop
 of-requires c κs = head-in _ (c .before .before .before .before .before .pre .0 .0 .ranges .sized .size)
@@ -82,20 +83,14 @@ of-requires c κs = head-in _ (c .before .before .before .before .before .pre .0
 loop-holds : tie.Need-loop-holds Inv-loop μ-loop
 loop-holds c = record { low = omega arith; protected = table-zero _ _ _ (c .before .before .before .before .before .before .pre .1 .1 .1 .0); others = table-zero _ _ _ (c .before .before .before .before .before .before .pre .1 .1 .1 .1) }
 
-flow-at-requires : tie.Need-flow-at-requires Inv-loop μ-loop
-flow-at-requires c κs = (limited _ (c .before .before .before .before .before .before .before .before .before .pre .0 .0 .ranges .sized) _ (c .before .before .before .of .ensures), omega (arith, c .if1 .taken))
-
-mul-class : tie.Need-mul-class Inv-loop μ-loop
-mul-class c = record { fits = omega (arith, place (c) .few) }
-
-shared-slice-read-class : tie.Need-shared-slice-read-class Inv-loop μ-loop
-shared-slice-read-class c = omega (arith, place (c .before) .within)
+is-protected-requires : tie.Need-is-protected-requires Inv-loop μ-loop
+is-protected-requires c κs = (c .before .before .before .before .before .before .before .before .before .pre .0 .0 .ranges .sized, c .before .before .before .of .ensures, c .if1 .taken)
 
 add-flow-requires : tie.Need-add-flow-requires Inv-loop μ-loop
-add-flow-requires c κs = rooms (c .before .before .before) _ _ (c .before .before .before .before .before .before .loop .inv .protected)
+add-flow-requires c κs = rooms (c .before .before) _ _ (c .before .before .before .before .before .loop .inv .protected)
 
 add-flow-requires-2 : tie.Need-add-flow-requires-2 Inv-loop μ-loop
-add-flow-requires-2 c κs = rooms (c .before .before .before) _ _ (c .before .before .before .before .before .before .loop .inv .others)
+add-flow-requires-2 c κs = rooms (c .before .before) _ _ (c .before .before .before .before .before .loop .inv .others)
 
 add-flow : tie.Need-add-flow Inv-loop μ-loop
 add-flow c = search needs
@@ -104,20 +99,19 @@ loop-less : tie.Need-loop-less Inv-loop μ-loop
 loop-less c = search needs
 
 loop-again : tie.Need-loop-again Inv-loop μ-loop
-loop-again c = let p = (c .before .before) in
-    let e = class-at p in
+loop-again c = let p = (c .before) in
+    let e = class-told p in
     let n = N p in
-    let u = begin p .pre .0 .1 in
     let k = f p in
-    let take = flow-take n u (good-range (list p) (begin p .pre .0 .0)) k (low p) _ _ (begin p .pre .1 .0) (begin p .pre .1 .1 .0) in
+    let take = flow-take n (begin p .pre .0 .1) (good-range (list p) (begin p .pre .0 .0)) k (low p) _ _ (begin p .pre .1 .0) (begin p .pre .1 .1 .0) in
     let tables : Table n (k + 1) (counts n Bound.protected) (c .if2 .protected) × Table n (k + 1) (unprotected n) (c .if2 .others) =
     ⊎-elim
-    (λ w. let q = flow-protected n u k (omega (arith, e, w .0 .taken)) in
-    (rw (w .5) (take _ _ _ _ (c .before .before .before .before .before .loop .inv .protected) q (links p) (w .2 .ensures)), rw (w .6) (table-skip n k _ _ (c .before .before .before .before .before .loop .inv .others) (ap not q))))
-    (λ w. let q = flow-not-protected n u k (omega (arith, e, w .0 .left)) in
-    (rw (w .5) (table-skip n k _ _ (c .before .before .before .before .before .loop .inv .protected) q), rw (w .6) (take _ _ _ _ (c .before .before .before .before .before .loop .inv .others) (ap not q) (links p) (w .2 .ensures))))
+    (λ w. let q = e ∙ w .0 .taken in
+    (rw (w .5) (take _ _ _ _ (c .before .before .before .before .loop .inv .protected) q (links p) (w .2 .ensures)), rw (w .6) (table-skip n k _ _ (c .before .before .before .before .loop .inv .others) (ap not q))))
+    (λ w. let q = e ∙ w .0 .left in
+    (rw (w .5) (table-skip n k _ _ (c .before .before .before .before .loop .inv .protected) q), rw (w .6) (take _ _ _ _ (c .before .before .before .before .loop .inv .others) (ap not q) (links p) (w .2 .ensures))))
     (c .if2 .came) in
-    record { low = omega (arith, c .before .before .before .if1 .taken); protected = tables .0; others = tables .1 }
+    record { low = omega (arith, c .before .before .if1 .taken); protected = tables .0; others = tables .1 }
 
 same-length : tie.Need-same-length Inv-loop μ-loop
 same-length c = search needs
@@ -141,9 +135,7 @@ split-flows-spec =
     μ-loop
     of-requires
     loop-holds
-    flow-at-requires
-    mul-class
-    shared-slice-read-class
+    is-protected-requires
     add-flow-requires
     add-flow-requires-2
     add-flow

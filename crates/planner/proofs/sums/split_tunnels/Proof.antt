@@ -1,29 +1,31 @@
 -- `planner::sums::split_tunnels` meets its contract: each table has those of the tunnels passed that it is for.
-use Prim.Native.Nat.{ℕ, _+_, _-_, _≤_, _<_}
-use mathlib.Core.Path.{_≡_, ap, subst, _∙_}
+use Prim.Native.Nat.{ℕ, _+_, _-_, _≤_}
+use mathlib.Core.Path.{_≡_, sym, ap, subst, _∙_}
 use mathlib.Core.Logic.{⊎-elim}
 use mathlib.Core.Bool.{Bool, not}
 use mathlib.Core.List.{List}
+use lib.Dec.{leb}
 use lib.ListN.{getD}
 use Rattle.model.specs.Net.{Net}
 use Rattle.model.specs.Scan.{Bound}
 use Rattle.model.specs.Sets.{inSet}
 use Rattle.model.specs.Rule.{movers, counts}
 use Rattle.model.proofs.Movers.{movers-tunnels}
-use Rattle.lists.specs.Lists.{at, networkOf}
+use Rattle.model.proofs.Gathered.{counts-by-tunnel}
+use Rattle.lists.specs.Lists.{networkOf}
 use Rattle.lists.specs.declared.Network as sizes
-use Rattle.lists.proofs.Positions.{TunnelPlace, tunnel-place, FlowPlace, flow-place, limited, head-in}
+use Rattle.lists.proofs.Positions.{TunnelPlace, tunnel-place, limited, head-in}
 use Rattle.planner.specs.Tables.{mostSums, Room, Added, Table, unprotected}
 use Rattle.planner.proofs.Tables.{table-zero, table-take, table-skip, table-room}
-use Rattle.planner.proofs.Good.{good-range, is-protected, not-protected, TunnelAt, tunnel-at}
+use Rattle.planner.proofs.Good.{good-range, TunnelAt, tunnel-at}
 use native.Mathlib.Omega.{arith}
 use borrow.Author.Needs.{needs}
 use Rattle.planner.proofs.sums.split_tunnels.Statement.{statement}
 use Rattle.planner.proofs.sums.split_tunnels.Tie as tie
-use Rattle.lists.proofs.Network.flow_at.Reads as flow-at-reads
 use Rattle.lists.proofs.Network.of.Reads as of-reads
 use Rattle.lists.proofs.Network.tunnel_at.Reads as tunnel-at-reads
 use Rattle.planner.proofs.sums.add_tunnel.Reads as add-tunnel-reads
+use Rattle.planner.proofs.sums.is_protected.Reads as is-protected-reads
 
 abbrev Inv-loop : tie.InvT-loop
 Inv-loop network protected₀ others₀ sizes t₀ protected others t = record {
@@ -55,10 +57,6 @@ module _ (c : tie.After-tunnel-at Inv-loop μ-loop) where
   numbers : TunnelAt list t (c .tunnel-at .result)
   numbers = tunnel-at list (begin .pre .0 .0 .ranges) t _ place
 
-  -- the tunnel's flow is one of the network's
-  flow-low : getD list (c .tunnel-at .result) 0 < c .before .before .before .before .of .result .flows
-  flow-low = omega (arith, numbers .flow-low, ap (λ (n : sizes.Network). n .flows) (c .before .before .before .before .of .ensures))
-
   -- there is room for it
   room : (p : ℕ → Bool) (s : List ℕ) → Table N t p s → Room mostSums s
   room p s T = table-room N (good-range list (begin .pre .0 .0)) t p s T (omega (arith, numbers .there, movers-tunnels N (begin .pre .0 .1)))
@@ -67,14 +65,11 @@ module _ (c : tie.After-tunnel-at Inv-loop μ-loop) where
   added : {s s′ : List ℕ} → Added (inSet (getD list (c .tunnel-at .result + 1) 0)) (getD list (c .tunnel-at .result + 2) 0) (getD list (c .tunnel-at .result + 3) 0) s s′ → Added (inSet (N .via t)) (N .old t) (N .new t) s s′
   added a = rw (← numbers .via, ← numbers .old, ← numbers .new) a
 
-class-place : (c : tie.After-flow-at Inv-loop μ-loop) → FlowPlace (c .before .before .before .before .before .before .before .before .before .before .before .before .before .args .network .now) (getD (c .before .before .before .before .before .before .before .before .before .before .before .before .before .args .network .now) (c .before .before .before .before .before .tunnel-at .result) 0) (c .flow-at .result)
-class-place c =
+-- whether it is protected is told by its flow's class
+class-told : (c : tie.After-is-protected Inv-loop μ-loop) → let p = c .before .before .before .before .before in counts (N p) Bound.protected (t p) ≡ c .is-protected .result
+class-told c =
     let p = c .before .before .before .before .before in
-    flow-place _ (begin p .pre .0 .0 .ranges .sized) _ (c .before .before .before .before .before .before .before .before .before .of .ensures) _ _ (flow-low p) (c .flow-at .ensures)
-
-class-at : (c : tie.After-flow-at Inv-loop μ-loop) → let p = c .before .before .before .before .before in getD (list p) (c .flow-at .result) 0 ≡ N p .class (N p .flow (t p))
-unfolding networkOf
-class-at c = ap (at (list (c .before .before .before .before .before))) (class-place c .here) ∙ ap (λ (f : ℕ). networkOf (list (c .before .before .before .before .before)) .class f) (numbers (c .before .before .before .before .before) .flow)
+    counts-by-tunnel (N p) (begin p .pre .0 .1) (t p) ∙ ap (λ (f : ℕ). leb (N p .class f) 1) (sym (numbers p .flow)) ∙ sym (c .is-protected .ensures)
 
 of-requires : tie.Need-of-requires Inv-loop μ-loop
 of-requires c κs = head-in _ (c .before .before .before .pre .0 .0 .ranges .sized .size)
@@ -118,24 +113,14 @@ mul-new c = record { fits = omega (arith, place (c .before .before .before) .few
 shared-slice-read-new : tie.Need-shared-slice-read-new Inv-loop μ-loop
 shared-slice-read-new c = omega (arith, place (c .before .before .before .before) .within)
 
-flow-at-requires : tie.Need-flow-at-requires Inv-loop μ-loop
-flow-at-requires c κs = (limited _ (c .before .before .before .before .before .before .before .before .before .before .before .before .pre .0 .0 .ranges .sized) _ (c .before .before .before .before .before .before .before .before .of .ensures), omega (arith, flow-low (c .before .before .before .before)))
-
-mul-class : tie.Need-mul-class Inv-loop μ-loop
-mul-class c = record { fits = omega (arith, class-place (c) .few) }
-
-shared-slice-read-class : tie.Need-shared-slice-read-class Inv-loop μ-loop
-shared-slice-read-class c = omega (arith, class-place (c .before) .within)
+is-protected-requires : tie.Need-is-protected-requires Inv-loop μ-loop
+is-protected-requires c κs = (c .before .before .before .before .before .before .before .before .before .before .before .before .pre .0 .0 .ranges .sized, c .before .before .before .before .before .before .before .before .of .ensures, omega (arith, numbers (c .before .before .before .before) .flow-low, ap (λ (n : sizes.Network). n .flows) (c .before .before .before .before .before .before .before .before .of .ensures)))
 
 add-tunnel-requires : tie.Need-add-tunnel-requires Inv-loop μ-loop
-add-tunnel-requires c κs =
-    let p = c .before .before .before .before .before .before .before .before in
-    (room p _ _ (c .before .before .before .before .before .before .before .before .before .before .before .loop .inv .protected), numbers p .old-most, numbers p .new-most)
+add-tunnel-requires c κs = let p = (c .before .before .before .before .before .before .before) in (room p _ _ (c .before .before .before .before .before .before .before .before .before .before .loop .inv .protected), numbers p .old-most, numbers p .new-most)
 
 add-tunnel-requires-2 : tie.Need-add-tunnel-requires-2 Inv-loop μ-loop
-add-tunnel-requires-2 c κs =
-    let p = c .before .before .before .before .before .before .before .before in
-    (room p _ _ (c .before .before .before .before .before .before .before .before .before .before .before .loop .inv .others), numbers p .old-most, numbers p .new-most)
+add-tunnel-requires-2 c κs = let p = (c .before .before .before .before .before .before .before) in (room p _ _ (c .before .before .before .before .before .before .before .before .before .before .loop .inv .others), numbers p .old-most, numbers p .new-most)
 
 add-t : tie.Need-add-t Inv-loop μ-loop
 add-t c = search needs
@@ -144,19 +129,19 @@ loop-less : tie.Need-loop-less Inv-loop μ-loop
 loop-less c = search needs
 
 loop-again : tie.Need-loop-again Inv-loop μ-loop
-loop-again c = let p = c .before .before .before .before .before .before .before in
-    let e = class-at (c .before .before) in
+loop-again c = let p = (c .before .before .before .before .before .before) in
+    let e = class-told (c .before) in
     let n = N p in
     let u = begin p .pre .0 .1 in
     let k = t p in
     let tables : Table n (k + 1) (counts n Bound.protected) (c .if2 .protected) × Table n (k + 1) (unprotected n) (c .if2 .others) =
     ⊎-elim
-    (λ w. let q = is-protected n u k (omega (arith, e, w .0 .taken)) in
-    (rw (w .5) (table-take n u k _ _ _ (c .before .before .before .before .before .before .before .before .before .before .loop .inv .protected) q (added p (w .2 .ensures))), rw (w .6) (table-skip n k _ _ (c .before .before .before .before .before .before .before .before .before .before .loop .inv .others) (ap not q))))
-    (λ w. let q = not-protected n u k (omega (arith, e, w .0 .left)) in
-    (rw (w .5) (table-skip n k _ _ (c .before .before .before .before .before .before .before .before .before .before .loop .inv .protected) q), rw (w .6) (table-take n u k _ _ _ (c .before .before .before .before .before .before .before .before .before .before .loop .inv .others) (ap not q) (added p (w .2 .ensures)))))
+    (λ w. let q = e ∙ w .0 .taken in
+    (rw (w .5) (table-take n u k _ _ _ (c .before .before .before .before .before .before .before .before .before .loop .inv .protected) q (added p (w .2 .ensures))), rw (w .6) (table-skip n k _ _ (c .before .before .before .before .before .before .before .before .before .loop .inv .others) (ap not q))))
+    (λ w. let q = e ∙ w .0 .left in
+    (rw (w .5) (table-skip n k _ _ (c .before .before .before .before .before .before .before .before .before .loop .inv .protected) q), rw (w .6) (table-take n u k _ _ _ (c .before .before .before .before .before .before .before .before .before .loop .inv .others) (ap not q) (added p (w .2 .ensures)))))
     (c .if2 .came) in
-    record { low = omega (arith, c .before .before .before .before .before .before .before .before .if1 .taken); protected = tables .0; others = tables .1 }
+    record { low = omega (arith, c .before .before .before .before .before .before .before .if1 .taken); protected = tables .0; others = tables .1 }
 
 same-length : tie.Need-same-length Inv-loop μ-loop
 same-length c = search needs
@@ -167,12 +152,10 @@ same-length-2 c = search needs
 returns : tie.Need-returns Inv-loop μ-loop
 unfolding networkOf
 returns c =
-    let a = c .before .before .before .before .before .before .before in
+    let a = (c .before .before .before .before .before .before .before) in
     let N = networkOf (a .args .network .now) in
-    let e : c .before .before .loop .t ≡ movers N = omega (arith, c .before .before .loop .inv .low, ap (λ (n : sizes.Network). n .tunnels) (c .before .before .before .of .ensures), movers-tunnels N (a .pre .0 .1)) in (
-      subst (λ (n : ℕ). Table N n (counts N Bound.protected) (c .before .before .loop .protected)) e (c .before .before .loop .inv .protected),
-      subst (λ (n : ℕ). Table N n (unprotected N) (c .before .before .loop .others)) e (c .before .before .loop .inv .others),
-    )
+    let e : c .before .before .loop .t ≡ movers N = omega (arith, c .before .before .loop .inv .low, c .if1 .left, ap (λ (n : sizes.Network). n .tunnels) (c .before .before .before .of .ensures), movers-tunnels N (a .pre .0 .1)) in
+    (subst (λ (n : ℕ). Table N n (counts N Bound.protected) (c .before .before .loop .protected)) e (c .before .before .loop .inv .protected), subst (λ (n : ℕ). Table N n (unprotected N) (c .before .before .loop .others)) e (c .before .before .loop .inv .others))
 
 pub split-tunnels-spec : {M : Type 1} → statement M
 split-tunnels-spec =
@@ -194,9 +177,7 @@ split-tunnels-spec =
     add-new
     mul-new
     shared-slice-read-new
-    flow-at-requires
-    mul-class
-    shared-slice-read-class
+    is-protected-requires
     add-tunnel-requires
     add-tunnel-requires-2
     add-t
