@@ -84,7 +84,7 @@ loop-holds : tie.Need-loop-holds Inv-loop μ-loop
 loop-holds c = record { low = omega arith; protected = table-zero _ _ _ (c .before .before .before .before .before .before .pre .1 .1 .1 .0); others = table-zero _ _ _ (c .before .before .before .before .before .before .pre .1 .1 .1 .1) }
 
 is-protected-requires : tie.Need-is-protected-requires Inv-loop μ-loop
-is-protected-requires c κs = (c .before .before .before .before .before .before .before .before .before .pre .0 .0 .ranges .sized, c .before .before .before .of .ensures, c .if1 .taken)
+is-protected-requires c κs = (c .before .before .before .before .before .before .before .before .before .pre .0 .0 .ranges .sized, c .before .before .before .of .ensures, omega (arith, c .if1 .taken))
 
 add-flow-requires : tie.Need-add-flow-requires Inv-loop μ-loop
 add-flow-requires c κs = rooms (c .before .before) _ _ (c .before .before .before .before .before .loop .inv .protected)

@@ -40,7 +40,7 @@ module _ (c : tie.After-tunnel-at Inv-loop μ-loop) where
   t = c .before .before .before .loop .tunnel
 
   place : TunnelPlace list t (c .tunnel-at .result)
-  place = tunnel-place list (begin .pre .0 .ranges .sized) _ (c .before .before .before .before .of .ensures) t _ (c .before .if1 .taken) (c .tunnel-at .ensures)
+  place = tunnel-place list (begin .pre .0 .ranges .sized) _ (c .before .before .before .before .of .ensures) t _ (omega (arith, c .before .if1 .taken)) (c .tunnel-at .ensures)
 
   numbers : TunnelAt list t (c .tunnel-at .result)
   numbers = tunnel-at list (begin .pre .0 .ranges) t _ place
@@ -85,7 +85,7 @@ shared-slice-read-add-across : tie.Need-shared-slice-read-add-across Inv-loop μ
 shared-slice-read-add-across c = omega (arith, place (c .before .before .before .before) .within)
 
 add-across-requires : tie.Need-add-across-requires Inv-loop μ-loop
-add-across-requires c κs = let p = (c .before .before .before .before) in (room p _ _ (c .before .before .before .before .before .before .before .loop .inv .olds) (good-range _ (c .before .before .before .before .before .before .before .before .before .before .before .before .pre .0) .old), flow-low p, numbers p .old-most)
+add-across-requires c κs = let p = (c .before .before .before .before) in (room p _ _ (c .before .before .before .before .before .before .before .loop .inv .olds) (good-range _ (c .before .before .before .before .before .before .before .before .before .before .before .before .pre .0) .old), flow-low p, omega (arith, numbers p))
 
 add-add-across-2 : tie.Need-add-add-across-2 Inv-loop μ-loop
 add-add-across-2 c = record { fits = omega (arith, place (c .before .before .before .before .before .before .before .before) .few) }
@@ -97,7 +97,7 @@ shared-slice-read-add-across-2 : tie.Need-shared-slice-read-add-across-2 Inv-loo
 shared-slice-read-add-across-2 c = omega (arith, place (c .before .before .before .before .before .before .before .before .before) .within)
 
 add-across-requires-2 : tie.Need-add-across-requires-2 Inv-loop μ-loop
-add-across-requires-2 c κs = let p = (c .before .before .before .before .before .before .before .before .before) in (room p _ _ (c .before .before .before .before .before .before .before .before .before .before .before .before .loop .inv .news) (good-range _ (c .before .before .before .before .before .before .before .before .before .before .before .before .before .before .before .before .before .pre .0) .new), flow-low p, numbers p .new-most)
+add-across-requires-2 c κs = let p = (c .before .before .before .before .before .before .before .before .before) in (room p _ _ (c .before .before .before .before .before .before .before .before .before .before .before .before .loop .inv .news) (good-range _ (c .before .before .before .before .before .before .before .before .before .before .before .before .before .before .before .before .before .pre .0) .new), flow-low p, omega (arith, numbers p))
 
 add-tunnel : tie.Need-add-tunnel Inv-loop μ-loop
 add-tunnel c = search needs
