@@ -11,7 +11,6 @@ use lists::Answer;
 
 mod rows;
 mod steps;
-mod sums;
 
 // Plans for a network whose list is judged good.
 fn plan_good(network: &[u64], out: &mut [u64]) -> Answer

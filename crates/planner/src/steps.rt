@@ -9,10 +9,10 @@ ghost use Rattle.model.specs.Even.{even, fewest};
 ghost use Rattle.lists.specs.Answers.{plan};
 ghost use Rattle.lists.specs.Lists.{networkSizes, networkOf};
 ghost use Rattle.lists.specs.Good.{NetworkRanges};
-ghost use Rattle.planner.specs.Tables.{mostSums, Room, Ready, stepSum, endSum};
+ghost use Rattle.sums.specs.Tables.{mostSums, Room};
+ghost use Rattle.planner.specs.Tables.{Ready, stepSum, endSum};
 ghost use Rattle.planner.specs.Planned.{stuck};
 ghost use Rattle.planner.specs.Search.{answered, isOver};
-use crate::sums;
 use lists::Answer;
 use lists::Network;
 
