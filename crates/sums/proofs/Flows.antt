@@ -19,8 +19,8 @@ use Rattle.model.proofs.Sets.{set-within}
 use Rattle.model.proofs.Sums.{sum-zero, sum-next, sum-take, sum-bound}
 use Rattle.model.proofs.Movers.{on-flow}
 use Rattle.lists.specs.Lists.{at}
-use Rattle.sums.specs.Tables.{Part, sumAt, amount, mostSums, Room, Added, onPart, Table, flowsSize, flowAt, FlowRoom, FlowAdded, FlowSums, SumsAdded}
-use Rattle.sums.proofs.Tables.{store-at, amount-most, part-mover, InRange, flow-most}
+use Rattle.sums.specs.Tables.{Part, sumAt, amount, mostSums, Room, Added, onPart, Table, flowsSize, flowSumAt, FlowRoom, FlowAdded, FlowSums, SumsAdded}
+use Rattle.sums.proofs.Tables.{store-at, up-to, amount-most, part-mover, InRange, flow-most}
 
 -- ---- the sums of the flows
 
@@ -45,7 +45,7 @@ same-place f k g l hk hl =
     (bool-cases (eqb f g))
 
 pub across-none : (f x : ℕ) (s : List ℕ) → FlowAdded f (λ l. false) x s s
-across-none f x s = record { size = refl; each = λ g l hg hl. sym (ap (λ (b : Bool). flowAt s g l + cond b x 0) (and-false (eqb f g)) ∙ add-zero _) }
+across-none f x s = record { size = refl; each = λ g l hg hl. sym (ap (λ (b : Bool). flowSumAt s g l + cond b x 0) (and-false (eqb f g)) ∙ add-zero _) }
 
 -- x is added on some links and then on another
 pub across-on : (f k x : ℕ) (c e : ℕ → Bool) (s s₁ s₂ : List ℕ) → f < mostFlows → k < mostLinks → length s ≡ flowsSize → FlowAdded f c x s s₁
@@ -54,10 +54,10 @@ pub across-on : (f k x : ℕ) (c e : ℕ → Bool) (s s₁ s₂ : List ℕ) → 
 across-on f k x c e s s₁ s₂ hf hk size a q h = record {
   size = ap length q ∙ length-set s₁ _ _ ∙ a .size;
   each = λ g l hg hl.
-      ap (λ (z : List ℕ). flowAt z g l) q
+      ap (λ (z : List ℕ). flowSumAt z g l) q
       ∙ store-at s₁ (mostLinks * f + k) x (mostLinks * g + l) (omega (arith, a .size))
       ∙ ap₂ _+_ (a .each g l hg hl) (ap (λ (b : Bool). cond b x 0) (same-place f k g l hk hl))
-      ∙ both (eqb f g) (flowAt s g l) (c l) (eqb l k) (e l) (h l x);
+      ∙ both (eqb f g) (flowSumAt s g l) (c l) (eqb l k) (e l) (h l x);
 }
   where
     both : (b : Bool) (u : ℕ) (c d e : Bool) → cond c x 0 + cond d x 0 ≡ cond e x 0 → u + cond (b && c) x 0 + cond (b && d) x 0 ≡ u + cond (b && e) x 0
@@ -66,14 +66,14 @@ across-on f k x c e s s₁ s₂ hf hk size a q h = record {
 
 -- so no number is larger than before by more than x
 pub across-most : (f x : ℕ) (c : ℕ → Bool) (s s′ : List ℕ) → FlowAdded f c x s s′ → FlowRoom s → (g l : ℕ) → g < mostFlows → l < mostLinks
-    → flowAt s′ g l ≤ mostTunnels * mostAmount + x
+    → flowSumAt s′ g l ≤ mostTunnels * mostAmount + x
 across-most f x c s s′ a r g l hg hl = omega (arith, a .each g l hg hl, r .most g l hg hl, cond-most (eqb f g && c l) x)
 
 pub flows-none : (N : Net) (x : ℕ → ℕ) (s : List ℕ) → s ≡ replicate flowsSize 0 → FlowSums N 0 x s
 flows-none N x s e = record {
   size = ap length e ∙ length-replicate {A = ℕ} flowsSize 0;
   each = λ f l hf hl.
-      ap (λ (z : List ℕ). flowAt z f l) e
+      ap (λ (z : List ℕ). flowSumAt z f l) e
       ∙ getD-replicate flowsSize (mostLinks * f + l) 0 0 (flow-inside f l hf hl)
       ∙ sym (sum-zero (λ t. eqb (N .flow t) f) (across N l x));
 }
@@ -103,21 +103,10 @@ flows-room N r n x s F h most = record {
 pub sums-start : (f : ℕ) (olds news s : List ℕ) → SumsAdded 0 f olds news s s
 sums-start f olds news s = record {
   size = refl;
-  each = λ p l h. sym (ap (λ (b : Bool). sumAt s p l + cond b (amount (flowAt olds f l) (flowAt news f l) p) 0) (le-ltb l 0 (omega arith)) ∙ add-zero _);
+  each = λ p l h. sym (ap (λ (b : Bool). sumAt s p l + cond b (amount (flowSumAt olds f l) (flowSumAt news f l) p) 0) (le-ltb l 0 (omega arith)) ∙ add-zero _);
 }
 
--- the links below i, and link i
-up-to : (i l x y : ℕ) → (l ≡ i → x ≡ y) → cond (ltb l i) x 0 + cond (eqb l i) y 0 ≡ cond (ltb l (i + 1)) x 0
-up-to i l x y h =
-    elim (decLt l i) [
-      | yes k ↦ rw (lt-ltb l i k, ne-eqb l i (λ q. omega arith), lt-ltb l (i + 1) (omega arith)) (add-zero _)
-      | no k ↦ elim (decLt i l) [
-        | yes j ↦ rw (le-ltb l i (omega arith), ne-eqb l i (λ q. omega arith), le-ltb l (i + 1) (omega arith)) refl
-        | no j ↦ (let e : l ≡ i = omega arith in rw (le-ltb l i (omega arith), eq-eqb l i e, lt-ltb l (i + 1) (omega arith)) (omega (arith, h e)))
-      ]
-    ]
-
-pub sums-on : (i f : ℕ) (olds news s s₁ s₂ : List ℕ) → SumsAdded i f olds news s s₁ → Added (λ l. eqb l i) (flowAt olds f i) (flowAt news f i) s₁ s₂ → SumsAdded (i + 1) f olds news s s₂
+pub sums-on : (i f : ℕ) (olds news s s₁ s₂ : List ℕ) → SumsAdded i f olds news s s₁ → Added (λ l. eqb l i) (flowSumAt olds f i) (flowSumAt news f i) s₁ s₂ → SumsAdded (i + 1) f olds news s s₂
 sums-on i f olds news s s₁ s₂ F a = record {
   size = a .size ∙ F .size;
   each = λ p l h.
@@ -125,8 +114,8 @@ sums-on i f olds news s s₁ s₂ F a = record {
         arith,
         a .each p l h,
         F .each p l h,
-        up-to i l (amount (flowAt olds f l) (flowAt news f l) p) (amount (flowAt olds f i) (flowAt news f i) p)
-            (λ e. ap (λ (k : ℕ). amount (flowAt olds f k) (flowAt news f k) p) e),
+        up-to i l (amount (flowSumAt olds f l) (flowSumAt news f l) p) (amount (flowSumAt olds f i) (flowSumAt news f i) p)
+            (λ e. ap (λ (k : ℕ). amount (flowSumAt olds f k) (flowSumAt news f k) p) e),
       );
 }
 
@@ -138,8 +127,8 @@ sums-room i f olds news s s′ hf F o n r = record {
         arith,
         F .each p l h,
         r .most p l h,
-        cond-most (ltb l i) (amount (flowAt olds f l) (flowAt news f l) p),
-        amount-most (mostTunnels * mostAmount) (flowAt olds f l) (flowAt news f l) (o .most f l hf h) (n .most f l hf h) p,
+        cond-most (ltb l i) (amount (flowSumAt olds f l) (flowSumAt news f l) p),
+        amount-most (mostTunnels * mostAmount) (flowSumAt olds f l) (flowSumAt news f l) (o .most f l hf h) (n .most f l hf h) p,
       );
 }
 
@@ -169,15 +158,15 @@ module _ (N : Net) (e : byFlow N ≡ true) (r : InRange N) (f : ℕ) (hf : f < m
   part-flow : (p : Part) (l : ℕ) → onPart N l p f ≡ amount (flowSum N (across N l (N .old)) f) (flowSum N (across N l (N .new)) f) p
   part-flow p l = part-mover N l p f ∙ ap₂ (λ (o n : ℕ). amount o n p) (on-flow N e l (N .old) f) (on-flow N e l (N .new) f)
 
-  counted : (p : Part) (l : ℕ) → l < mostLinks → cond (ltb l (N .links)) (amount (flowAt olds f l) (flowAt news f l) p) 0 ≡ onPart N l p f
+  counted : (p : Part) (l : ℕ) → l < mostLinks → cond (ltb l (N .links)) (amount (flowSumAt olds f l) (flowSumAt news f l) p) 0 ≡ onPart N l p f
   unfolding flowSum
   counted p l h =
       elim (decLt l (N .links)) [
-        | yes k ↦ ap (λ (b : Bool). cond b (amount (flowAt olds f l) (flowAt news f l) p) 0) (lt-ltb l (N .links) k)
+        | yes k ↦ ap (λ (b : Bool). cond b (amount (flowSumAt olds f l) (flowSumAt news f l) p) 0) (lt-ltb l (N .links) k)
             ∙ ap₂ (λ (o n : ℕ). amount o n p) (O .each f l hf h) (W .each f l hf h)
             ∙ sym (part-flow p l)
         | no k ↦ (let up : N .links ≤ l = omega arith in
-            ap (λ (b : Bool). cond b (amount (flowAt olds f l) (flowAt news f l) p) 0) (le-ltb l (N .links) up)
+            ap (λ (b : Bool). cond b (amount (flowSumAt olds f l) (flowSumAt news f l) p) 0) (le-ltb l (N .links) up)
             ∙ sym (part-flow p l ∙ ap₂ (λ (o n : ℕ). amount o n p) (gone N r (N .old) f l up) (gone N r (N .new) f l up) ∙ nothing p))
       ]
 

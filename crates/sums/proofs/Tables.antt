@@ -108,20 +108,21 @@ pub record Joining (i : ℕ) (s more s′ : List ℕ) : Type 0 where
 pub join-none : (s more : List ℕ) → length s ≡ tableSize → Joining 0 s more s
 join-none s more h = record { size = h; each = λ k. sym (ap (λ (b : Bool). at s k + cond b (at more k) 0) (le-ltb k 0 (omega arith)) ∙ add-zero _) }
 
-joined-at : (more : List ℕ) (i k : ℕ) → cond (ltb k i) (at more k) 0 + cond (eqb k i) (at more i) 0 ≡ cond (ltb k (i + 1)) (at more k) 0
-joined-at more i k =
-    elim (decLt k i) [
-      | yes h ↦ rw (lt-ltb k i h, ne-eqb k i (λ q. omega arith), lt-ltb k (i + 1) (omega arith)) (add-zero _)
-      | no h ↦ elim (decLt i k) [
-        | yes j ↦ rw (le-ltb k i (omega arith), ne-eqb k i (λ q. omega arith), le-ltb k (i + 1) (omega arith)) refl
-        | no j ↦ (let e : k ≡ i = omega arith in rw e (rw (le-ltb i i (omega arith), eq-eqb i i refl, lt-ltb i (i + 1) (omega arith)) (omega arith)))
+-- what stands below i, and at i
+pub up-to : (i l x y : ℕ) → (l ≡ i → x ≡ y) → cond (ltb l i) x 0 + cond (eqb l i) y 0 ≡ cond (ltb l (i + 1)) x 0
+up-to i l x y h =
+    elim (decLt l i) [
+      | yes k ↦ rw (lt-ltb l i k, ne-eqb l i (λ q. omega arith), lt-ltb l (i + 1) (omega arith)) (add-zero _)
+      | no k ↦ elim (decLt i l) [
+        | yes j ↦ rw (le-ltb l i (omega arith), ne-eqb l i (λ q. omega arith), le-ltb l (i + 1) (omega arith)) refl
+        | no j ↦ (let e : l ≡ i = omega arith in rw (le-ltb l i (omega arith), eq-eqb l i e, lt-ltb l (i + 1) (omega arith)) (omega (arith, h e)))
       ]
     ]
 
 pub join-on : (i : ℕ) (s more s′ : List ℕ) → i < tableSize → Joining i s more s′ → Joining (i + 1) s more (set s′ i (at s′ i + at more i))
 join-on i s more s′ h j = record {
   size = length-set s′ i _ ∙ j .size;
-  each = λ k. omega (arith, store-at s′ i (at more i) k (omega (arith, j .size)), j .each k, joined-at more i k);
+  each = λ k. omega (arith, store-at s′ i (at more i) k (omega (arith, j .size)), j .each k, up-to i k (at more k) (at more i) (ap (at more)));
 }
 
 pub join-all : (s more s′ : List ℕ) → Joining tableSize s more s′ → Joined s more s′

@@ -73,25 +73,25 @@ pub record Joined (s more s′ : List ℕ) : Type 0 where
 abbrev pub flowsSize : ℕ
 flowsSize = mostFlows * mostLinks
 
-abbrev pub flowAt : List ℕ → ℕ → ℕ → ℕ
-flowAt s f l = at s (mostLinks * f + l)
+abbrev pub flowSumAt : List ℕ → ℕ → ℕ → ℕ
+flowSumAt s f l = at s (mostLinks * f + l)
 
 -- no sum is larger than all tunnels' amounts together
 pub record FlowRoom (s : List ℕ) : Type 0 where
   pub size : length s ≡ flowsSize
-  pub most : (f l : ℕ) → f < mostFlows → l < mostLinks → flowAt s f l ≤ mostTunnels * mostAmount
+  pub most : (f l : ℕ) → f < mostFlows → l < mostLinks → flowSumAt s f l ≤ mostTunnels * mostAmount
 
 -- the sums s′ are s with x added to those of flow f on the links that c picks
 pub record FlowAdded (f : ℕ) (c : ℕ → Bool) (x : ℕ) (s s′ : List ℕ) : Type 0 where
   pub size : length s′ ≡ length s
-  pub each : (g l : ℕ) → g < mostFlows → l < mostLinks → flowAt s′ g l ≡ flowAt s g l + cond (eqb f g && c l) x 0
+  pub each : (g l : ℕ) → g < mostFlows → l < mostLinks → flowSumAt s′ g l ≡ flowSumAt s g l + cond (eqb f g && c l) x 0
 
 -- the sums of the amounts x of the first n tunnels; of all tunnels, `flowSum` of Rule.antt
 pub record FlowSums (N : Net) (n : ℕ) (x : ℕ → ℕ) (s : List ℕ) : Type 0 where
   pub size : length s ≡ flowsSize
-  pub each : (f l : ℕ) → f < mostFlows → l < mostLinks → flowAt s f l ≡ sumOver n (λ t. eqb (N .flow t) f) (across N l x)
+  pub each : (f l : ℕ) → f < mostFlows → l < mostLinks → flowSumAt s f l ≡ sumOver n (λ t. eqb (N .flow t) f) (across N l x)
 
 -- the table s′ is s with the sums of flow f added, as one amount before and one after, on the first n links
 pub record SumsAdded (n f : ℕ) (olds news s s′ : List ℕ) : Type 0 where
   pub size : length s′ ≡ length s
-  pub each : (p : Part) (l : ℕ) → l < mostLinks → sumAt s′ p l ≡ sumAt s p l + cond (ltb l n) (amount (flowAt olds f l) (flowAt news f l) p) 0
+  pub each : (p : Part) (l : ℕ) → l < mostLinks → sumAt s′ p l ≡ sumAt s p l + cond (ltb l n) (amount (flowSumAt olds f l) (flowSumAt news f l) p) 0

@@ -39,14 +39,14 @@ fn sum_flows(network: &[u64], olds: &mut [u64], news: &mut [u64])
     ensures { λ _. ⌜ FlowSums (networkOf (now (network .entry))) (networkOf (now (network .entry)) .tunnels) (networkOf (now (network .entry)) .new) (now (news .exit)) ⌝ }
 {
     let sizes = Network::of(network);
-    let mut tunnel: usize = 0;
-    while tunnel < sizes.tunnels {
-        let at = sizes.tunnel_at(tunnel);
+    let mut t: usize = 0;
+    while t < sizes.tunnels {
+        let at = sizes.tunnel_at(t);
         let flow = network[at] as usize;
         let via = network[at + Network::VIA];
         add_across(olds, flow, via, network[at + Network::OLD]);
         add_across(news, flow, via, network[at + Network::NEW]);
-        tunnel += 1;
+        t += 1;
     }
 }
 

@@ -19,14 +19,14 @@ use Rattle.lists.proofs.Network.tunnel_at.Reads as tunnel-at-reads
 use Rattle.sums.proofs.by_flow.add_across.Reads as add-across-reads
 
 abbrev Inv-loop : tie.InvT-loop
-Inv-loop network olds₀ news₀ sizes tunnel₀ olds news tunnel = record {
-  low : tunnel ≤ sizes .tunnels;
-  olds : FlowSums (networkOf network) tunnel (networkOf network .old) olds;
-  news : FlowSums (networkOf network) tunnel (networkOf network .new) news;
+Inv-loop network olds₀ news₀ sizes t₀ olds news t = record {
+  low : t ≤ sizes .tunnels;
+  olds : FlowSums (networkOf network) t (networkOf network .old) olds;
+  news : FlowSums (networkOf network) t (networkOf network .new) news;
 }
 
 abbrev μ-loop : tie.MeasureT-loop
-μ-loop network olds₀ news₀ sizes tunnel₀ olds news tunnel = sizes .tunnels - tunnel
+μ-loop network olds₀ news₀ sizes t₀ olds news t = sizes .tunnels - t
 
 -- in a turn: the tunnel's numbers
 module _ (c : tie.After-tunnel-at Inv-loop μ-loop) where
@@ -37,7 +37,7 @@ module _ (c : tie.After-tunnel-at Inv-loop μ-loop) where
   list = begin .args .network .now
 
   abbrev t : ℕ
-  t = c .before .before .before .loop .tunnel
+  t = c .before .before .before .loop .t
 
   place : TunnelPlace list t (c .tunnel-at .result)
   place = tunnel-place list (begin .pre .0 .ranges .sized) _ (c .before .before .before .before .of .ensures) t _ (omega (arith, c .before .if1 .taken)) (c .tunnel-at .ensures)
@@ -99,8 +99,8 @@ shared-slice-read-add-across-2 c = omega (arith, place (c .before .before .befor
 add-across-requires-2 : tie.Need-add-across-requires-2 Inv-loop μ-loop
 add-across-requires-2 c κs = let p = (c .before .before .before .before .before .before .before .before .before) in (room p _ _ (c .before .before .before .before .before .before .before .before .before .before .before .before .loop .inv .news) (good-range _ (c .before .before .before .before .before .before .before .before .before .before .before .before .before .before .before .before .before .pre .0) .new), flow-low p, omega (arith, numbers p))
 
-add-tunnel : tie.Need-add-tunnel Inv-loop μ-loop
-add-tunnel c = search needs
+add-t : tie.Need-add-t Inv-loop μ-loop
+add-t c = search needs
 
 loop-less : tie.Need-loop-less Inv-loop μ-loop
 loop-less c = search needs
@@ -109,8 +109,8 @@ loop-again : tie.Need-loop-again Inv-loop μ-loop
 loop-again c = let n = numbers (c .before .before .before .before .before .before .before .before .before .before .before .before) in
     record {
       low = omega (arith, c .before .before .before .before .before .before .before .before .before .before .before .before .before .if1 .taken);
-      olds = flows-on _ (c .before .before .before .before .before .before .before .before .before .before .before .before .before .before .before .loop .tunnel) _ _ _ _ _ _ (c .before .before .before .before .before .before .before .before .before .before .before .before .before .before .before .loop .inv .olds) (n .flow) (n .via) (n .old) (c .before .before .before .before .before .before .before .add-across .ensures);
-      news = flows-on _ (c .before .before .before .before .before .before .before .before .before .before .before .before .before .before .before .loop .tunnel) _ _ _ _ _ _ (c .before .before .before .before .before .before .before .before .before .before .before .before .before .before .before .loop .inv .news) (n .flow) (n .via) (n .new) (c .before .before .add-across2 .ensures);
+      olds = flows-on _ (c .before .before .before .before .before .before .before .before .before .before .before .before .before .before .before .loop .t) _ _ _ _ _ _ (c .before .before .before .before .before .before .before .before .before .before .before .before .before .before .before .loop .inv .olds) (n .flow) (n .via) (n .old) (c .before .before .before .before .before .before .before .add-across .ensures);
+      news = flows-on _ (c .before .before .before .before .before .before .before .before .before .before .before .before .before .before .before .loop .t) _ _ _ _ _ _ (c .before .before .before .before .before .before .before .before .before .before .before .before .before .before .before .loop .inv .news) (n .flow) (n .via) (n .new) (c .before .before .add-across2 .ensures);
     }
 
 same-length : tie.Need-same-length Inv-loop μ-loop
@@ -123,7 +123,7 @@ returns : tie.Need-returns Inv-loop μ-loop
 unfolding networkOf
 returns c =
     let N = networkOf (c .before .before .before .before .before .before .before .args .network .now) in
-    let e : c .before .before .loop .tunnel ≡ N .tunnels = omega (arith, c .before .before .loop .inv .low, c .if1 .left, ap (λ (n : sizes.Network). n .tunnels) (c .before .before .before .of .ensures)) in
+    let e : c .before .before .loop .t ≡ N .tunnels = omega (arith, c .before .before .loop .inv .low, c .if1 .left, ap (λ (n : sizes.Network). n .tunnels) (c .before .before .before .of .ensures)) in
     (subst (λ (n : ℕ). FlowSums N n (N .old) (c .before .before .loop .olds)) e (c .before .before .loop .inv .olds), subst (λ (n : ℕ). FlowSums N n (N .new) (c .before .before .loop .news)) e (c .before .before .loop .inv .news))
 
 pub sum-flows-spec : {M : Type 1} → statement M
@@ -148,7 +148,7 @@ sum-flows-spec =
     mul-add-across-2
     shared-slice-read-add-across-2
     add-across-requires-2
-    add-tunnel
+    add-t
     loop-less
     loop-again
     same-length
