@@ -5,7 +5,7 @@ use native.Mathlib.Omega.{arith}
 use native.Mathlib.Nat.{mul-le-mul}
 use Rattle.model.specs.Limits.{mostLinks, mostSteps, mostAmount}
 use Rattle.lists.specs.Lists.{at}
-use Rattle.sums.specs.Tables.{Part, mostSums, Room}
+use Rattle.link_sums.specs.Tables.{Part, mostSums, Room}
 use Rattle.planner.specs.Tables.{stepSum, endSum}
 
 -- "96 tunnels and 50 steps; amounts up to 10,000,000": a load of a plan of even steps, in parts, has at most three such products, and 1000 times it fits 64 bits

@@ -6,7 +6,7 @@ use Rattle.model.specs.Scan.{Bound}
 use Rattle.lists.specs.Lists.{networkOf}
 use Rattle.lists.specs.Good.{GoodNetwork}
 use Rattle.lists.specs.declared.PlanSizes.{PlanSizes}
-use Rattle.sums.specs.Tables.{Part, sumAt, Loads}
+use Rattle.link_sums.specs.Tables.{Part, sumAt, Loads}
 
 -- what the search starts from: a good network, with the tables of both bounds
 pub record Ready (l p a : List ℕ) : Type 0 where

@@ -4,7 +4,7 @@ use mathlib.Core.Path.{ap}
 use native.Mathlib.Omega.{arith}
 use borrow.Author.Needs.{needs}
 use Rattle.lists.specs.Lists.{at}
-use Rattle.sums.specs.Tables.{Part}
+use Rattle.link_sums.specs.Tables.{Part}
 use Rattle.planner.proofs.Figures.{mostProduct, product-room}
 use Rattle.planner.proofs.steps.end_load.Statement.{statement}
 use Rattle.planner.proofs.steps.end_load.Tie as tie

@@ -4,7 +4,7 @@ use native.Mathlib.Omega.{arith}
 use native.Mathlib.Numerals.{add-one}
 use borrow.Author.Needs.{needs}
 use Rattle.lists.specs.Lists.{at}
-use Rattle.sums.specs.Tables.{Part}
+use Rattle.link_sums.specs.Tables.{Part}
 use Rattle.planner.proofs.Figures.{mostProduct, product-room}
 use Rattle.planner.proofs.steps.step_load.Statement.{statement}
 use Rattle.planner.proofs.steps.step_load.Tie as tie
