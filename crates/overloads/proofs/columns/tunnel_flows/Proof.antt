@@ -1,4 +1,4 @@
--- `overloads::columns::owners` meets its contract.
+-- `overloads::columns::tunnel_flows` meets its contract.
 use Prim.Native.Nat.{_≤_, _-_}
 use mathlib.Core.Path.{_≡_, refl, ap}
 use lib.ListN.{length, length-set}
@@ -10,10 +10,8 @@ use Rattle.overloads.proofs.Good.{flow-here}
 use Rattle.overloads.proofs.Laws.{holds-none, holds-more, holds-at}
 use native.Mathlib.Omega.{arith}
 use borrow.Author.Needs.{needs}
-use Rattle.overloads.proofs.columns.owners.Statement.{statement}
-use Rattle.overloads.proofs.columns.owners.Tie as tie
-use Rattle.lists.proofs.Network.of.Reads as of-reads
-use Rattle.lists.proofs.Network.tunnel_at.Reads as tunnel-at-reads
+use Rattle.overloads.proofs.columns.tunnel_flows.Statement.{statement}
+use Rattle.overloads.proofs.columns.tunnel_flows.Tie as tie
 
 abbrev Inv-loop : tie.InvT-loop
 Inv-loop network flows₀ sizes t₀ flows t = record { low : t ≤ sizes .tunnels; size : length flows ≡ length flows₀; holds : Holds flows t (networkOf network .flow) }
@@ -65,8 +63,8 @@ same-length c = c .before .before .loop .inv .size
 returns : tie.Need-returns Inv-loop μ-loop
 returns c = holds-at _ _ _ _ (c .before .before .loop .inv .holds) (omega (arith, c .if1 .left, ap (λ (n : counts.Network). n .tunnels) (c .before .before .before .of .ensures)))
 
-pub owners-spec : {M : Type 1} → statement M
-owners-spec =
+pub tunnel-flows-spec : {M : Type 1} → statement M
+tunnel-flows-spec =
     tie.close
     (tie.spec
     Inv-loop
