@@ -118,9 +118,42 @@ edition-0 : readNetwork (bytes "net=0\nscratch=20\n") ≡ refused outOfRange 1 0
 unfolding readLines walk numberIn firstBad plain flatMap lines onFirst valuePart beforeFeed digitOf numberFrom decimalOf hexOf fieldOf networkBody headSize perLink perFlow networkSizes linkAt flowAt tunnelAt Option·elim
 edition-0 = refl
 
-edition-3 : readNetwork (bytes "net=3\nscratch=20\n") ≡ refused outOfRange 1 0
+edition-4 : readNetwork (bytes "net=4\nscratch=20\n") ≡ refused outOfRange 1 0
 unfolding readLines walk numberIn firstBad plain flatMap lines onFirst valuePart beforeFeed digitOf numberFrom decimalOf hexOf fieldOf networkBody headSize perLink perFlow networkSizes linkAt flowAt tunnelAt Option·elim
-edition-3 = refl
+edition-4 = refl
+
+-- ---- edition 3: "`unit` 0 or 1 after `overrun`, and with `held` 0..cap after each `cap`"
+
+held : List ℕ
+held = bytes "net=3\nscratch=20\noverrun=0\nunit=1\nlinks=2\nflows=1\ntunnels=1\ncap=20\nheld=0\ncap=7\nheld=7\nclass=2\nrate=10\nnext=20\nflow=0\nvia=0000000000000001\nold=10\nnew=20\n"
+
+held-network : List ℕ
+held-network = 3 ∷ 20 ∷ 0 ∷ 1 ∷ 2 ∷ 1 ∷ 1 ∷ 20 ∷ 0 ∷ 7 ∷ 7 ∷ 2 ∷ 10 ∷ 20 ∷ 0 ∷ 1 ∷ 10 ∷ 20 ∷ []
+
+reads-held : readNetwork held ≡ good held-network
+unfolding held held-network readLines walk numberIn firstBad plain flatMap lines onFirst valuePart beforeFeed digitOf numberFrom decimalOf hexOf fieldOf networkBody headSize perLink perFlow networkSizes linkAt flowAt nextIn tunnelAt addUp networkOf rule.missedRate rule.missedBy rule.flowSum sumOver onlyIf orElse first Option·elim
+reads-held = refl
+
+writes-held : render Network held-network ≡ held
+unfolding held held-network render renderFrom digitsIn widthOf widthFrom fieldOf networkBody headSize perLink perFlow networkSizes linkAt flowAt tunnelAt
+writes-held = refl
+
+-- held above the capacity before it: "above: 2 at the `held` line"; a unit above 1; a unit that is missing, and one in edition 2
+large-held : readNetwork (bytes "net=3\nscratch=20\noverrun=0\nunit=0\nlinks=2\nflows=0\ntunnels=0\ncap=9\nheld=9\ncap=7\nheld=8\n") ≡ refused outOfRange 11 0
+unfolding readLines walk numberIn firstBad plain flatMap lines onFirst valuePart beforeFeed digitOf numberFrom decimalOf hexOf fieldOf networkBody headSize perLink perFlow networkSizes linkAt flowAt tunnelAt Option·elim
+large-held = refl
+
+large-unit : readNetwork (bytes "net=3\nscratch=20\noverrun=0\nunit=2\n") ≡ refused outOfRange 4 0
+unfolding readLines walk numberIn firstBad plain flatMap lines onFirst valuePart beforeFeed digitOf numberFrom decimalOf hexOf fieldOf networkBody headSize perLink perFlow networkSizes linkAt flowAt tunnelAt Option·elim
+large-unit = refl
+
+no-unit : readNetwork (bytes "net=3\nscratch=20\noverrun=0\nlinks=2\n") ≡ refused malformed 4 0
+unfolding readLines walk numberIn firstBad plain flatMap lines onFirst valuePart beforeFeed digitOf numberFrom decimalOf hexOf fieldOf networkBody headSize perLink perFlow networkSizes linkAt flowAt tunnelAt Option·elim
+no-unit = refl
+
+early-unit : readNetwork (bytes "net=2\nscratch=20\noverrun=0\nunit=0\n") ≡ refused malformed 4 0
+unfolding readLines walk numberIn firstBad plain flatMap lines onFirst valuePart beforeFeed digitOf numberFrom decimalOf hexOf fieldOf networkBody headSize perLink perFlow networkSizes linkAt flowAt tunnelAt Option·elim
+early-unit = refl
 
 -- ---- remarks
 

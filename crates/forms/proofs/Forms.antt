@@ -1,5 +1,5 @@
 -- Laws of the forms: sets and shifts, which field stands where, and what the numbers of a sound list are bounded by.
-use mathlib.Core.Path.{_≡_, refl, ap, subst, _∙_}
+use mathlib.Core.Path.{_≡_, refl, ap, ap₂, subst, _∙_}
 use mathlib.Core.Bool.{Bool, true, false, cond, _&&_, _||_, not, true≢false, false≢true}
 use mathlib.Core.List.{List, [], _∷_, _++_}
 use mathlib.Core.Logic.{⊎-elim}
@@ -14,15 +14,15 @@ use lib.Seq.{take-take, getD-take, length-take-le, take-append-le, take-append-s
 use borrow.Author.Tests.{ne-eqb, lt-ltb, le-ltb, le-leb}
 use Rattle.model.proofs.Searches.{both, bool-cases}
 use Rattle.model.specs.Limits.{mostLinks, mostFlows, mostTunnels, mostSteps, mostAmount, newestEdition, mostShare, mostSwitches, mostRoom}
-use Rattle.lists.specs.Lists.{at, hasNext, headSize, perLink, perFlow, networkSizes, linkAt, flowAt, tunnelAt, networkSize, planSizes, planSize, tableSizes, roomAt, ruleAt, tablesSize, mostPlan, mostNumbers}
+use Rattle.lists.specs.Lists.{at, hasNext, hasHeld, headSize, perLink, perFlow, networkSizes, linkAt, flowAt, tunnelAt, networkSize, planSizes, planSize, tableSizes, roomAt, ruleAt, tablesSize, mostPlan, mostNumbers}
 use Rattle.lists.specs.Good.{Limited, StandsAt}
 use Rattle.lists.specs.declared.Position.{Position}
 use Rattle.lists.specs.declared.Position.the-variants as position
 use Rattle.lists.specs.declared.Network as counts
 use Rattle.lists.specs.declared.PlanSizes.{PlanSizes}
 use Rattle.lists.specs.declared.RuleTables.{RuleTables}
-use Rattle.lists.proofs.Positions.{before-end, in-group, link-some, flow-pos, link-at, flow-at, tunnel-at, flows-start, tunnels-start, head-size, head-most, most-network, most-in-all}
-use Rattle.forms.specs.Form.{line, planBody, isHex, admitsOf, Sound, allows, fieldOf, networkLines, flowLines, tunnelLines, planLines, rulesLines, ruleLines, networkBody, rulesBody, mostOf}
+use Rattle.lists.proofs.Positions.{grouped, before-end, in-group, with-unit, without-unit, head-low, head-high, link-some, link-most, flow-pos, link-at, flow-at, tunnel-at, flows-start, tunnels-start, head-size, head-most, most-network, most-in-all}
+use Rattle.forms.specs.Form.{line, planBody, isHex, admitsOf, Sound, allows, fieldOf, countLines, networkLines, linkLines, flowLines, tunnelLines, planLines, rulesLines, ruleLines, networkBody, rulesBody, mostOf}
 use Rattle.forms.specs.declared.form.Form.{Form}
 use Rattle.forms.specs.declared.form.Form.the-variants.{Network, Plan, Rules}
 use Rattle.forms.specs.declared.form.Range.{Range}
@@ -82,22 +82,46 @@ sound-more form l v s t i h = go (decLt i (length l))
 
 -- ---- the network's fields
 
--- a head and a flow have as many lines as numbers
-pub head-lines : (n : counts.Network) → linkAt n 0 ≡ length networkLines
+-- a head, a link and a flow have as many lines as numbers
+pub lines-in-head : (edition : ℕ) → headSize edition ≡ length (networkLines edition)
 unfolding headSize
-head-lines n = head-size n
+lines-in-head edition = ⊎-elim (λ e. rw e refl) (λ e. rw e refl) (bool-cases (hasHeld edition))
+
+-- its last lines are those of the counts
+pub count-field : (edition j : ℕ) → getD (networkLines edition) (headSize edition - length countLines + j) End ≡ getD countLines j End
+count-field edition j = ⊎-elim with without (bool-cases (hasHeld edition))
+  where
+    with : hasHeld edition ≡ true → getD (networkLines edition) (headSize edition - length countLines + j) End ≡ getD countLines j End
+    with e = let k : headSize edition - 3 + j ≡ suc (suc (suc (suc j))) = omega (arith, with-unit edition e) in rw (k, e) refl
+
+    without : hasHeld edition ≡ false → getD (networkLines edition) (headSize edition - length countLines + j) End ≡ getD countLines j End
+    without e = let k : headSize edition - 3 + j ≡ suc (suc (suc j)) = omega (arith, without-unit edition e) in rw (k, e) refl
+
+pub head-lines : (n : counts.Network) → linkAt n 0 ≡ length (networkLines (n .edition))
+head-lines n = head-size n ∙ lines-in-head (n .edition)
+
+pub head-there : (l : List ℕ) → linkAt (networkSizes l) 0 ≡ length (networkLines (at l 0))
+unfolding networkSizes
+head-there l = head-lines (networkSizes l)
+
+pub link-lines : (edition before : ℕ) → length (linkLines edition before) ≡ perLink edition
+unfolding perLink
+link-lines edition before = ⊎-elim (λ e. rw e refl) (λ e. rw e refl) (bool-cases (hasHeld edition))
 
 pub flow-lines : (edition : ℕ) → length (flowLines edition) ≡ perFlow edition
 unfolding perFlow
 flow-lines edition = ⊎-elim (λ e. rw e refl) (λ e. rw e refl) (bool-cases (hasNext edition))
 
-module _ (n : counts.Network) where
-  pub body-cap : (k j : ℕ) → k < n .links → j < perLink (n .edition) → networkBody n (linkAt n k + j) ≡ line "cap=" (Between 0 mostAmount)
+module _ (n : counts.Network) (before : ℕ) where
+  pub body-link : (k j : ℕ) → k < n .links → j < perLink (n .edition) → networkBody n before (linkAt n k + j) ≡ getD (linkLines (n .edition) before) j End
   unfolding networkBody
-  body-cap k j h g =
-      rw (lt-ltb (linkAt n k + j) (flowAt n 0) (omega (arith, link-at n k, before-end _ (link-some (n .edition)) k (n .links) j h g, flows-start n)))
+  body-link k j h g =
+      let x : linkAt n k + j < flowAt n 0 = omega (arith, link-at n k, before-end _ (link-some (n .edition)) k (n .links) j h g, flows-start n) in
+      let i : linkAt n k + j - linkAt n 0 ≡ perLink (n .edition) * k + j = omega (arith, link-at n k) in
+      let z : (linkAt n k + j - linkAt n 0) % length (linkLines (n .edition) before) ≡ j = rw (link-lines (n .edition) before, i) (in-group _ (link-some (n .edition)) k j g) in
+      rw (lt-ltb (linkAt n k + j) (flowAt n 0) x, z)
 
-  pub body-flow : (f j : ℕ) → f < n .flows → j < perFlow (n .edition) → networkBody n (flowAt n f + j) ≡ getD (flowLines (n .edition)) j End
+  pub body-flow : (f j : ℕ) → f < n .flows → j < perFlow (n .edition) → networkBody n before (flowAt n f + j) ≡ getD (flowLines (n .edition)) j End
   unfolding networkBody
   body-flow f j h k =
       let x : flowAt n 0 ≤ flowAt n f + j = omega (arith, flow-at n f) in
@@ -109,7 +133,7 @@ module _ (n : counts.Network) where
   flows-before : flowAt n 0 ≤ tunnelAt n 0
   flows-before = omega (arith, tunnels-start n)
 
-  pub body-tunnel : (t j : ℕ) → t < n .tunnels → j < length (tunnelLines n) → networkBody n (tunnelAt n t + j) ≡ getD (tunnelLines n) j End
+  pub body-tunnel : (t j : ℕ) → t < n .tunnels → j < length (tunnelLines n) → networkBody n before (tunnelAt n t + j) ≡ getD (tunnelLines n) j End
   unfolding networkBody
   body-tunnel t j h k =
       let x : flowAt n 0 ≤ tunnelAt n t + j = omega (arith, tunnel-at n t, flows-before) in
@@ -118,7 +142,7 @@ module _ (n : counts.Network) where
       let z : (tunnelAt n t + j - tunnelAt n 0) % length (tunnelLines n) ≡ j = omega (arith, tunnel-at n t) in
       rw (le-ltb (tunnelAt n t + j) (flowAt n 0) x, le-ltb (tunnelAt n t + j) (tunnelAt n 0) y, lt-ltb (tunnelAt n t + j) (networkSize n) w, z)
 
-  pub body-end : (i : ℕ) → networkSize n ≤ i → networkBody n i ≡ End
+  pub body-end : (i : ℕ) → networkSize n ≤ i → networkBody n before i ≡ End
   unfolding networkBody
   body-end i h =
       let y : tunnelAt n 0 ≤ i = omega (arith, tunnel-at n (n .tunnels)) in
@@ -127,31 +151,59 @@ module _ (n : counts.Network) where
 
   -- by what stands at a position
   module _ (i : ℕ) (r : Position) (s : StandsAt n i r) where
-    pub stands-link : (k j : ℕ) → r ≡ position.Link k j → networkBody n i ≡ line "cap=" (Between 0 mostAmount)
-    stands-link k j e = let p = subst (StandsAt n i) e s in ap (networkBody n) (p .2) ∙ body-cap k j (p .0) (p .1)
+    pub stands-link : (k j : ℕ) → r ≡ position.Link k j → networkBody n before i ≡ getD (linkLines (n .edition) before) j End
+    stands-link k j e = let p = subst (StandsAt n i) e s in ap (networkBody n before) (p .2) ∙ body-link k j (p .0) (p .1)
 
-    pub stands-flow : (f j : ℕ) → r ≡ position.Flow f j → networkBody n i ≡ getD (flowLines (n .edition)) j End
-    stands-flow f j e = let p = subst (StandsAt n i) e s in ap (networkBody n) (p .2) ∙ body-flow f j (p .0) (p .1)
+    pub stands-flow : (f j : ℕ) → r ≡ position.Flow f j → networkBody n before i ≡ getD (flowLines (n .edition)) j End
+    stands-flow f j e = let p = subst (StandsAt n i) e s in ap (networkBody n before) (p .2) ∙ body-flow f j (p .0) (p .1)
 
-    pub stands-tunnel : (t j : ℕ) → r ≡ position.Tunnel t j → networkBody n i ≡ getD (tunnelLines n) j End
-    stands-tunnel t j e = let p = subst (StandsAt n i) e s in ap (networkBody n) (p .2) ∙ body-tunnel t j (p .0) (p .1)
+    pub stands-tunnel : (t j : ℕ) → r ≡ position.Tunnel t j → networkBody n before i ≡ getD (tunnelLines n) j End
+    stands-tunnel t j e = let p = subst (StandsAt n i) e s in ap (networkBody n before) (p .2) ∙ body-tunnel t j (p .0) (p .1)
 
-    pub stands-past : r ≡ position.Past → networkBody n i ≡ End
+    pub stands-past : r ≡ position.Past → networkBody n before i ≡ End
     stands-past e = body-end i (subst (StandsAt n i) e s)
+
+-- the first field of a list, whatever its edition
+first-field : (l : List ℕ) → fieldOf Network (take 0 l) ≡ getD (networkLines (at l 0)) 0 End
+unfolding fieldOf
+first-field l = refl
 
 -- the field at an index of a list, in the head and after it
 module _ (l : List ℕ) (i : ℕ) (h : i ≤ length l) where
-  sizes-kept : length networkLines ≤ i → networkSizes (take i l) ≡ networkSizes l
-  unfolding networkSizes headSize
-  sizes-kept k = rw (getD-take i l 0 0 (omega arith), getD-take i l 3 0 (omega arith), getD-take i l 4 0 (omega arith), getD-take i l 5 0 (omega arith)) refl
+  edition-kept : 0 < i → at (take i l) 0 ≡ at l 0
+  edition-kept k = getD-take i l 0 0 k
 
-  pub network-head-field : i < length networkLines → fieldOf Network (take i l) ≡ getD networkLines i End
-  unfolding fieldOf
-  network-head-field k = rw (length-take-le i l h, lt-ltb i (length networkLines) k)
+  sizes-kept : length (networkLines (at l 0)) ≤ i → networkSizes (take i l) ≡ networkSizes l
+  unfolding networkSizes
+  sizes-kept k =
+      let long : headSize (at l 0) ≤ i = omega (arith, lines-in-head (at l 0), k) in
+      let some : 6 ≤ headSize (at l 0) = head-low (at l 0) in
+      rw (edition-kept (omega arith), getD-take i l (headSize (at l 0) - 3) 0 (omega arith), getD-take i l (headSize (at l 0) - 2) 0 (omega arith), getD-take i l (headSize (at l 0) - 1) 0 (omega arith)) refl
 
-  pub network-body-field : length networkLines ≤ i → fieldOf Network (take i l) ≡ networkBody (networkSizes l) i
+  -- by whether the head has so many lines
+  by-head : 0 < i → fieldOf Network (take i l)
+      ≡ cond (ltb i (length (networkLines (at l 0)))) (getD (networkLines (at l 0)) i End) (networkBody (networkSizes (take i l)) (at (take i l) (i - 1)) i)
   unfolding fieldOf
-  network-body-field k = rw (length-take-le i l h, sizes-kept k, le-ltb i (length networkLines) k)
+  by-head some =
+      ap₂ (λ (e j : ℕ). cond (ltb j (length (networkLines e))) (getD (networkLines e) j End) (networkBody (networkSizes (take i l)) (at (take i l) (j - 1)) j)) (edition-kept some) (length-take-le i l h)
+
+  in-head : 0 < i → i < length (networkLines (at l 0)) → fieldOf Network (take i l) ≡ getD (networkLines (at l 0)) i End
+  in-head some k =
+      by-head some ∙ ap (λ (b : Bool). cond b (getD (networkLines (at l 0)) i End) (networkBody (networkSizes (take i l)) (at (take i l) (i - 1)) i)) (lt-ltb i (length (networkLines (at l 0))) k)
+
+  pub network-head-field : i < length (networkLines (at l 0)) → fieldOf Network (take i l) ≡ getD (networkLines (at l 0)) i End
+  network-head-field k = go (decLt 0 i)
+    where
+      go : Dec (0 < i) → fieldOf Network (take i l) ≡ getD (networkLines (at l 0)) i End
+      go (yes some) = in-head some k
+      go (no first) = let e : i ≡ 0 = omega arith in rw e (first-field l)
+
+  pub network-body-field : length (networkLines (at l 0)) ≤ i → fieldOf Network (take i l) ≡ networkBody (networkSizes l) (at l (i - 1)) i
+  network-body-field k =
+      let some : 0 < i = omega (arith, lines-in-head (at l 0), head-low (at l 0), k) in
+      by-head some
+      ∙ ap (λ (b : Bool). cond b (getD (networkLines (at l 0)) i End) (networkBody (networkSizes (take i l)) (at (take i l) (i - 1)) i)) (le-ltb i (length (networkLines (at l 0))) k)
+      ∙ ap₂ (λ (n : counts.Network) (before : ℕ). networkBody n before i) (sizes-kept k) (getD-take i l (i - 1) 0 (omega arith))
 
   pub plan-head-field : i < length planLines → fieldOf Plan (take i l) ≡ getD planLines i End
   unfolding fieldOf
@@ -169,22 +221,50 @@ module _ (l : List ℕ) (i : ℕ) (h : i ≤ length l) where
   unfolding fieldOf
   rules-body-field k = rw (length-take-le i l h, le-ltb i (length rulesLines) k, getD-take i l 2 0 (omega arith), getD-take i l 3 0 (omega arith))
 
+-- the field after a list
+module _ (l : List ℕ) where
+  pub own-head : length l < length (networkLines (at l 0)) → fieldOf Network l ≡ getD (networkLines (at l 0)) (length l) End
+  unfolding fieldOf
+  own-head k = ap (λ (b : Bool). cond b (getD (networkLines (at l 0)) (length l) End) (networkBody (networkSizes l) (at l (length l - 1)) (length l))) (lt-ltb (length l) (length (networkLines (at l 0))) k)
+
+  pub own-body : length (networkLines (at l 0)) ≤ length l → fieldOf Network l ≡ networkBody (networkSizes l) (at l (length l - 1)) (length l)
+  unfolding fieldOf
+  own-body k = ap (λ (b : Bool). cond b (getD (networkLines (at l 0)) (length l) End) (networkBody (networkSizes l) (at l (length l - 1)) (length l))) (le-ltb (length l) (length (networkLines (at l 0))) k)
+
+-- before there is a number, the edition matters nothing
+pub no-head : (l : List ℕ) → length l ≡ 0 → getD (networkLines 0) (length l) End ≡ fieldOf Network l
+unfolding fieldOf
+no-head [] e = refl
+no-head (v ∷ l) e = absurd (omega arith)
+
 -- a sound network's number in the head, and after it
 module _ (l : List ℕ) (s : Sound Network l) where
-  pub network-head-at : (i : ℕ) → i < length l → i < length networkLines → T (allows (getD networkLines i End) (at l i))
+  pub network-head-at : (i : ℕ) → i < length l → i < length (networkLines (at l 0)) → T (allows (getD (networkLines (at l 0)) i End) (at l i))
   network-head-at i h k = rw (network-head-field l i (le-of-lt h) k) at (sound-at Network l i h s)
 
-  pub network-body-at : (i : ℕ) → i < length l → length networkLines ≤ i → T (allows (networkBody (networkSizes l) i) (at l i))
+  pub network-body-at : (i : ℕ) → i < length l → length (networkLines (at l 0)) ≤ i → T (allows (networkBody (networkSizes l) (at l (i - 1)) i) (at l i))
   network-body-at i h k = rw (network-body-field l i (le-of-lt h) k) at (sound-at Network l i h s)
 
 -- what the lines of a head say of the counts
-pub limited : (l : List ℕ) → ((i : ℕ) → i < length networkLines → T (allows (getD networkLines i End) (at l i))) → (1 ≤ networkSizes l .links) × Limited (networkSizes l)
-unfolding networkSizes headSize
-limited l t =
-    let k = between 1 mostLinks (at l 3) (t 3 (omega arith)) in
-    (k .0, record { links = k .1; flows = between 0 mostFlows (at l 4) (t 4 (omega arith)) .1; tunnels = between 0 mostTunnels (at l 5) (t 5 (omega arith)) .1 })
+abbrev pub InHead : List ℕ → Type 0
+InHead l = (i : ℕ) → i < length (networkLines (at l 0)) → T (allows (getD (networkLines (at l 0)) i End) (at l i))
 
-pub head-of-network : (l : List ℕ) → Sound Network l → length networkLines ≤ length l → Limited (networkSizes l)
+module _ (l : List ℕ) (t : InHead l) where
+  count-line : (j : ℕ) → j < length countLines → T (allows (getD countLines j End) (at l (headSize (at l 0) - length countLines + j)))
+  count-line j h = rw (count-field (at l 0) j) at (t (headSize (at l 0) - length countLines + j) (omega (arith, lines-in-head (at l 0), head-low (at l 0))))
+
+  pub limited : (1 ≤ networkSizes l .links) × Limited (networkSizes l)
+  unfolding networkSizes
+  limited =
+      let h : ℕ = headSize (at l 0) in
+      let low = head-low (at l 0) in
+      let zero′ : h - 3 + 0 ≡ h - 3 = omega arith in
+      let one : h - 3 + 1 ≡ h - 2 = omega (arith, low) in
+      let two : h - 3 + 2 ≡ h - 1 = omega (arith, low) in
+      let k = between 1 mostLinks (at l (h - 3)) (rw zero′ at (count-line 0 (omega arith))) in
+      (k .0, record { links = k .1; flows = between 0 mostFlows (at l (h - 2)) (rw one at (count-line 1 (omega arith))) .1; tunnels = between 0 mostTunnels (at l (h - 1)) (rw two at (count-line 2 (omega arith))) .1 })
+
+pub head-of-network : (l : List ℕ) → Sound Network l → length (networkLines (at l 0)) ≤ length l → Limited (networkSizes l)
 head-of-network l s h = limited l (λ i k. network-head-at l s i (omega arith) k) .1
 
 -- ---- the plan's fields
@@ -255,8 +335,8 @@ full : (form : Form) (l : List ℕ) → Sound form l → mostOf form ≤ length 
 unfolding fieldOf
 full Network l s h =
     let n = networkSizes l in
-    let w : length networkLines ≤ length l = omega (arith, head-lines n, head-most n) in
-    rw (le-ltb (length l) (length networkLines) w) (body-end n (length l) (omega (arith, most-network n (head-of-network l s w))))
+    let w : length (networkLines (at l 0)) ≤ length l = omega (arith, head-there l, head-most n) in
+    rw (le-ltb (length l) (length (networkLines (at l 0))) w) (body-end n (at l (length l - 1)) (length l) (omega (arith, most-network n (head-of-network l s w))))
 full Plan l s h =
     let b = head-of-plan l s (omega arith) in
     let x : planSize (planSizes l) ≤ length l = omega (arith, plan-most (planSizes l) (b .steps .1) (b .tunnels)) in
@@ -312,13 +392,51 @@ lit n t = leb→le n (mostAmount * mostSteps) t
 low-flow : (edition : ℕ) → Lows (flowLines edition)
 low-flow edition = (lit 2 tt, (lit mostAmount tt, ⊎-elim (λ e. rw e (lit mostAmount tt, tt)) (λ e. rw e tt) (bool-cases (hasNext edition))))
 
-low-body : (n : counts.Network) (i : ℕ) → Limited n → Low (networkBody n i)
-unfolding networkBody
-low-body n i h =
-    low-cond (ltb i (flowAt n 0)) (line "cap=" (Between 0 mostAmount)) _ (lit mostAmount tt)
-    (low-cond (ltb i (tunnelAt n 0)) (getD (flowLines (n .edition)) ((i - flowAt n 0) % length (flowLines (n .edition))) End) _ (low-at (flowLines (n .edition)) ((i - flowAt n 0) % length (flowLines (n .edition))) (low-flow (n .edition)))
-    (low-cond (ltb i (networkSize n)) (getD (tunnelLines n) ((i - tunnelAt n 0) % 4) End) End
-    (low-at (tunnelLines n) ((i - tunnelAt n 0) % 4) (omega arith, (h .links, (lit mostAmount tt, (lit mostAmount tt, tt))))) tt))
+low-head : (edition : ℕ) → Lows (networkLines edition)
+low-head edition =
+    let counts : Lows countLines = (lit mostLinks tt, (lit mostFlows tt, (lit mostTunnels tt, tt))) in
+    (lit newestEdition tt, (lit mostShare tt, (lit mostShare tt, ⊎-elim (λ e. rw e (lit 1 tt, counts)) (λ e. rw e counts) (bool-cases (hasHeld edition)))))
+
+low-link : (edition before : ℕ) → before ≤ mostAmount → Lows (linkLines edition before)
+low-link edition before h = (lit mostAmount tt, ⊎-elim (λ e. rw e (omega (arith, h), tt)) (λ e. rw e tt) (bool-cases (hasHeld edition)))
+
+module _ (l : List ℕ) (s : Sound Network l) (long : length (networkLines (at l 0)) ≤ length l) where
+  abbrev sizes : counts.Network
+  sizes = networkSizes l
+
+  abbrev last : ℕ
+  last = at l (length l - 1)
+
+  -- after a link's capacity the number before is no more than the largest amount
+  after-cap : (k : ℕ) → k < sizes .links → length l ≡ linkAt sizes k + 1 → last ≤ mostAmount
+  after-cap k h i =
+      let e : length l - 1 ≡ linkAt sizes k + 0 = omega (arith, i) in
+      let t = network-body-at l s (length l - 1) (omega (arith, i)) (omega (arith, i, head-there l, link-at sizes k)) in
+      let before = at l (length l - 1 - 1) in
+      between 0 mostAmount last (rw (ap (networkBody sizes before) e ∙ body-link sizes before k 0 h (link-some (sizes .edition))) at t) .1
+
+  low-number : (k j : ℕ) → k < sizes .links → j < perLink (sizes .edition) → length l ≡ linkAt sizes k + j → Low (getD (linkLines (sizes .edition) last) j End)
+  low-number k zero h g i = lit mostAmount tt
+  low-number k (suc zero) h g i = low-at (linkLines (sizes .edition) last) 1 (low-link (sizes .edition) last (after-cap k h i))
+  low-number k (suc (suc j)) h g i = absurd (omega (arith, link-most (sizes .edition)))
+
+  low-links : length l < flowAt sizes 0 → Low (networkBody sizes last (length l))
+  low-links h =
+      let x = grouped (perLink (sizes .edition)) (link-some (sizes .edition)) (linkAt sizes 0) (sizes .links) (length l) (omega (arith, long, head-there l)) (omega (arith, flows-start sizes, h)) in
+      let i : length l ≡ linkAt sizes (x .group) + x .number = omega (arith, x .here, link-at sizes (x .group)) in
+      rw (ap (networkBody sizes last) i ∙ body-link sizes last (x .group) (x .number) (x .there) (x .within)) (low-number (x .group) (x .number) (x .there) (x .within) i)
+
+  low-rest : flowAt sizes 0 ≤ length l → Limited sizes → Low (networkBody sizes last (length l))
+  unfolding networkBody
+  low-rest h few =
+      rw (le-ltb (length l) (flowAt sizes 0) h)
+      (low-cond (ltb (length l) (tunnelAt sizes 0)) (getD (flowLines (sizes .edition)) ((length l - flowAt sizes 0) % length (flowLines (sizes .edition))) End) _ (low-at (flowLines (sizes .edition)) ((length l - flowAt sizes 0) % length (flowLines (sizes .edition))) (low-flow (sizes .edition)))
+      (low-cond (ltb (length l) (networkSize sizes)) (getD (tunnelLines sizes) ((length l - tunnelAt sizes 0) % 4) End) End
+      (low-at (tunnelLines sizes) ((length l - tunnelAt sizes 0) % 4) (omega (arith, few .flows), (few .links, (lit mostAmount tt, (lit mostAmount tt, tt))))) tt))
+
+  low-body : Dec (length l < flowAt sizes 0) → Low (networkBody sizes last (length l))
+  low-body (yes h) = low-links h
+  low-body (no h) = low-rest (omega arith) (head-of-network l s long)
 
 low-rules : (n : RuleTables) (i : ℕ) → n .switches ≤ mostSwitches → Low (rulesBody n i)
 unfolding rulesBody
@@ -328,15 +446,13 @@ low-rules n i h =
 
 low-field : (form : Form) (l : List ℕ) → Sound form l → Low (fieldOf form l)
 unfolding fieldOf
-low-field Network l s = go (decLt (length l) (length networkLines))
+low-field Network l s = go (decLt (length l) (length (networkLines (at l 0))))
   where
-    go : Dec (length l < length networkLines) → Low (fieldOf Network l)
-    go (yes h) =
-        rw (lt-ltb (length l) (length networkLines) h)
-        (low-at networkLines (length l) (lit newestEdition tt, (lit mostShare tt, (lit mostShare tt, (lit mostLinks tt, (lit mostFlows tt, (lit mostTunnels tt, tt)))))))
+    go : Dec (length l < length (networkLines (at l 0))) → Low (fieldOf Network l)
+    go (yes h) = rw (lt-ltb (length l) (length (networkLines (at l 0))) h) (low-at (networkLines (at l 0)) (length l) (low-head (at l 0)))
     go (no h) =
-        let k : length networkLines ≤ length l = omega arith in
-        rw (le-ltb (length l) (length networkLines) k) (low-body (networkSizes l) (length l) (head-of-network l s k))
+        let k : length (networkLines (at l 0)) ≤ length l = omega arith in
+        rw (le-ltb (length l) (length (networkLines (at l 0))) k) (low-body l s k (decLt (length l) (flowAt (networkSizes l) 0)))
 low-field Plan l s = go (decLt (length l) 4)
   where
     go : Dec (length l < 4) → Low (fieldOf Plan l)

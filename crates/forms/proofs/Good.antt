@@ -15,19 +15,20 @@ use Rattle.model.specs.Limits.{mostTunnels, mostSteps, mostAmount, newestEditio
 use Rattle.model.specs.Outcome.{good, Cause, unless, Place}
 use Rattle.model.specs.Rule as rule
 use Rattle.model.specs.Claim.{Valid}
-use Rattle.lists.specs.Lists.{at, hasNext, perFlow, nextIn, networkSizes, linkAt, flowAt, tunnelAt, networkSize, networkOf, planSizes, planSize}
+use Rattle.lists.specs.Lists.{at, hasNext, hasHeld, perLink, perFlow, nextIn, networkSizes, linkAt, flowAt, tunnelAt, networkSize, heldOf, networkOf, planSizes, planSize}
 use Rattle.lists.specs.Good.{NetworkRanges, GoodNetwork, GoodPlan}
 use Rattle.lists.specs.declared.Network as counts
-use Rattle.lists.proofs.Positions.{link-some, flow-some, next-last, link-after, flow-after, tunnel-after, each-number, link-in, flow-in, tunnel-in}
+use Rattle.lists.proofs.Positions.{two-a-link, link-some, flow-some, next-last, link-after, flow-after, tunnel-after, each-number, link-in, flow-in, tunnel-in}
+use Rattle.lists.proofs.Held.{with-held, without-held}
 use Rattle.forms.specs.Keys.{keys, placeIn}
-use Rattle.forms.specs.Form.{line, planBody, Sound, Whole, allows, fieldOf, networkLines, flowLines, tunnelLines, planLines, networkBody}
+use Rattle.forms.specs.Form.{line, planBody, Sound, Whole, allows, fieldOf, networkLines, linkLines, flowLines, tunnelLines, planLines, networkBody}
 use Rattle.forms.specs.Read.{addUp}
 use Rattle.forms.specs.declared.form.Form.the-variants.{Network, Plan}
 use Rattle.forms.specs.declared.form.Range.the-variants.{Between}
 use Rattle.forms.specs.declared.form.Field.{Field}
 use Rattle.forms.specs.declared.form.Field.the-variants.{Line, End}
 use Rattle.model.proofs.Searches.{both, bool-cases}
-use Rattle.forms.proofs.Forms.{between, in-between, head-lines, flow-lines, network-head-at, network-body-at, plan-head-at, plan-body-at, limited, body-cap, body-flow, body-tunnel, body-end, plan-head-field, plan-body-field}
+use Rattle.forms.proofs.Forms.{between, in-between, InHead, own-head, own-body, head-there, link-lines, flow-lines, network-head-at, network-body-at, plan-head-at, plan-body-at, limited, body-link, body-flow, body-tunnel, body-end, plan-head-field, plan-body-field}
 use Rattle.forms.proofs.Walks.{judged-good, good-judged}
 use Rattle.forms.specs.Named.{judgeNetwork, judgePlan}
 
@@ -65,6 +66,12 @@ zero-or-in low high (suc v) t = inr (between low high (suc v) (rw (eqb·suc-zero
 
 -- ---- the network
 
+all-head : (edition : ℕ) → AllLines (networkLines edition)
+all-head edition = (tt, (tt, (tt, ⊎-elim (λ e. rw e (tt, (tt, (tt, (tt, tt))))) (λ e. rw e (tt, (tt, (tt, tt)))) (bool-cases (hasHeld edition)))))
+
+all-link : (edition before : ℕ) → AllLines (linkLines edition before)
+all-link edition before = (tt, ⊎-elim (λ e. rw e (tt, tt)) (λ e. rw e tt) (bool-cases (hasHeld edition)))
+
 all-flow : (edition : ℕ) → AllLines (flowLines edition)
 all-flow edition = (tt, (tt, ⊎-elim (λ e. rw e (tt, tt)) (λ e. rw e tt) (bool-cases (hasNext edition))))
 
@@ -73,36 +80,35 @@ pub last-line : (edition : ℕ) → allows (getD (flowLines edition) (nextIn edi
 unfolding nextIn perFlow
 last-line edition = ⊎-elim (λ e. rw e refl) (λ e. rw e refl) (bool-cases (hasNext edition))
 
-module _ (n : counts.Network) where
+module _ (n : counts.Network) (before : ℕ) where
   -- where the form has an end, it is past the last number
-  body-ends : (i : ℕ) → linkAt n 0 ≤ i → networkBody n i ≡ End → networkSize n ≤ i
+  body-ends : (i : ℕ) → linkAt n 0 ≤ i → networkBody n before i ≡ End → networkSize n ≤ i
   body-ends i h e = go (decLt i (networkSize n))
     where
       go : Dec (i < networkSize n) → networkSize n ≤ i
       go (yes k) =
-          absurd (each-number n (λ m. networkBody n m ≡ End → ⊥)
-          (λ l j k g x. let z : _≡_ {A = ℕ} 0 1 = cc (body-cap n l j k g) in omega arith)
-          (λ f j k g x. lines-no-end (flowLines (n .edition)) j (all-flow (n .edition)) (omega (arith, flow-lines (n .edition))) (sym (body-flow n f j k g) ∙ x))
-          (λ t j k g x. lines-no-end (tunnelLines n) j (tt, (tt, (tt, (tt, tt)))) g (sym (body-tunnel n t j k g) ∙ x)) i h k e)
+          absurd (each-number n (λ m. networkBody n before m ≡ End → ⊥)
+          (λ l j k g x. lines-no-end (linkLines (n .edition) before) j (all-link (n .edition) before) (omega (arith, link-lines (n .edition) before)) (sym (body-link n before l j k g) ∙ x))
+          (λ f j k g x. lines-no-end (flowLines (n .edition)) j (all-flow (n .edition)) (omega (arith, flow-lines (n .edition))) (sym (body-flow n before f j k g) ∙ x))
+          (λ t j k g x. lines-no-end (tunnelLines n) j (tt, (tt, (tt, (tt, tt)))) g (sym (body-tunnel n before t j k g) ∙ x)) i h k e)
       go (no k) = omega arith
 
 module _ (l : List ℕ) (w : Whole Network l) where
   abbrev sizes : counts.Network
   sizes = networkSizes l
 
-  network-long : length networkLines ≤ length l
-  unfolding fieldOf
-  network-long = go (decLt (length l) (length networkLines))
-    where
-      go : Dec (length l < length networkLines) → length networkLines ≤ length l
-      go (yes h) = absurd (lines-no-end networkLines (length l) (tt, (tt, (tt, (tt, (tt, (tt, tt)))))) h (rw (lt-ltb (length l) (length networkLines) h) at (w .ends)))
-      go (no h) = omega arith
+  -- the number before position i
+  abbrev before : ℕ → ℕ
+  before i = at l (i - 1)
 
-  network-body-ends : networkBody sizes (length l) ≡ End
-  unfolding fieldOf
-  network-body-ends = rw (le-ltb (length l) (length networkLines) network-long) at (w .ends)
+  network-ends : Dec (length l < length (networkLines (at l 0))) → (length (networkLines (at l 0)) ≤ length l) × (networkBody sizes (before (length l)) (length l) ≡ End)
+  network-ends (yes h) = absurd (lines-no-end (networkLines (at l 0)) (length l) (all-head (at l 0)) h (sym (own-head l h) ∙ w .ends))
+  network-ends (no h) = let long : length (networkLines (at l 0)) ≤ length l = omega arith in (long, sym (own-body l long) ∙ w .ends)
 
-  head-line : (i : ℕ) → i < length networkLines → T (allows (getD networkLines i End) (at l i))
+  network-long : length (networkLines (at l 0)) ≤ length l
+  network-long = network-ends (decLt _ _) .0
+
+  head-line : InHead l
   head-line i h = network-head-at l (w .sound) i (omega (arith, network-long)) h
 
   pub network-size : length l ≡ networkSize sizes
@@ -110,27 +116,42 @@ module _ (l : List ℕ) (w : Whole Network l) where
     where
       go : Dec (networkSize sizes < length l) → length l ≡ networkSize sizes
       go (yes h) =
-          let e : networkBody sizes (networkSize sizes) ≡ End = body-end sizes (networkSize sizes) (omega arith) in
-          absurd (rw e at (network-body-at l (w .sound) (networkSize sizes) h (omega (arith, head-lines sizes, tunnel-after sizes (sizes .tunnels)))))
-      go (no h) = omega (arith, body-ends sizes (length l) (omega (arith, head-lines sizes, network-long)) network-body-ends)
+          let e : networkBody sizes (before (networkSize sizes)) (networkSize sizes) ≡ End = body-end sizes (before (networkSize sizes)) (networkSize sizes) (omega arith) in
+          absurd (rw e at (network-body-at l (w .sound) (networkSize sizes) h (omega (arith, head-there l, tunnel-after sizes (sizes .tunnels)))))
+      go (no h) = omega (arith, body-ends sizes (before (length l)) (length l) (omega (arith, head-there l, network-long)) (network-ends (decLt _ _) .1))
 
-  body-line : (i : ℕ) → linkAt sizes 0 ≤ i → i < length l → T (allows (networkBody sizes i) (at l i))
-  body-line i h k = network-body-at l (w .sound) i k (omega (arith, head-lines sizes))
+  body-line : (i : ℕ) → linkAt sizes 0 ≤ i → i < length l → T (allows (networkBody sizes (before i) i) (at l i))
+  body-line i h k = network-body-at l (w .sound) i k (omega (arith, head-there l))
 
-  cap-line : (k : ℕ) → k < sizes .links → T (allows (line "cap=" (Between 0 mostAmount)) (at l (linkAt sizes k)))
+  link-line : (k j : ℕ) → k < sizes .links → j < perLink (sizes .edition)
+      → T (allows (getD (linkLines (sizes .edition) (before (linkAt sizes k + j))) j End) (at l (linkAt sizes k + j)))
+  link-line k j h g = rw (body-link sizes _ k j h g) at (body-line (linkAt sizes k + j) (omega (arith, link-after sizes k)) (link-in l network-size k j h g))
+
+  cap-line : (k : ℕ) → k < sizes .links → at l (linkAt sizes k) ≤ mostAmount
   cap-line k h =
       let e : linkAt sizes k + 0 ≡ linkAt sizes k = omega arith in
-      rw (rw e at (body-cap sizes k 0 h (link-some (sizes .edition)))) at (body-line (linkAt sizes k) (link-after sizes k) (link-in l network-size k h))
+      between 0 mostAmount _ (rw e at (link-line k 0 h (link-some (sizes .edition)))) .1
+
+  held-line : (k : ℕ) → k < sizes .links → heldOf l k ≤ at l (linkAt sizes k)
+  held-line k h = ⊎-elim with without (bool-cases (hasHeld (sizes .edition)))
+    where
+      with : hasHeld (sizes .edition) ≡ true → heldOf l k ≤ at l (linkAt sizes k)
+      with e =
+          let i : linkAt sizes k + 1 - 1 ≡ linkAt sizes k = omega arith in
+          rw (with-held l k e) (between 0 (at l (linkAt sizes k)) _ (rw (e, i) at (link-line k 1 h (omega (arith, two-a-link (sizes .edition) e)))) .1)
+
+      without : hasHeld (sizes .edition) ≡ false → heldOf l k ≤ at l (linkAt sizes k)
+      without e = omega (arith, without-held l k e)
 
   flow-line : (f j : ℕ) → f < sizes .flows → j < perFlow (sizes .edition) → T (allows (getD (flowLines (sizes .edition)) j End) (at l (flowAt sizes f + j)))
-  flow-line f j h k = rw (body-flow sizes f j h k) at (body-line (flowAt sizes f + j) (omega (arith, flow-after sizes f)) (flow-in l network-size f j h k))
+  flow-line f j h k = rw (body-flow sizes _ f j h k) at (body-line (flowAt sizes f + j) (omega (arith, flow-after sizes f)) (flow-in l network-size f j h k))
 
   next-line : (f : ℕ) → f < sizes .flows → at l (flowAt sizes f + nextIn (sizes .edition)) ≤ mostAmount
   next-line f h = between 0 mostAmount _ (rw (last-line (sizes .edition)) at (flow-line f (nextIn (sizes .edition)) h (next-last (sizes .edition)))) .1
 
   tunnel-line : (t j : ℕ) → t < sizes .tunnels → j < length (tunnelLines sizes) → T (allows (getD (tunnelLines sizes) j End) (at l (tunnelAt sizes t + j)))
   tunnel-line t j h k =
-      rw (body-tunnel sizes t j h k) at (body-line (tunnelAt sizes t + j) (omega (arith, tunnel-after sizes t)) (omega (arith, tunnel-in l network-size t h)))
+      rw (body-tunnel sizes _ t j h k) at (body-line (tunnelAt sizes t + j) (omega (arith, tunnel-after sizes t)) (omega (arith, tunnel-in l network-size t h)))
 
   pub network-ranges : NetworkRanges l
   network-ranges =
@@ -140,7 +161,7 @@ module _ (l : List ℕ) (w : Whole Network l) where
         overrun = zero-or-in leastShare mostShare (at l 2) (head-line 2 (omega arith));
         sized = record { counts = limited l head-line .1; size = network-size };
         some = limited l head-line .0;
-        links = record { cap = λ k h. between 0 mostAmount _ (cap-line k h) .1 };
+        links = record { cap = cap-line; held = held-line };
         flows = record {
           class = λ f h. let e : flowAt sizes f + 0 ≡ flowAt sizes f = omega arith in between 0 2 _ (rw e at (flow-line f 0 h (omega (arith, flow-some (sizes .edition))))) .1;
           rate = λ f h. between 0 mostAmount _ (flow-line f 1 h (omega (arith, flow-some (sizes .edition)))) .1;

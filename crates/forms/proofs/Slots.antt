@@ -29,10 +29,10 @@ same-eq (x ∷ xs) (y ∷ ys) t =
     ap (λ (a : ℕ). a ∷ xs) (eqb→eq x y (p .0)) ∙ ap (λ (l : List ℕ). y ∷ l) (same-eq xs ys (p .1))
 
 right : ℕ → ℕ → Bool
-right k n = leb (k * 10 + slotLength k) 230 && same (take (slotLength k) (drop (k * 10) keyBytes)) (prefixOf k)
+right k n = leb (k * 10 + slotLength k) 250 && same (take (slotLength k) (drop (k * 10) keyBytes)) (prefixOf k)
 
-pub slot : (k : ℕ) → k < 23 → (k * 10 + slotLength k ≤ 230) × (take (slotLength k) (drop (k * 10) keyBytes) ≡ prefixOf k)
+pub slot : (k : ℕ) → k < 25 → (k * 10 + slotLength k ≤ 250) × (take (slotLength k) (drop (k * 10) keyBytes) ≡ prefixOf k)
 unfolding right
 slot k h =
-    let p = both (leb (k * 10 + slotLength k) 230) (same (take (slotLength k) (drop (k * 10) keyBytes)) (prefixOf k)) (at right (replicate 23 0) tt k h) in
+    let p = both (leb (k * 10 + slotLength k) 250) (same (take (slotLength k) (drop (k * 10) keyBytes)) (prefixOf k)) (at right (replicate 25 0) tt k h) in
     (leb→le _ _ (p .0), same-eq _ _ (p .1))

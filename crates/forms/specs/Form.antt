@@ -6,7 +6,7 @@ use mathlib.Core.List.{List, [], _∷_}
 use lib.ListN.{length, getD, take}
 use lib.Dec.{T, eqb, leb, ltb}
 use Rattle.model.specs.Limits.{mostLinks, mostFlows, mostTunnels, mostSteps, mostAmount, newestEdition, leastShare, mostShare, mostSwitches, mostRoom}
-use Rattle.lists.specs.Lists.{hasNext, networkSizes, flowAt, tunnelAt, planSizes, tableSizes, ruleAt, tablesSize, mostNetwork, mostPlan, mostTables, rowAt}
+use Rattle.lists.specs.Lists.{at, hasNext, hasHeld, networkSizes, linkAt, flowAt, tunnelAt, planSizes, tableSizes, ruleAt, tablesSize, mostNetwork, mostPlan, mostTables, rowAt}
 use Rattle.lists.specs.declared.Network.{Network}
 use Rattle.lists.specs.declared.PlanSizes.{PlanSizes}
 use Rattle.lists.specs.declared.RuleTables.{RuleTables}
@@ -52,12 +52,22 @@ isHex (Set n) = true
 abbrev pub line : String → Range → Field
 line key range = Line (placeIn keys key) range
 
--- "`net` 1", since the second paper also 2; "`scratch` 20..500; `overrun` 0 or 20..500; `links` 1..64; `flows` 0..32; `tunnels` 0..96"
-abbrev pub networkLines : List Field
-networkLines =
-    line "net=" (Between 1 newestEdition)
-    ∷ line "scratch=" (Between leastShare mostShare) ∷ line "overrun=" (ZeroOr leastShare mostShare)
-    ∷ line "links=" (Between 1 mostLinks) ∷ line "flows=" (Between 0 mostFlows) ∷ line "tunnels=" (Between 0 mostTunnels) ∷ []
+-- "`links` 1..64; `flows` 0..32; `tunnels` 0..96"
+abbrev pub countLines : List Field
+countLines = line "links=" (Between 1 mostLinks) ∷ line "flows=" (Between 0 mostFlows) ∷ line "tunnels=" (Between 0 mostTunnels) ∷ []
+
+-- before them, in edition 3, "`unit` 0 or 1 after `overrun`"
+abbrev pub unitLines : ℕ → List Field
+unitLines edition = cond (hasHeld edition) (line "unit=" (Between 0 1) ∷ countLines) countLines
+
+-- "`net` 1", since the second paper up to 3; "`scratch` 20..500; `overrun` 0 or 20..500"
+abbrev pub networkLines : ℕ → List Field
+networkLines edition =
+    line "net=" (Between 1 newestEdition) ∷ line "scratch=" (Between leastShare mostShare) ∷ line "overrun=" (ZeroOr leastShare mostShare) ∷ unitLines edition
+
+-- "for each link: `cap` 0..10,000,000", in edition 3 "with `held` 0..cap after each `cap`": after the number before
+abbrev pub linkLines : ℕ → ℕ → List Field
+linkLines edition before = line "cap=" (Between 0 mostAmount) ∷ cond (hasHeld edition) (line "held=" (Between 0 before) ∷ []) []
 
 -- "for each flow: `class` 0 interactive, 1 elastic, 2 background; `rate` 0..10,000,000", which "is followed by `next`, with the same range", where there is one
 abbrev pub flowLines : ℕ → List Field
@@ -68,10 +78,10 @@ abbrev pub tunnelLines : Network → List Field
 tunnelLines n =
     line "flow=" (Below (n .flows)) ∷ line "via=" (Set (n .links)) ∷ line "old=" (Between 0 mostAmount) ∷ line "new=" (Between 0 mostAmount) ∷ []
 
--- "for each link: `cap` 0..10,000,000"; then the lines of the flows, then those of the tunnels: at position i
-unfoldable pub networkBody : Network → ℕ → Field
-networkBody n i =
-    cond (ltb i (flowAt n 0)) (line "cap=" (Between 0 mostAmount))
+-- the lines of the links, then those of the flows, then those of the tunnels: after the number before, at position i
+unfoldable pub networkBody : Network → ℕ → ℕ → Field
+networkBody n before i =
+    cond (ltb i (flowAt n 0)) (getD (linkLines (n .edition) before) ((i - linkAt n 0) % length (linkLines (n .edition) before)) End)
     (cond (ltb i (tunnelAt n 0)) (getD (flowLines (n .edition)) ((i - flowAt n 0) % length (flowLines (n .edition))) End)
     (cond (ltb i (tunnelAt n (n .tunnels))) (getD (tunnelLines n) ((i - tunnelAt n 0) % length (tunnelLines n)) End) End))
 
@@ -104,7 +114,8 @@ rulesBody n i =
 -- the line that stands after some numbers
 unfoldable pub fieldOf : Form → List ℕ → Field
 unfolding networkBody rulesBody
-fieldOf network l = cond (ltb (length l) (length networkLines)) (getD networkLines (length l) End) (networkBody (networkSizes l) (length l))
+fieldOf network l =
+    cond (ltb (length l) (length (networkLines (at l 0)))) (getD (networkLines (at l 0)) (length l) End) (networkBody (networkSizes l) (at l (length l - 1)) (length l))
 fieldOf plan l = cond (ltb (length l) (length planLines)) (getD planLines (length l) End) (planBody (planSizes l) (length l))
 fieldOf rules l = cond (ltb (length l) (length rulesLines)) (getD rulesLines (length l) End) (rulesBody (tableSizes l) (length l))
 

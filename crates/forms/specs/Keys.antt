@@ -12,7 +12,7 @@ abbrev pub keys : List String
 keys =
     "net=" ∷ "scratch=" ∷ "overrun=" ∷ "links=" ∷ "flows=" ∷ "tunnels=" ∷ "cap=" ∷ "class=" ∷ "rate="
     ∷ "flow=" ∷ "via=" ∷ "old=" ∷ "new=" ∷ "plan=" ∷ "parts=" ∷ "steps=" ∷ "at="
-    ∷ "rules=" ∷ "slack=" ∷ "switches=" ∷ "room=" ∷ "kind=" ∷ "next=" ∷ []
+    ∷ "rules=" ∷ "slack=" ∷ "switches=" ∷ "room=" ∷ "kind=" ∷ "next=" ∷ "unit=" ∷ "held=" ∷ []
 
 -- the place of a text in a list: a key is known by its place among the keys
 abbrev pub placeIn : List String → String → ℕ

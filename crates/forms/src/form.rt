@@ -7,7 +7,7 @@ ghost use Rattle.lists.specs.Lists.{linkAt};
 ghost use Rattle.lists.specs.Good.{Limited};
 ghost use Rattle.forms.specs.Keys.{prefixOf};
 ghost use Rattle.forms.specs.Slots.{keyBytes};
-ghost use Rattle.forms.specs.Form.{fieldOf, networkBody, rulesBody, admitsOf, isHex, secondOf, hasRemarks, Sound, networkLines, flowLines, tunnelLines, planLines, rulesLines, ruleLines};
+ghost use Rattle.forms.specs.Form.{fieldOf, networkBody, rulesBody, admitsOf, isHex, secondOf, hasRemarks, Sound, countLines, unitLines, networkLines, linkLines, flowLines, tunnelLines, planLines, rulesLines, ruleLines};
 use lists::Network;
 use lists::PlanSizes;
 use lists::Position;
@@ -84,16 +84,20 @@ const KIND: usize = 21;
 
 const NEXT: usize = 22;
 
+const UNIT: usize = 23;
+
+const HELD: usize = 24;
+
 // The keys' bytes with `=`, each in 10 bytes, of which the last says how many the key has.
-pub const KEYS: [u8; 230] =
-    *b"net=\0\0\0\0\0\x04scratch=\0\x08overrun=\0\x08links=\0\0\0\x06flows=\0\0\0\x06tunnels=\0\x08cap=\0\0\0\0\0\x04class=\0\0\0\x06rate=\0\0\0\0\x05flow=\0\0\0\0\x05via=\0\0\0\0\0\x04old=\0\0\0\0\0\x04new=\0\0\0\0\0\x04plan=\0\0\0\0\x05parts=\0\0\0\x06steps=\0\0\0\x06at=\0\0\0\0\0\0\x03rules=\0\0\0\x06slack=\0\0\0\x06switches=\x09room=\0\0\0\0\x05kind=\0\0\0\0\x05next=\0\0\0\0\x05";
+pub const KEYS: [u8; 250] =
+    *b"net=\0\0\0\0\0\x04scratch=\0\x08overrun=\0\x08links=\0\0\0\x06flows=\0\0\0\x06tunnels=\0\x08cap=\0\0\0\0\0\x04class=\0\0\0\x06rate=\0\0\0\0\x05flow=\0\0\0\0\x05via=\0\0\0\0\0\x04old=\0\0\0\0\0\x04new=\0\0\0\0\0\x04plan=\0\0\0\0\x05parts=\0\0\0\x06steps=\0\0\0\x06at=\0\0\0\0\0\0\x03rules=\0\0\0\x06slack=\0\0\0\x06switches=\x09room=\0\0\0\0\x05kind=\0\0\0\0\x05next=\0\0\0\0\x05unit=\0\0\0\0\x05held=\0\0\0\0\x05";
 
 // What stands before a value, the key and `=`: a part of the table of keys, which the caller has copied once.
 pub fn key_part<'a>(keys: &'a [u8], key: usize) -> &'a [u8]
     requires { ⌜ now keys ≡ keyBytes ⌝ }
     ensures { λ r. ⌜ now r ≡ prefixOf key ⌝ }
 {
-    if key < 23 {
+    if key < 25 {
         let from = key * 10;
         let to = from + keys[from + 9] as usize;
         &keys[from..to]
@@ -124,9 +128,34 @@ pub fn has_remarks(form: Form) -> bool
     }
 }
 
+// The line at place n of those of the counts.
+fn count_group(n: usize) -> Field
+    ensures { λ r. ⌜ r ≡ getD countLines n Field.End ⌝ }
+{
+    match n {
+        0 => Field::Line(LINKS, Range::Between(1, Network::LINKS)),
+        1 => Field::Line(FLOWS, Range::Between(0, Network::FLOWS)),
+        2 => Field::Line(TUNNELS, Range::Between(0, Network::TUNNELS)),
+        _ => Field::End,
+    }
+}
+
+// The line at place n of the head's after the overrun.
+fn unit_group(edition: u64, n: usize) -> Field
+    ensures { λ r. ⌜ r ≡ getD (unitLines edition) n Field.End ⌝ }
+{
+    if edition < Network::HELD_SINCE {
+        return count_group(n);
+    }
+    match n {
+        0 => Field::Line(UNIT, Range::Between(0, 1)),
+        _ => count_group(n - 1),
+    }
+}
+
 // The line at place n of the head.
-pub fn network_head(n: usize) -> Field
-    ensures { λ r. ⌜ r ≡ getD networkLines n Field.End ⌝ }
+pub fn network_head(edition: u64, n: usize) -> Field
+    ensures { λ r. ⌜ r ≡ getD (networkLines edition) n Field.End ⌝ }
 {
     match n {
         0 => Field::Line(NET, Range::Between(1, Network::EDITION)),
@@ -138,9 +167,22 @@ pub fn network_head(n: usize) -> Field
             OVERRUN,
             Range::ZeroOr(Network::SHARE_LOW, Network::SHARE_HIGH),
         ),
-        3 => Field::Line(LINKS, Range::Between(1, Network::LINKS)),
-        4 => Field::Line(FLOWS, Range::Between(0, Network::FLOWS)),
-        5 => Field::Line(TUNNELS, Range::Between(0, Network::TUNNELS)),
+        _ => unit_group(edition, n - 3),
+    }
+}
+
+fn link_group(sizes: Network, before: u64, n: usize) -> Field
+    ensures { λ r. ⌜ r ≡ getD (linkLines (sizes .edition) before) n Field.End ⌝ }
+{
+    match n {
+        0 => Field::Line(CAP, Range::Between(0, Network::AMOUNT)),
+        1 => {
+            if sizes.has_held() {
+                Field::Line(HELD, Range::Between(0, before))
+            } else {
+                Field::End
+            }
+        }
         _ => Field::End,
     }
 }
@@ -174,12 +216,13 @@ fn tunnel_group(sizes: Network, n: usize) -> Field
     }
 }
 
-fn network_body(sizes: Network, i: usize) -> Field
+// The line at position i, after the number before.
+fn network_body(sizes: Network, before: u64, i: usize) -> Field
     requires { ⌜ Limited sizes × (linkAt sizes 0 ≤ i) ⌝ }
-    ensures { λ r. ⌜ r ≡ networkBody sizes i ⌝ }
+    ensures { λ r. ⌜ r ≡ networkBody sizes before i ⌝ }
 {
     match sizes.position(i) {
-        Position::Link(_, _) => Field::Line(CAP, Range::Between(0, Network::AMOUNT)),
+        Position::Link(_, j) => link_group(sizes, before, j),
         Position::Flow(_, j) => flow_group(sizes, j),
         Position::Tunnel(_, j) => tunnel_group(sizes, j),
         Position::Past => Field::End,
@@ -192,10 +235,14 @@ pub fn network_field(done: &[u64]) -> Field
     ensures { λ r. ⌜ r ≡ fieldOf Form.Network (now (done .entry)) ⌝ }
 {
     let i = done.len();
-    if i < Network::HEAD {
-        return network_head(i);
+    if i == 0 {
+        return network_head(0, i);
     }
-    network_body(Network::of(done), i)
+    let edition = done[0];
+    if i < Network::head(edition) {
+        return network_head(edition, i);
+    }
+    network_body(Network::of(done), done[i - 1], i)
 }
 
 // The line at place n of the head.

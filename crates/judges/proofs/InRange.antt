@@ -1,6 +1,6 @@
 -- Laws of the loops over the parts of a network's list, and that a list with its parts in their ranges is whole.
 use mathlib.Core.Bool.{Bool, true, false, true≢false, false≢true}
-use mathlib.Core.Path.{_≡_, sym, ap, subst, subst⁻¹}
+use mathlib.Core.Path.{_≡_, refl, sym, ap, subst, subst⁻¹, _∙_}
 use mathlib.Core.Logic.{⊎-elim}
 use mathlib.Core.List.{List}
 use Prim.Native.Nat.{ℕ, zero, suc, _+_, _-_, _^_, _≤_, _<_}
@@ -9,19 +9,20 @@ use native.Mathlib.Decide.{decLt}
 use native.Mathlib.Omega.{arith}
 use lib.Dec.{T, ltb}
 use lib.ListN.{length, getD, take}
-use borrow.Author.Tests.{lt-ltb, le-ltb}
+use borrow.Author.Tests.{lt-ltb}
 use Rattle.model.specs.Limits.{mostAmount}
-use Rattle.lists.specs.Lists.{at, perLink, perFlow, nextIn, networkSizes, linkAt, flowAt, tunnelAt, networkSize}
+use Rattle.lists.specs.Lists.{at, hasHeld, perLink, perFlow, nextIn, networkSizes, linkAt, flowAt, tunnelAt, networkSize, heldOf}
 use Rattle.lists.specs.declared.Network as counts
-use Rattle.lists.proofs.Positions.{flow-most, third, next-third, tunnel-after, each-number}
-use Rattle.forms.specs.Form.{line, Sound, Whole, allows, admitsOf, fieldOf, networkLines, networkBody, flowLines, tunnelLines}
+use Rattle.lists.proofs.Positions.{link-most, second, flow-most, third, next-third, tunnel-after, each-number}
+use Rattle.lists.proofs.Held.{with-held}
+use Rattle.forms.specs.Form.{line, Sound, Whole, allows, admitsOf, fieldOf, networkLines, networkBody, linkLines, flowLines, tunnelLines}
 use Rattle.lists.specs.Good.{LinksIn, FlowsIn, TunnelsIn}
 use Rattle.judges.specs.Ranges.{Decides, headLines, HeadIn}
 use Rattle.forms.specs.declared.form.Form.{Form}
 use Rattle.forms.specs.declared.form.Form.the-variants.{Network}
 use Rattle.forms.specs.declared.form.Range.the-variants.{Between, Set}
 use Rattle.forms.specs.declared.form.Field.the-variants.{Line, End}
-use Rattle.forms.proofs.Forms.{in-between, head-lines, body-cap, body-flow, body-tunnel, body-end, network-head-field, network-body-field, network-head-at}
+use Rattle.forms.proofs.Forms.{in-between, head-there, own-body, body-link, body-flow, body-tunnel, body-end, network-head-field, network-body-field, network-head-at}
 use Rattle.forms.proofs.Good.{network-ranges, last-line, set-in, in-set}
 use Rattle.forms.specs.declared.form.Field.{Field}
 use Rattle.forms.specs.declared.form.Range.{Range}
@@ -76,15 +77,19 @@ module _ (form : Form) (l : List ℕ) where
   pub head-none : HeadIn form l 0
   head-none = record { each = λ i h. absurd (omega arith) }
 
-  pub head-more : (n : ℕ) → HeadIn form l n → T (allows (getD (headLines form) n End) (at l n)) → HeadIn form l (n + 1)
-  head-more n h t = record { each = one-more (λ i. T (allows (getD (headLines form) i End) (at l i))) n (h .each) t }
+  pub head-more : (n : ℕ) → HeadIn form l n → T (allows (getD (headLines form (at l 0)) n End) (at l n)) → HeadIn form l (n + 1)
+  head-more n h t = record { each = one-more (λ i. T (allows (getD (headLines form (at l 0)) i End) (at l i))) n (h .each) t }
 
 module _ (l : List ℕ) where
   pub links-none : LinksIn l 0
-  links-none = record { cap = λ k h. absurd (omega arith) }
+  links-none = record { cap = λ k h. absurd (omega arith); held = λ k h. absurd (omega arith) }
 
-  pub links-more : (n : ℕ) → LinksIn l n → at l (linkAt (networkSizes l) n) ≤ mostAmount → LinksIn l (n + 1)
-  links-more n h c = record { cap = one-more (λ k. at l (linkAt (networkSizes l) k) ≤ mostAmount) n (h .cap) c }
+  pub links-more : (n : ℕ) → LinksIn l n → at l (linkAt (networkSizes l) n) ≤ mostAmount → heldOf l n ≤ at l (linkAt (networkSizes l) n) → LinksIn l (n + 1)
+  links-more n h c x =
+      record {
+        cap = one-more (λ k. at l (linkAt (networkSizes l) k) ≤ mostAmount) n (h .cap) c;
+        held = one-more (λ k. heldOf l k ≤ at l (linkAt (networkSizes l) k)) n (h .held) x;
+      }
 
   pub flows-none : FlowsIn l 0
   flows-none = record { class = λ f h. absurd (omega arith); rate = λ f h. absurd (omega arith); next = λ f h. absurd (omega arith) }
@@ -115,7 +120,7 @@ module _ (l : List ℕ) where
 -- ---- a list with its parts in their ranges is whole
 
 pub record InRange (l : List ℕ) : Type 0 where
-  pub head : HeadIn Network l (length networkLines)
+  pub head : HeadIn Network l (length (networkLines (at l 0)))
   pub size : length l ≡ networkSize (networkSizes l)
   pub links : LinksIn l (networkSizes l .links)
   pub flows : FlowsIn l (networkSizes l .flows)
@@ -128,10 +133,15 @@ module _ (l : List ℕ) (r : InRange l) where
   at-first : (P : ℕ → Type 0) (i : ℕ) → P (at l i) → P (at l (i + 0))
   at-first P i p = let e : i + 0 ≡ i = omega arith in subst⁻¹ (λ (k : ℕ). P (at l k)) e p
 
-  cap-in : (k j : ℕ) → k < sizes .links → j < perLink (sizes .edition) → T (allows (line "cap=" (Between 0 mostAmount)) (at l (linkAt sizes k + j)))
-  unfolding perLink
-  cap-in k zero h g = at-first (λ v. T (allows (line "cap=" (Between 0 mostAmount)) v)) (linkAt sizes k) (in-between 0 mostAmount _ (omega arith) (r .links .cap k h))
-  cap-in k (suc j) h g = absurd (omega arith)
+  -- a link has its capacity, and past it only what is held of it
+  link-in : (k j before : ℕ) → before ≡ at l (linkAt sizes k + j - 1) → k < sizes .links → j < perLink (sizes .edition)
+      → T (allows (getD (linkLines (sizes .edition) before) j End) (at l (linkAt sizes k + j)))
+  link-in k zero before e h g = at-first (λ v. T (allows (line "cap=" (Between 0 mostAmount)) v)) (linkAt sizes k) (in-between 0 mostAmount _ (omega arith) (r .links .cap k h))
+  link-in k (suc zero) before e h g =
+      let y : hasHeld (sizes .edition) ≡ true = second (sizes .edition) g in
+      let i : linkAt sizes k + 1 - 1 ≡ linkAt sizes k = omega arith in
+      rw y (in-between 0 before (at l (linkAt sizes k + 1)) (omega arith) (omega (arith, e, ap (at l) i, with-held l k y, r .links .held k h)))
+  link-in k (suc (suc j)) before e h g = absurd (omega (arith, link-most (sizes .edition)))
 
   -- a flow has its class and its rate, and past them only its next
   flow-in : (f j : ℕ) → f < sizes .flows → j < perFlow (sizes .edition) → T (allows (getD (flowLines (sizes .edition)) j End) (at l (flowAt sizes f + j)))
@@ -150,26 +160,23 @@ module _ (l : List ℕ) (r : InRange l) where
   tunnel-in t (suc (suc (suc zero))) h k = in-between 0 mostAmount _ (omega arith) (r .tunnels .new t h)
   tunnel-in t (suc (suc (suc (suc j)))) h k = absurd (omega arith)
 
-  body-in : (i : ℕ) → linkAt sizes 0 ≤ i → i < networkSize sizes → T (allows (networkBody sizes i) (at l i))
+  body-in : (i : ℕ) → linkAt sizes 0 ≤ i → i < networkSize sizes → T (allows (networkBody sizes (at l (i - 1)) i) (at l i))
   body-in =
-      each-number sizes (λ i. T (allows (networkBody sizes i) (at l i)))
-      (λ k j h g. rw (body-cap sizes k j h g) (cap-in k j h g))
-      (λ f j h k. rw (body-flow sizes f j h k) (flow-in f j h k))
-      (λ t j h k. rw (body-tunnel sizes t j h k) (tunnel-in t j h k))
+      each-number sizes (λ i. T (allows (networkBody sizes (at l (i - 1)) i) (at l i)))
+      (λ k j h g. rw (body-link sizes _ k j h g) (link-in k j _ refl h g))
+      (λ f j h k. rw (body-flow sizes _ f j h k) (flow-in f j h k))
+      (λ t j h k. rw (body-tunnel sizes _ t j h k) (tunnel-in t j h k))
 
-  in-sound : (i : ℕ) → i < length l → Dec (i < length networkLines) → T (allows (fieldOf Network (take i l)) (at l i))
+  in-sound : (i : ℕ) → i < length l → Dec (i < length (networkLines (at l 0))) → T (allows (fieldOf Network (take i l)) (at l i))
   in-sound i h (yes k) = rw (network-head-field l i (le-of-lt h) k) (r .head .each i k)
-  in-sound i h (no k) = rw (network-body-field l i (le-of-lt h) (omega arith)) (body-in i (omega (arith, head-lines sizes)) (omega (arith, r .size)))
+  in-sound i h (no k) = rw (network-body-field l i (le-of-lt h) (omega arith)) (body-in i (omega (arith, head-there l)) (omega (arith, r .size)))
 
   ends : fieldOf Network l ≡ End
-  unfolding fieldOf
-  ends =
-      let long : length networkLines ≤ length l = omega (arith, r .size, head-lines sizes, tunnel-after sizes (sizes .tunnels)) in
-      rw (le-ltb (length l) (length networkLines) long) (body-end sizes (length l) (omega (arith, r .size)))
+  ends = own-body l (omega (arith, r .size, head-there l, tunnel-after sizes (sizes .tunnels))) ∙ body-end sizes _ (length l) (omega (arith, r .size))
 
   pub in-range-whole : Whole Network l
   unfolding Sound
-  in-range-whole = record { sound = λ i h. in-sound i h (decLt i (length networkLines)); ends = ends }
+  in-range-whole = record { sound = λ i h. in-sound i h (decLt i (length (networkLines (at l 0)))); ends = ends }
 
 -- and the parts of a whole list are in their ranges
 pub whole-in-range : (l : List ℕ) → Whole Network l → InRange l
@@ -177,7 +184,7 @@ whole-in-range l w =
     let r = network-ranges l w in
     let n = networkSizes l in
     record {
-      head = record { each = λ i h. network-head-at l (w .sound) i (omega (arith, r .sized .size, head-lines n, tunnel-after n (n .tunnels))) h };
+      head = record { each = λ i h. network-head-at l (w .sound) i (omega (arith, r .sized .size, head-there l, tunnel-after n (n .tunnels))) h };
       size = r .sized .size;
       links = r .links;
       flows = r .flows;

@@ -21,14 +21,15 @@ pub record Decides (answer : Bool) (X : Type 0) : Type 0 where
 
 -- ---- the head
 
-abbrev pub headLines : Form → List Field
-headLines Network = networkLines
-headLines Plan = planLines
-headLines Rules = rulesLines
+-- those of a network depend on its edition
+abbrev pub headLines : Form → ℕ → List Field
+headLines Network edition = networkLines edition
+headLines Plan edition = planLines
+headLines Rules edition = rulesLines
 
 -- the first so many numbers are in their ranges
 pub record HeadIn (form : Form) (l : List ℕ) (n : ℕ) : Type 0 where
-  pub each : (i : ℕ) → i < n → T (allows (getD (headLines form) i End) (at l i))
+  pub each : (i : ℕ) → i < n → T (allows (getD (headLines form (at l 0)) i End) (at l i))
 
 -- ---- a plan
 

@@ -3,7 +3,7 @@
 ghost use mathlib.Core.Path.{_≡_};
 ghost use Prim.Native.Nat.{_≤_};
 ghost use lib.ListN.{length, getD};
-ghost use Rattle.lists.specs.Lists.{networkSizes, tableSizes};
+ghost use Rattle.lists.specs.Lists.{at, networkSizes, tableSizes};
 ghost use Rattle.lists.specs.Good.{Sized, LinksIn, FlowsIn, TunnelsIn};
 ghost use Rattle.forms.specs.Form.{Whole};
 ghost use Rattle.judges.specs.Ranges.{Decides, headLines, HeadIn, AmountsIn, TablesSized, RoomsIn, RulesIn};
@@ -15,11 +15,11 @@ use lists::PlanSizes;
 use lists::RuleTables;
 
 // The line at place n of a form's head.
-fn head_line(form: Form, n: usize) -> Field
-    ensures { λ r. ⌜ r ≡ getD (headLines form) n Field.End ⌝ }
+fn head_line(form: Form, edition: u64, n: usize) -> Field
+    ensures { λ r. ⌜ r ≡ getD (headLines form edition) n Field.End ⌝ }
 {
     match form {
-        Form::Network => form::network_head(n),
+        Form::Network => form::network_head(edition, n),
         Form::Plan => form::plan_head(n),
         Form::Rules => form::rules_head(n),
     }
@@ -32,7 +32,7 @@ fn head_in(form: Form, list: &[u64], count: usize) -> bool
 {
     let mut i: usize = 0;
     while i < count {
-        let Field::Line(_, range) = head_line(form, i) else {
+        let Field::Line(_, range) = head_line(form, list[0], i) else {
             return false;
         };
         if form::admits(range, list[i]) {
@@ -44,15 +44,19 @@ fn head_in(form: Form, list: &[u64], count: usize) -> bool
     true
 }
 
-// Is the number of each link in its range?
+// Are the numbers of each link in their ranges? The last says what is held, or is the capacity itself.
 fn links_in(list: &[u64], sizes: Network) -> bool
     requires { ⌜ Sized (now list) × (sizes ≡ networkSizes (now list)) ⌝ }
     ensures { λ r. ⌜ Decides r (LinksIn (now (list .entry)) (sizes .links)) ⌝ }
 {
+    let last = sizes.per_link() - 1;
     let mut k: usize = 0;
     while k < sizes.links {
         let at = sizes.link_at(k);
         if Network::AMOUNT < list[at] {
+            return false;
+        }
+        if list[at] < list[at + last] {
             return false;
         }
         k += 1;
@@ -112,7 +116,7 @@ fn tunnels_in(list: &[u64], sizes: Network) -> bool
 
 // Is the list long enough for its links, flows and tunnels, and no longer, and is each of their numbers in its range?
 fn body_in(list: &[u64]) -> bool
-    requires { ⌜ (length (headLines Form.Network) ≤ length (now list)) × HeadIn Form.Network (now list) (length (headLines Form.Network)) ⌝ }
+    requires { ⌜ (length (headLines Form.Network (at (now list) 0)) ≤ length (now list)) × HeadIn Form.Network (now list) (length (headLines Form.Network (at (now list) 0))) ⌝ }
     ensures { λ r. ⌜ Decides r (Whole Form.Network (now (list .entry))) ⌝ }
 {
     let sizes = Network::of(list);
@@ -131,10 +135,14 @@ fn body_in(list: &[u64]) -> bool
 pub(crate) fn is_network(list: &[u64]) -> bool
     ensures { λ r. ⌜ Decides r (Whole Form.Network (now (list .entry))) ⌝ }
 {
-    if list.len() < Network::HEAD {
+    if list.len() == 0 {
         return false;
     }
-    if head_in(Form::Network, list, Network::HEAD) {
+    let head = Network::head(list[0]);
+    if list.len() < head {
+        return false;
+    }
+    if head_in(Form::Network, list, head) {
         body_in(list)
     } else {
         false
@@ -157,7 +165,7 @@ fn amounts_in(list: &[u64], high: u64) -> bool
 
 // Is the list long enough for its rows, and no longer, and is each of their numbers in its range?
 fn rows_in(list: &[u64]) -> bool
-    requires { ⌜ (length (headLines Form.Plan) ≤ length (now list)) × HeadIn Form.Plan (now list) (length (headLines Form.Plan)) ⌝ }
+    requires { ⌜ (length (headLines Form.Plan (at (now list) 0)) ≤ length (now list)) × HeadIn Form.Plan (now list) (length (headLines Form.Plan (at (now list) 0))) ⌝ }
     ensures { λ r. ⌜ Decides r (Whole Form.Plan (now (list .entry))) ⌝ }
 {
     let sizes = PlanSizes::of(list);
@@ -221,7 +229,7 @@ fn rules_in(list: &[u64], sizes: RuleTables) -> bool
 
 // Is the list long enough for its switches and tunnels, and no longer, and is each of their numbers in its range?
 fn tables_in(list: &[u64]) -> bool
-    requires { ⌜ (length (headLines Form.Rules) ≤ length (now list)) × HeadIn Form.Rules (now list) (length (headLines Form.Rules)) ⌝ }
+    requires { ⌜ (length (headLines Form.Rules (at (now list) 0)) ≤ length (now list)) × HeadIn Form.Rules (now list) (length (headLines Form.Rules (at (now list) 0))) ⌝ }
     ensures { λ r. ⌜ Decides r (Whole Form.Rules (now (list .entry))) ⌝ }
 {
     let sizes = RuleTables::of(list);

@@ -12,7 +12,7 @@ use Rattle.model.specs.Limits.{mostSteps}
 use Rattle.model.proofs.Searches.{bool-cases}
 use Rattle.lists.specs.declared.Network.{Network}
 use Rattle.lists.specs.declared.Position.the-variants.{Link, Flow, Tunnel}
-use Rattle.lists.specs.Lists.{hasNext, headSize, perLink, perFlow, nextIn, networkSizes, linkAt, flowAt, tunnelAt, networkSize, planSizes, rowAt, mostNetwork, mostPlan, mostNumbers}
+use Rattle.lists.specs.Lists.{hasNext, hasHeld, headSize, perLink, perFlow, nextIn, networkSizes, linkAt, flowAt, tunnelAt, networkSize, planSizes, rowAt, mostNetwork, mostPlan, mostNumbers}
 use Rattle.lists.specs.Good.{Limited, StandsAt, Sized, GoodPlan}
 
 -- ---- numbers in groups of `per`, one after the other
@@ -46,16 +46,40 @@ module _ (per : ℕ) (some : 0 < per) where
       let e : per * g + j ≡ g * per + j = omega arith in
       ap (λ (m : ℕ). m % per) e ∙ mul-add-mod-self-right g per j ∙ mod-eq-of-lt h
 
--- ---- how many numbers a link and a flow have, by edition
+-- ---- how many numbers a head, a link and a flow have, by edition
 
 module _ (edition : ℕ) where
-  pub link-some : 0 < perLink edition
-  unfolding perLink
-  link-some = omega arith
+  pub with-unit : hasHeld edition ≡ true → headSize edition ≡ 7
+  unfolding headSize
+  with-unit e = rw e refl
 
-  link-most : perLink edition ≤ 1
+  pub without-unit : hasHeld edition ≡ false → headSize edition ≡ 6
+  unfolding headSize
+  without-unit e = rw e refl
+
+  pub head-low : 6 ≤ headSize edition
+  head-low = ⊎-elim (λ e. omega (arith, with-unit e)) (λ e. omega (arith, without-unit e)) (bool-cases (hasHeld edition))
+
+  pub head-high : headSize edition ≤ 7
+  head-high = ⊎-elim (λ e. omega (arith, with-unit e)) (λ e. omega (arith, without-unit e)) (bool-cases (hasHeld edition))
+
+  pub two-a-link : hasHeld edition ≡ true → perLink edition ≡ 2
   unfolding perLink
-  link-most = omega arith
+  two-a-link e = rw e refl
+
+  pub one-a-link : hasHeld edition ≡ false → perLink edition ≡ 1
+  unfolding perLink
+  one-a-link e = rw e refl
+
+  pub link-some : 0 < perLink edition
+  link-some = ⊎-elim (λ e. omega (arith, two-a-link e)) (λ e. omega (arith, one-a-link e)) (bool-cases (hasHeld edition))
+
+  pub link-most : perLink edition ≤ 2
+  link-most = ⊎-elim (λ e. omega (arith, two-a-link e)) (λ e. omega (arith, one-a-link e)) (bool-cases (hasHeld edition))
+
+  -- the second number of a link is what is held of it
+  pub second : 1 < perLink edition → hasHeld edition ≡ true
+  second h = ⊎-elim (λ e. e) (λ e. absurd (omega (arith, one-a-link e))) (bool-cases (hasHeld edition))
 
   pub flow-some : 2 ≤ perFlow edition
   unfolding perFlow
@@ -143,14 +167,13 @@ module _ (n : Network) where
   head-size = omega arith
 
   pub head-least : 6 ≤ linkAt n 0
-  unfolding headSize
-  head-least = omega (arith, head-size)
+  head-least = omega (arith, head-size, head-low (n .edition))
 
   -- no network's list is longer
   pub most-network : Limited n → networkSize n ≤ mostNetwork
-  unfolding mostNetwork headSize
+  unfolding mostNetwork
   most-network h =
-      omega (arith, tunnel-at (n .tunnels), tunnels-start, flows-start, head-size, mul-le-mul (link-most (n .edition)) (h .links), mul-le-mul (flow-most (n .edition)) (h .flows))
+      omega (arith, head-high (n .edition), tunnel-at (n .tunnels), tunnels-start, flows-start, head-size, mul-le-mul (link-most (n .edition)) (h .links), mul-le-mul (flow-most (n .edition)) (h .flows))
 
   -- nor is any run of its numbers
   module _ (h : Limited n) where
@@ -170,8 +193,8 @@ module _ (n : Network) where
     tunnel-low t less = omega (arith, tunnel-at t, tunnel-at (n .tunnels), most-network h, most-in-all)
 
   pub head-most : linkAt n 0 ≤ mostNetwork
-  unfolding mostNetwork headSize
-  head-most = omega (arith, head-size)
+  unfolding mostNetwork
+  head-most = omega (arith, head-size, head-high (n .edition))
 
 -- ---- which number stands at i, by how far that is from where the links', the flows' or the tunnels' numbers begin
 
@@ -232,9 +255,8 @@ module _ (l : List ℕ) (size : length l ≡ networkSize (networkSizes l)) where
   tunnels-in : tunnelAt sizes 0 ≤ length l
   tunnels-in = omega (arith, size, tunnel-at sizes (sizes .tunnels))
 
-  pub link-in : (k : ℕ) → k < sizes .links → linkAt sizes k < length l
-  link-in k h =
-      omega (arith, link-at sizes k, before-end _ (link-some (sizes .edition)) k (sizes .links) 0 h (link-some (sizes .edition)), flows-start sizes, tunnels-start sizes, tunnels-in)
+  pub link-in : (k j : ℕ) → k < sizes .links → j < perLink (sizes .edition) → linkAt sizes k + j < length l
+  link-in k j h g = omega (arith, link-at sizes k, before-end _ (link-some (sizes .edition)) k (sizes .links) j h g, flows-start sizes, tunnels-start sizes, tunnels-in)
 
   pub flow-in : (f j : ℕ) → f < sizes .flows → j < perFlow (sizes .edition) → flowAt sizes f + j < length l
   flow-in f j h k = omega (arith, flow-at sizes f, before-end _ (flow-pos (sizes .edition)) f (sizes .flows) j h k, tunnels-start sizes, tunnels-in)
@@ -247,7 +269,7 @@ short l s = omega (arith, s .size, most-network (networkSizes l) (s .counts))
 
 -- ---- what code knows of a position i that it has from the sizes n of a list
 
--- of link k, of flow f, of the same flow up to its next, of tunnel t: `last` is the last of the numbers that are read from there on
+-- of link k, of flow f, of the same flow up to its next, of tunnel t: `last` is the last of the numbers that may be read from there on
 pub record Place (l : List ℕ) (start count : Network → ℕ) (last k i : ℕ) : Type 0 where
   pub here : i ≡ start (networkSizes l)
   pub there : k < count (networkSizes l)
@@ -255,7 +277,7 @@ pub record Place (l : List ℕ) (start count : Network → ℕ) (last k i : ℕ)
   pub few : i + last < mostNumbers
 
 abbrev pub LinkPlace : List ℕ → ℕ → ℕ → Type 0
-LinkPlace l k i = Place l (λ n. linkAt n k) (λ n. n .links) 0 k i
+LinkPlace l k i = Place l (λ n. linkAt n k) (λ n. n .links) (perLink (networkSizes l .edition) - 1) k i
 
 abbrev pub FlowPlace : List ℕ → ℕ → ℕ → Type 0
 FlowPlace l f i = Place l (λ n. flowAt n f) (λ n. n .flows) 1 f i
@@ -276,7 +298,7 @@ module _ (l : List ℕ) (s : Sized l) (n : Network) (same : n ≡ networkSizes l
       record { here = here; there = there; within = within; few = omega (arith, short l s, most-in-all) }
 
   pub link-place : (k i : ℕ) → k < n .links → i ≡ linkAt n k → LinkPlace l k i
-  link-place k i h e = place (λ m. linkAt m k) (λ m. m .links) 0 k i h e (λ g. omega (arith, link-in l (s .size) k g))
+  link-place k i h e = place (λ m. linkAt m k) (λ m. m .links) _ k i h e (λ g. link-in l (s .size) k _ g (omega (arith, link-some (networkSizes l .edition))))
 
   pub flow-place : (f i : ℕ) → f < n .flows → i ≡ flowAt n f → FlowPlace l f i
   flow-place f i h e = place (λ m. flowAt m f) (λ m. m .flows) 1 f i h e (λ g. flow-in l (s .size) f 1 g (flow-some (networkSizes l .edition)))

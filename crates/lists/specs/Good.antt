@@ -10,7 +10,7 @@ use Rattle.model.specs.Rule.{missedRate}
 use Rattle.lists.specs.declared.Network.{Network}
 use Rattle.lists.specs.declared.Position.{Position}
 use Rattle.lists.specs.declared.Position.the-variants.{Link, Flow, Tunnel, Past}
-use Rattle.lists.specs.Lists.{at, perLink, perFlow, nextIn, networkSizes, linkAt, flowAt, tunnelAt, networkSize, networkOf, planSizes, rowAt, planSize}
+use Rattle.lists.specs.Lists.{at, perLink, perFlow, nextIn, networkSizes, linkAt, flowAt, tunnelAt, networkSize, heldOf, networkOf, planSizes, rowAt, planSize}
 
 -- counts within the limits
 pub record Limited (n : Network) : Type 0 where
@@ -33,6 +33,7 @@ pub record Sized (l : List ℕ) : Type 0 where
 -- the numbers of the first so many links, flows or tunnels are in their ranges
 pub record LinksIn (l : List ℕ) (count : ℕ) : Type 0 where
   pub cap : (k : ℕ) → k < count → at l (linkAt (networkSizes l) k) ≤ mostAmount
+  pub held : (k : ℕ) → k < count → heldOf l k ≤ at l (linkAt (networkSizes l) k)
 
 pub record FlowsIn (l : List ℕ) (count : ℕ) : Type 0 where
   pub class : (f : ℕ) → f < count → at l (flowAt (networkSizes l) f) ≤ 2

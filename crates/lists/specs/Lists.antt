@@ -26,10 +26,10 @@ hasHeld edition = leb 3 edition
 
 -- how many lines there are by edition: in the head, for a link and for a flow
 unfoldable pub headSize : ℕ → ℕ
-headSize edition = 6
+headSize edition = cond (hasHeld edition) 7 6
 
 unfoldable pub perLink : ℕ → ℕ
-perLink edition = 1
+perLink edition = cond (hasHeld edition) 2 1
 
 unfoldable pub perFlow : ℕ → ℕ
 perFlow edition = cond (hasNext edition) 3 2

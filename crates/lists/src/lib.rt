@@ -30,7 +30,7 @@ impl Network {
     pub const AMOUNT: u64 = 10_000_000;
 
     // The newest edition, and the first in which a flow has its next rate.
-    pub const EDITION: u64 = 2;
+    pub const EDITION: u64 = 3;
 
     pub const NEXT_SINCE: u64 = 2;
 
@@ -42,15 +42,17 @@ impl Network {
 
     pub const SHARE_HIGH: u64 = 500;
 
-    // How many numbers the head has, of which the last three are the counts, and which of them is the overrun.
-    pub const HEAD: usize = 6;
+    // How many numbers the head has since the unit is among them, how many of them, the last, are counts, and which are the overrun and the unit.
+    pub const HEAD: usize = 7;
+
+    pub const COUNTS: usize = 3;
 
     pub const OVERRUN: usize = 2;
 
     pub const UNIT: usize = 3;
 
-    // How many numbers a link has.
-    pub const PER_LINK: usize = 1;
+    // How many numbers a link has since something may be held of it, and which of them, after the capacity, says how much.
+    pub const PER_LINK: usize = 2;
 
     pub const HELD: usize = 1;
 
@@ -83,7 +85,7 @@ impl Network {
         let head = Self::head(edition);
         Network {
             edition,
-            links: list[head - 3] as usize,
+            links: list[head - Self::COUNTS] as usize,
             flows: list[head - 2] as usize,
             tunnels: list[head - 1] as usize,
         }
@@ -93,14 +95,22 @@ impl Network {
     pub fn head(edition: u64) -> usize
         ensures { λ r. ⌜ r ≡ headSize edition ⌝ }
     {
-        Self::HEAD
+        if Self::HELD_SINCE <= edition {
+            Self::HEAD
+        } else {
+            Self::HEAD - 1
+        }
     }
 
     // How many numbers a link has.
     pub fn per_link(self) -> usize
         ensures { λ r. ⌜ r ≡ perLink (self .edition) ⌝ }
     {
-        Self::PER_LINK
+        if self.has_held() {
+            Self::PER_LINK
+        } else {
+            Self::PER_LINK - 1
+        }
     }
 
     // Whether each link's capacity is followed by what is held of it.

@@ -16,9 +16,9 @@ mostSteps = 50
 abbrev pub mostAmount : ℕ
 mostAmount = 10000000
 
--- the newest edition of a network's form: "In edition `net=2` .."
+-- the newest edition of a network's form: "Edition `net=3` .."
 abbrev pub newestEdition : ℕ
-newestEdition = 2
+newestEdition = 3
 
 -- "`scratch` 20..500; `overrun` 0 or 20..500"
 abbrev pub leastShare : ℕ

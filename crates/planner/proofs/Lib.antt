@@ -1,5 +1,4 @@
-pub mod Tables
-pub mod Good
+pub mod Figures
 pub mod Searching
 pub mod EvenLists
 pub mod Planned

@@ -4,7 +4,7 @@ use mathlib.Core.Path.{_≡_}
 use mathlib.Core.Bool.{false, cond}
 use mathlib.Core.List.{List, [], _++_}
 use lib.ListN.{length, take, getD}
-use Rattle.lists.specs.Lists.{hasNext, networkSizes, tunnelAt, mostNumbers}
+use Rattle.lists.specs.Lists.{hasNext, hasHeld, networkSizes, tunnelAt, mostNumbers}
 use Rattle.forms.specs.Form.{fieldOf, isHex}
 use Rattle.forms.specs.Write.{widthOf, lineOf}
 use Rattle.forms.specs.declared.form.Form.{Form}
@@ -32,7 +32,15 @@ pub record Needed (size room r : ℕ) : Type 0 where
 pub record Writable (f : Field) (v : ℕ) : Type 0 where
   pub small : (k : ℕ) (r : Range) → f ≡ Line k r → isHex r ≡ false → v < 10000000000
 
--- how many bytes of a flow's lines are no decimal digit: class, rate and, where there is one, next
+-- how many bytes of the lines are no decimal digit: of the head and, where there is one, the unit
+unfoldable pub headBytes : ℕ → ℕ
+headBytes edition = cond (hasHeld edition) 52 46
+
+-- of a link's: cap and, where there is one, held
+unfoldable pub linkBytes : ℕ → ℕ
+linkBytes edition = cond (hasHeld edition) 11 5
+
+-- of a flow's: class, rate and, where there is one, next
 unfoldable pub flowBytes : ℕ → ℕ
 flowBytes edition = cond (hasNext edition) 19 13
 

@@ -2,14 +2,14 @@
 // each of which is written by a loop of its own, so that the line's key is known there.
 ghost use mathlib.Core.Path.{_≡_};
 ghost use Prim.Native.Nat.{ℕ, _+_, _*_, _-_, _≤_, _<_};
-ghost use lib.ListN.{length};
+ghost use lib.ListN.{length, getD};
 ghost use Rattle.lists.specs.Answers.{done, withRoom, lent};
-ghost use Rattle.lists.specs.Lists.{perFlow, networkSizes, linkAt, flowAt, tunnelAt, mostNumbers};
-ghost use Rattle.forms.specs.Form.{Whole, networkLines, tunnelLines, planLines};
+ghost use Rattle.lists.specs.Lists.{headSize, perLink, perFlow, networkSizes, linkAt, flowAt, tunnelAt, mostNumbers};
+ghost use Rattle.forms.specs.Form.{Whole, countLines, tunnelLines, planLines};
 ghost use Rattle.forms.specs.Slots.{keyBytes};
 ghost use Rattle.forms.specs.Write.{lineOf, render};
 ghost use Rattle.lines.specs.Puts.{Puts};
-ghost use Rattle.writers.specs.Write.{linesFrom, Decimal, Writable, Needed, widthsOf, tunnelWidths, flowBytes};
+ghost use Rattle.writers.specs.Write.{linesFrom, Decimal, Writable, Needed, widthsOf, tunnelWidths, headBytes, linkBytes, flowBytes};
 ghost use Rattle.forms.specs.Named.{writeNetwork, writePlan, writeRules};
 use forms::form;
 use forms::form::Field;
@@ -23,11 +23,15 @@ use lists::PlanSizes;
 const BYTES: usize = 65_536;
 
 // How many bytes of the lines are no decimal digit: each line's key, `=` and line feed, and of a `via` line also its 16 digits.
-// Of a network's head: net, scratch, overrun, links, flows, tunnels.
+// Of a network's head: net, scratch, overrun, links, flows, tunnels; and unit, where there is one.
 const NETWORK_BYTES: usize = 5 + 9 + 9 + 7 + 7 + 9;
 
-// cap
+const UNIT_BYTES: usize = 6;
+
+// cap; and held, where there is one
 const LINK_BYTES: usize = 5;
+
+const HELD_BYTES: usize = 6;
 
 // class, rate; and next, where there is one
 const FLOW_BYTES: usize = 7 + 6;
@@ -75,7 +79,29 @@ fn tunnel_widths(list: &[u64], sizes: Network) -> usize
     sum
 }
 
-// How many bytes of a flow's lines are no decimal digit.
+// How many bytes of the head's lines are no decimal digit.
+fn head_bytes(sizes: Network) -> usize
+    ensures { λ r. ⌜ r ≡ headBytes (sizes .edition) ⌝ }
+{
+    if sizes.has_held() {
+        NETWORK_BYTES + UNIT_BYTES
+    } else {
+        NETWORK_BYTES
+    }
+}
+
+// The same of a link's lines.
+fn link_bytes(sizes: Network) -> usize
+    ensures { λ r. ⌜ r ≡ linkBytes (sizes .edition) ⌝ }
+{
+    if sizes.has_held() {
+        LINK_BYTES + HELD_BYTES
+    } else {
+        LINK_BYTES
+    }
+}
+
+// The same of a flow's.
 fn flow_bytes(sizes: Network) -> usize
     ensures { λ r. ⌜ r ≡ flowBytes (sizes .edition) ⌝ }
 {
@@ -92,12 +118,13 @@ fn network_len(list: &[u64]) -> usize
     ensures { λ r. ⌜ r ≡ length (render Form.Network (now (list .entry))) ⌝ }
 {
     let sizes = Network::of(list);
-    let links = LINK_BYTES * sizes.links;
+    let head = head_bytes(sizes);
+    let links = link_bytes(sizes) * sizes.links;
     let flows = flow_bytes(sizes) * sizes.flows;
     let tunnels = TUNNEL_BYTES * sizes.tunnels;
     let digits = widths(list, sizes.tunnel_at(0));
     let more = tunnel_widths(list, sizes);
-    NETWORK_BYTES + links + flows + tunnels + digits + more
+    head + links + flows + tunnels + digits + more
 }
 
 // The same for a plan.
@@ -163,32 +190,60 @@ fn plan_needed(list: &[u64], room: usize) -> usize
     plan_len(list)
 }
 
-// Puts the lines of a network that stand before those of its links. This and the functions below answer the place past what they put.
+// Puts the lines of a network's counts, the last of its head. This and the functions below answer the place past what they put.
+fn put_counts(out: &mut [u8], at: usize, list: &[u64]) -> usize
+    requires { ⌜ Whole Form.Network (now list) ⌝ }
+    requires { ⌜ at + length (linesFrom Form.Network (now list) (headSize (getD (now list) 0 0) - length countLines) (length countLines)) ≤ length (now out) ⌝ }
+    ensures { λ r. ⌜ Puts (linesFrom Form.Network (now (list .entry)) (headSize (getD (now (list .entry)) 0 0) - length countLines) (length countLines)) at (now (out .entry)) (now (out .exit)) r ⌝ }
+{
+    let i = Network::head(list[0]) - Network::COUNTS;
+    let flows = lines::put_line(out, at, b"links=", list[i]);
+    let tunnels = lines::put_line(out, flows, b"flows=", list[i + 1]);
+    lines::put_line(out, tunnels, b"tunnels=", list[i + 2])
+}
+
+// Puts the lines of a network that stand before those of its links.
 fn put_network_head(out: &mut [u8], list: &[u64]) -> usize
     requires { ⌜ Whole Form.Network (now list) ⌝ }
-    requires { ⌜ length (linesFrom Form.Network (now list) 0 (length networkLines)) ≤ length (now out) ⌝ }
-    ensures { λ r. ⌜ Puts (linesFrom Form.Network (now (list .entry)) 0 (length networkLines)) 0 (now (out .entry)) (now (out .exit)) r ⌝ }
+    requires { ⌜ length (linesFrom Form.Network (now list) 0 (headSize (getD (now list) 0 0))) ≤ length (now out) ⌝ }
+    ensures { λ r. ⌜ Puts (linesFrom Form.Network (now (list .entry)) 0 (headSize (getD (now (list .entry)) 0 0))) 0 (now (out .entry)) (now (out .exit)) r ⌝ }
 {
     let scratch = lines::put_line(out, 0, b"net=", list[0]);
     let overrun = lines::put_line(out, scratch, b"scratch=", list[1]);
-    let links = lines::put_line(out, overrun, b"overrun=", list[2]);
-    let flows = lines::put_line(out, links, b"links=", list[3]);
-    let tunnels = lines::put_line(out, flows, b"flows=", list[4]);
-    lines::put_line(out, tunnels, b"tunnels=", list[5])
+    let unit = lines::put_line(out, overrun, b"overrun=", list[2]);
+    if list[0] < Network::HELD_SINCE {
+        return put_counts(out, unit, list);
+    }
+    let links = lines::put_line(out, unit, b"unit=", list[Network::UNIT]);
+    put_counts(out, links, list)
+}
+
+// Puts the lines of link k.
+fn put_link(out: &mut [u8], at: usize, list: &[u64], sizes: Network, k: usize) -> usize
+    requires { ⌜ Whole Form.Network (now list) × (sizes ≡ networkSizes (now list)) × (k < sizes .links) ⌝ }
+    requires { ⌜ at + length (linesFrom Form.Network (now list) (linkAt (networkSizes (now list)) k) (perLink (networkSizes (now list) .edition))) ≤ length (now out) ⌝ }
+    ensures { λ r. ⌜ Puts (linesFrom Form.Network (now (list .entry)) (linkAt (networkSizes (now (list .entry))) k) (perLink (networkSizes (now (list .entry)) .edition))) at (now (out .entry)) (now (out .exit)) r ⌝ }
+{
+    let i = sizes.link_at(k);
+    let held = lines::put_line(out, at, b"cap=", list[i]);
+    if sizes.has_held() {
+        lines::put_line(out, held, b"held=", list[i + Network::HELD])
+    } else {
+        held
+    }
 }
 
 // Puts the lines of a network's links.
 fn put_links(out: &mut [u8], at: usize, list: &[u64]) -> usize
     requires { ⌜ Whole Form.Network (now list) ⌝ }
-    requires { ⌜ at + length (linesFrom Form.Network (now list) (linkAt (networkSizes (now list)) 0) (networkSizes (now list) .links)) ≤ length (now out) ⌝ }
-    ensures { λ r. ⌜ Puts (linesFrom Form.Network (now (list .entry)) (linkAt (networkSizes (now (list .entry))) 0) (networkSizes (now (list .entry)) .links)) at (now (out .entry)) (now (out .exit)) r ⌝ }
+    requires { ⌜ at + length (linesFrom Form.Network (now list) (linkAt (networkSizes (now list)) 0) (perLink (networkSizes (now list) .edition) * networkSizes (now list) .links)) ≤ length (now out) ⌝ }
+    ensures { λ r. ⌜ Puts (linesFrom Form.Network (now (list .entry)) (linkAt (networkSizes (now (list .entry))) 0) (perLink (networkSizes (now (list .entry)) .edition) * networkSizes (now (list .entry)) .links)) at (now (out .entry)) (now (out .exit)) r ⌝ }
 {
     let sizes = Network::of(list);
     let mut p = at;
     let mut k: usize = 0;
     while k < sizes.links {
-        let i = sizes.link_at(k);
-        p = lines::put_line(out, p, b"cap=", list[i]);
+        p = put_link(out, p, list, sizes, k);
         k += 1;
     }
     p

@@ -9,7 +9,7 @@ use Rattle.lists.specs.Lists.{networkOf, planSize}
 use Rattle.lists.specs.declared.Answer.the-variants.{Plan, Refused}
 use Rattle.lists.specs.declared.PlanSizes.{PlanSizes}
 use Rattle.planner.specs.Planned.{evenList}
-use Rattle.planner.proofs.Good.{good-range}
+use Rattle.link_sums.proofs.Good.{good-range}
 use Rattle.planner.proofs.EvenLists.{list-length}
 use Rattle.planner.proofs.Planned.{answered-some, answered-none, no-plan, room-short, room-enough}
 use native.Mathlib.Omega.{arith}
@@ -21,7 +21,7 @@ use Rattle.planner.proofs.rows.plan_sizes.Reads as plan-sizes-reads
 use Rattle.planner.proofs.rows.write_plan.Reads as write-plan-reads
 use Rattle.planner.proofs.steps.fewest_steps.Reads as fewest-steps-reads
 use Rattle.planner.proofs.steps.first_overload.Reads as first-overload-reads
-use Rattle.planner.proofs.sums.gather.Reads as gather-reads
+use Rattle.link_sums.proofs.gather.Reads as gather-reads
 
 found : (c : tie.After-known-told) → fewest (networkOf (c .before .before .before .before .before .before .before .before .before .before .before .before .before .args .network .now)) ≡ some (c .before .fewest .given .0 .0)
 found c = answered-some _ _ (sym (c .before .before .before .fewest-steps .ensures) ∙ c .before .fewest .given .1)
@@ -74,7 +74,7 @@ row-at-requires : tie.Need-row-at-requires
 row-at-requires c κs = let e = c .plan-sizes .ensures in
     let f = fewest-some _ _ (found (c .before)) in
     let s = ap (λ (n : PlanSizes). n .steps) e in
-    (omega (arith, s, f), omega (arith, s, f), omega (arith, ap (λ (n : PlanSizes). n .tunnels) e, good-range _ (c .before .before .before .before .before .before .before .before .before .before .before .before .before .before .pre) .0))
+    (omega (arith, s, f), omega (arith, s, f), omega (arith, ap (λ (n : PlanSizes). n .tunnels) e, good-range _ (c .before .before .before .before .before .before .before .before .before .before .before .before .before .before .pre) .tunnels))
 
 returns-2 : tie.Need-returns-2
 returns-2 c = let n = size (c .before) in

@@ -18,7 +18,7 @@ add-to : tie.Need-add-to
 add-to c = search needs
 
 shared-slice-read-to : tie.Need-shared-slice-read-to
-shared-slice-read-to c = let e : length (c .before .before .args .keys .now) ≡ 230 = ap length (c .before .before .pre) in omega (arith, c .before .if1 .taken)
+shared-slice-read-to c = let e : length (c .before .before .args .keys .now) ≡ 250 = ap length (c .before .before .pre) in omega (arith, c .before .if1 .taken)
 
 cast-to : tie.Need-cast-to
 cast-to c = omega (arith, c .shared-slice-known .given (c .before .before .args .key * 10 + 9))
@@ -45,7 +45,7 @@ returns c =
 
 returns-2 : tie.Need-returns-2
 returns-2 c =
-    let h : 23 ≤ c .before .before .args .key = c .before .if1 .left in
+    let h : 25 ≤ c .before .before .args .key = c .before .if1 .left in
     ap bytes (sym (List·getD-eq-default keys "" h))
 
 pub key-part-spec : {M : Type 1} → statement M

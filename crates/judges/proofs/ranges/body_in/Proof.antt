@@ -5,7 +5,7 @@ use Rattle.lists.specs.Lists.{networkSizes, networkSize}
 use Rattle.lists.specs.Good.{Limited, Sized}
 use Rattle.lists.specs.declared.Network as counts
 use Rattle.lists.specs.Good.{LinksIn, FlowsIn, TunnelsIn}
-use Rattle.forms.proofs.Forms.{head-lines, limited}
+use Rattle.forms.proofs.Forms.{head-there, limited}
 use Rattle.forms.proofs.Good.{network-size}
 use Rattle.judges.proofs.InRange.{in-range-whole, decides-no, decides-same, whole-in-range}
 use native.Mathlib.Omega.{arith}
@@ -27,7 +27,7 @@ sized c =
     record { counts = counts-in (o .before .before); size = omega (arith, c .if1 .left, c .before .tunnel-at .ensures, ap (λ (n : counts.Network). networkSize n) (o .of .ensures)) }
 
 of-requires : tie.Need-of-requires
-of-requires c κs = omega (arith, head-lines (networkSizes (c .before .args .list .now)), c .before .pre .0)
+of-requires c κs = omega (arith, head-there (c .before .args .list .now), c .before .pre .0)
 
 tunnel-at-requires : tie.Need-tunnel-at-requires
 tunnel-at-requires c κs = (subst⁻¹ Limited (c .of .ensures) (counts-in (c .before .before)), omega arith)

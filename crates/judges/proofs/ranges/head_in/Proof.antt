@@ -8,6 +8,8 @@ use native.Mathlib.Omega.{arith}
 use borrow.Author.Needs.{needs}
 use Rattle.judges.proofs.ranges.head_in.Statement.{statement}
 use Rattle.judges.proofs.ranges.head_in.Tie as tie
+use Rattle.forms.proofs.form.admits.Reads as admits-reads
+use Rattle.judges.proofs.ranges.head_line.Reads as head-line-reads
 
 abbrev Inv-loop : tie.InvT-loop
 Inv-loop form list count i₀ i = (i ≤ count) × HeadIn form list i
@@ -17,6 +19,9 @@ abbrev μ-loop : tie.MeasureT-loop
 
 loop-holds : tie.Need-loop-holds Inv-loop μ-loop
 loop-holds c = (omega arith, head-none _ _)
+
+shared-slice-read-head-line : tie.Need-shared-slice-read-head-line Inv-loop μ-loop
+shared-slice-read-head-line c = omega (arith, c .before .before .before .before .pre, c .before .loop-test .taken)
 
 head-line-requires : tie.Need-head-line-requires Inv-loop μ-loop
 head-line-requires c κs = search needs
@@ -28,7 +33,7 @@ enum-told : tie.Need-enum-told Inv-loop μ-loop
 enum-told c = search needs
 
 returns : tie.Need-returns Inv-loop μ-loop
-returns c = decides-no (λ h. no-line _ _ (sym (c .before .before .head-line .ensures) ∙ c .enum-told .given .1) (h .each (c .before .before .before .before .loop .i) (omega arith)))
+returns c = decides-no (λ h. no-line _ _ (sym (c .before .before .head-line .ensures) ∙ c .enum-told .given .1) (h .each (c .before .before .before .before .before .loop .i) (omega arith)))
 
 mul-admits : tie.Need-mul-admits Inv-loop μ-loop
 mul-admits c = search needs
@@ -46,10 +51,10 @@ loop-less : tie.Need-loop-less Inv-loop μ-loop
 loop-less c = search needs
 
 loop-again : tie.Need-loop-again Inv-loop μ-loop
-loop-again c = (omega arith, head-more _ _ _ (c .before .before .before .before .before .before .before .before .loop .inv .1) (allows-line _ _ _ _ (sym (c .before .before .before .before .before .before .head-line .ensures) ∙ c .before .before .before .before .range .given .1) (sym (c .before .admits .ensures) ∙ c .if1 .taken)))
+loop-again c = (omega arith, head-more _ _ _ (c .before .before .before .before .before .before .before .before .before .loop .inv .1) (allows-line _ _ _ _ (sym (c .before .before .before .before .before .before .head-line .ensures) ∙ c .before .before .before .before .range .given .1) (sym (c .before .admits .ensures) ∙ c .if1 .taken)))
 
 returns-2 : tie.Need-returns-2 Inv-loop μ-loop
-returns-2 c = decides-no (λ h. not-allowed _ _ _ _ (sym (c .before .before .before .before .before .before .head-line .ensures) ∙ c .before .before .before .before .range .given .1) (sym (c .before .admits .ensures) ∙ c .if1 .left) (h .each (c .before .before .before .before .before .before .before .before .loop .i) (omega arith)))
+returns-2 c = decides-no (λ h. not-allowed _ _ _ _ (sym (c .before .before .before .before .before .before .head-line .ensures) ∙ c .before .before .before .before .range .given .1) (sym (c .before .admits .ensures) ∙ c .if1 .left) (h .each (c .before .before .before .before .before .before .before .before .before .loop .i) (omega arith)))
 
 returns-3 : tie.Need-returns-3 Inv-loop μ-loop
 returns-3 c = let e : c .before .loop .i ≡ c .before .before .before .args .count = omega arith in decides-yes (rw (← e) (c .before .loop .inv .1))
@@ -61,6 +66,7 @@ head-in-spec =
     Inv-loop
     μ-loop
     loop-holds
+    shared-slice-read-head-line
     head-line-requires
     enum-known-range
     enum-told

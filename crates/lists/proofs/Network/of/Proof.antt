@@ -1,54 +1,57 @@
 -- `lists::Network::of` meets its contract.
-use Rattle.lists.specs.Lists.{networkSizes, headSize}
-use Rattle.lists.proofs.Positions.{head-size}
+use Prim.Native.Nat.{_≤_}
+use Rattle.lists.specs.Lists.{at, networkSizes}
+use lib.ListN.{length}
+use Rattle.lists.proofs.Positions.{head-size, head-least, head-low, head-high}
 use native.Mathlib.Omega.{arith}
 use borrow.Author.Needs.{needs}
 use Rattle.lists.proofs.Network.of.Statement.{statement}
 use Rattle.lists.proofs.Network.of.Tie as tie
 use Rattle.lists.proofs.Network.head.Reads as head-reads
 
+module _ (c : tie.After-head) where
+  low : 6 ≤ c .head .result
+  low = omega (arith, c .head .ensures, head-low (at (c .before .before .before .args .list .now) 0))
+
+  high : c .head .result ≤ 7
+  high = omega (arith, c .head .ensures, head-high (at (c .before .before .before .args .list .now) 0))
+
+  within : c .head .result ≤ length (c .before .before .before .args .list .now)
+  unfolding networkSizes
+  within = omega (arith, c .head .ensures, c .before .before .before .pre, head-size (networkSizes (c .before .before .before .args .list .now)))
+
 shared-slice-read-edition : tie.Need-shared-slice-read-edition
-unfolding headSize
-shared-slice-read-edition c = omega (arith, c .before .before .pre, head-size (networkSizes (c .before .before .args .list .now)))
+shared-slice-read-edition c = omega (arith, c .before .before .pre, head-least (networkSizes (c .before .before .args .list .now)))
 
 head-requires : tie.Need-head-requires
 head-requires c κs = search needs
 
 sub-t6 : tie.Need-sub-t6
-unfolding headSize
-sub-t6 c = omega (arith, c .head .ensures)
+sub-t6 c = omega (arith, low ((c)))
 
 mul-t7 : tie.Need-mul-t7
-unfolding headSize
-mul-t7 c = record { fits = omega (arith, c .head .ensures) }
+mul-t7 c = record { fits = omega (arith, high ((c))) }
 
 shared-slice-read-t5 : tie.Need-shared-slice-read-t5
-unfolding headSize
-shared-slice-read-t5 c = omega (arith, c .before .head .ensures, c .before .before .before .before .pre, head-size (networkSizes (c .before .before .before .before .args .list .now)))
+shared-slice-read-t5 c = omega (arith, low ((c .before)), within ((c .before)))
 
 sub-t10 : tie.Need-sub-t10
-unfolding headSize
-sub-t10 c = omega (arith, c .before .head .ensures)
+sub-t10 c = omega (arith, low ((c .before)))
 
 mul-t11 : tie.Need-mul-t11
-unfolding headSize
-mul-t11 c = record { fits = omega (arith, c .before .head .ensures) }
+mul-t11 c = record { fits = omega (arith, high ((c .before))) }
 
 shared-slice-read-t13 : tie.Need-shared-slice-read-t13
-unfolding headSize
-shared-slice-read-t13 c = omega (arith, c .before .before .head .ensures, c .before .before .before .before .before .pre, head-size (networkSizes (c .before .before .before .before .before .args .list .now)))
+shared-slice-read-t13 c = omega (arith, low ((c .before .before)), within ((c .before .before)))
 
 sub-t15 : tie.Need-sub-t15
-unfolding headSize
-sub-t15 c = omega (arith, c .before .before .head .ensures)
+sub-t15 c = omega (arith, low ((c .before .before)))
 
 mul-t16 : tie.Need-mul-t16
-unfolding headSize
-mul-t16 c = record { fits = omega (arith, c .before .before .head .ensures) }
+mul-t16 c = record { fits = omega (arith, high ((c .before .before))) }
 
 shared-slice-read-t18 : tie.Need-shared-slice-read-t18
-unfolding headSize
-shared-slice-read-t18 c = omega (arith, c .before .before .before .head .ensures, c .before .before .before .before .before .before .pre, head-size (networkSizes (c .before .before .before .before .before .before .args .list .now)))
+shared-slice-read-t18 c = omega (arith, low ((c .before .before .before)), within ((c .before .before .before)))
 
 returns : tie.Need-returns
 unfolding networkSizes
