@@ -300,6 +300,34 @@ fn nine_names_the_first_overload_by_flows() {
     assert_eq!(plan(&of(0)), Err(refused(9, 1, 0)));
 }
 
+/// Nine flows of 10,000,000 on a link that has as much: in 50 parts together 205,032,704 and 2^32, of
+/// 500,000,000.
+#[test]
+fn sums_beyond_32_bits() {
+    assert_eq!(9 * 50 * AMOUNT, (1 << 32) + 205_032_704);
+    for (class, number) in [(0, 7), (2, 8)] {
+        let tunnels: Vec<_> = (0..9)
+            .flat_map(|flow| {
+                [
+                    [flow, 1, AMOUNT - flow, flow],
+                    [flow, 1, flow, AMOUNT - flow],
+                ]
+            })
+            .collect();
+        let of = |flows: usize| {
+            let rates = vec![[class, AMOUNT, AMOUNT]; flows];
+            network(0, 1, &[[AMOUNT, 0]], &rates, &tunnels[..2 * flows])
+        };
+        assert_eq!(check(&of(1), &[1, 50, 1, 2]), accepted(2));
+        for flows in 2..=9 {
+            let at_once = [1, 50, 1, 2 * flows as u64];
+            let refusal = (Some(refused(number, 1, 0)), vec![0; 2 * flows]);
+            assert_eq!(check(&of(flows), &at_once), refusal);
+        }
+        assert_eq!(plan(&of(9)), Err(refused(9, 1, 0)));
+    }
+}
+
 // ------------------------------------------------------------------- marks
 
 /// A mark falls on every tunnel of the flow across the link, also where its own amount falls or stays, of
