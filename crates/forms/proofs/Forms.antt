@@ -87,6 +87,16 @@ pub lines-in-head : (edition : ℕ) → headSize edition ≡ length (networkLine
 unfolding headSize
 lines-in-head edition = ⊎-elim (λ e. rw e refl) (λ e. rw e refl) (bool-cases (hasHeld edition))
 
+-- its last lines are those of the counts
+pub count-field : (edition j : ℕ) → getD (networkLines edition) (headSize edition - length countLines + j) End ≡ getD countLines j End
+count-field edition j = ⊎-elim with without (bool-cases (hasHeld edition))
+  where
+    with : hasHeld edition ≡ true → getD (networkLines edition) (headSize edition - length countLines + j) End ≡ getD countLines j End
+    with e = let k : headSize edition - 3 + j ≡ suc (suc (suc (suc j))) = omega (arith, with-unit edition e) in rw (k, e) refl
+
+    without : hasHeld edition ≡ false → getD (networkLines edition) (headSize edition - length countLines + j) End ≡ getD countLines j End
+    without e = let k : headSize edition - 3 + j ≡ suc (suc (suc j)) = omega (arith, without-unit edition e) in rw (k, e) refl
+
 pub head-lines : (n : counts.Network) → linkAt n 0 ≡ length (networkLines (n .edition))
 head-lines n = head-size n ∙ lines-in-head (n .edition)
 
@@ -240,19 +250,8 @@ abbrev pub InHead : List ℕ → Type 0
 InHead l = (i : ℕ) → i < length (networkLines (at l 0)) → T (allows (getD (networkLines (at l 0)) i End) (at l i))
 
 module _ (l : List ℕ) (t : InHead l) where
-  -- they are its last lines
-  count-line : (j : ℕ) → j < 3 → T (allows (getD countLines j End) (at l (headSize (at l 0) - 3 + j)))
-  count-line j h = ⊎-elim with without (bool-cases (hasHeld (at l 0)))
-    where
-      with : hasHeld (at l 0) ≡ true → T (allows (getD countLines j End) (at l (headSize (at l 0) - 3 + j)))
-      with e =
-          let k : headSize (at l 0) - 3 + j ≡ suc (suc (suc (suc j))) = omega (arith, with-unit (at l 0) e) in
-          rw k (rw e at (t (suc (suc (suc (suc j)))) (omega (arith, lines-in-head (at l 0), with-unit (at l 0) e))))
-
-      without : hasHeld (at l 0) ≡ false → T (allows (getD countLines j End) (at l (headSize (at l 0) - 3 + j)))
-      without e =
-          let k : headSize (at l 0) - 3 + j ≡ suc (suc (suc j)) = omega (arith, without-unit (at l 0) e) in
-          rw k (rw e at (t (suc (suc (suc j))) (omega (arith, lines-in-head (at l 0), without-unit (at l 0) e))))
+  count-line : (j : ℕ) → j < length countLines → T (allows (getD countLines j End) (at l (headSize (at l 0) - length countLines + j)))
+  count-line j h = rw (count-field (at l 0) j) at (t (headSize (at l 0) - length countLines + j) (omega (arith, lines-in-head (at l 0), head-low (at l 0))))
 
   pub limited : (1 ≤ networkSizes l .links) × Limited (networkSizes l)
   unfolding networkSizes

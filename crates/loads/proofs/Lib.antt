@@ -1,3 +1,5 @@
 pub mod Vectors
 pub mod Passes
+pub mod Chains
+pub mod ByFlow
 pub mod Main

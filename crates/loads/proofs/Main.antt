@@ -1,25 +1,34 @@
 -- "At every link the gathered sums equal the rule's".
 use Prim.Native.Nat.{ℕ, suc, max}
-use mathlib.Core.Path.{_≡_, refl, _∙_}
-use mathlib.Core.Bool.{Bool, true, false, cond}
-use Rattle.model.specs.Sets.{inSet}
+use mathlib.Core.Path.{_≡_, sym, ap₂, _∙_}
+use mathlib.Core.Bool.{true, false}
 use Rattle.model.specs.Net.{Net, Plan, row}
 use Rattle.model.specs.Scan.{Bound}
-use Rattle.model.specs.Rule.{crosses, onLink, counts, load, worst}
+use Rattle.model.specs.Rule.{crosses, across, flowSum, byFlow, counts, load, worst}
 use Rattle.model.proofs.Sums.{sum-cong}
+use Rattle.model.proofs.Gathered.{load-by-tunnel, worst-by-tunnel, load-by-flow, worst-by-flow}
 use Rattle.loads.specs.Claim.{worstAmount, Gathering}
-use Rattle.loads.specs.Gathered.{gathered}
+use Rattle.loads.specs.Gathered.{gathered, ofFlow, largerSum, gatheredByFlow}
 use Rattle.loads.proofs.Passes.{gathered-sum}
 
-larger-on : (c : Bool) (u v : ℕ) → cond c (max u v) 0 ≡ max (cond c u 0) (cond c v 0)
-larger-on true u v = refl
-larger-on false u v = refl
+module _ (N : Net) (P : Plan) (i l : ℕ) (b : Bound) where
+  by-tunnel : byFlow N ≡ false → gathered (N .via) (counts N b) (worstAmount N P i) (N .tunnels) l ≡ load N b (worst N P i l)
+  unfolding crosses across worstAmount
+  by-tunnel e =
+      gathered-sum (N .via) (counts N b) (worstAmount N P i) (N .tunnels) l
+      ∙ sum-cong (N .tunnels) (counts N b) (λ t _ _. sym (worst-by-tunnel N e P i l t))
+      ∙ sym (load-by-tunnel N e b (worst N P i l))
 
-sums-equal : (N : Net) (P : Plan) (i l : ℕ) (b : Bound) → gathered (N .via) (counts N b) (worstAmount N P i) (N .tunnels) l ≡ load N b (worst N P i l)
-unfolding load worst onLink crosses worstAmount
-sums-equal N P i l b =
-    gathered-sum (N .via) (counts N b) (worstAmount N P i) (N .tunnels) l
-    ∙ sum-cong (N .tunnels) (counts N b) (λ t _ _. larger-on (inSet (N .via t) l) (row N P i t) (row N P (suc i) t))
+  -- what a flow's tunnels gather on a link is their sum across it
+  of-flow : (x : ℕ → ℕ) (f : ℕ) → gathered (N .via) (ofFlow (N .flow) f) x (N .tunnels) l ≡ flowSum N (across N l x) f
+  unfolding flowSum crosses across ofFlow
+  of-flow x f = gathered-sum (N .via) (ofFlow (N .flow) f) x (N .tunnels) l
+
+  by-flow : byFlow N ≡ true → gatheredByFlow (N .via) (N .flow) (counts N b) (row N P i) (row N P (suc i)) (N .tunnels) (N .flows) l ≡ load N b (worst N P i l)
+  unfolding gatheredByFlow largerSum
+  by-flow e =
+      sum-cong (N .flows) (counts N b) (λ f _ _. ap₂ max (of-flow (row N P i) f) (of-flow (row N P (suc i)) f) ∙ sym (worst-by-flow N e P i l f))
+      ∙ sym (load-by-flow N e b (worst N P i l))
 
 pub gathering : Gathering
-gathering = record { rule = sums-equal }
+gathering = record { tunnels = by-tunnel; flows = by-flow }

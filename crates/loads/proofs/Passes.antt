@@ -23,15 +23,15 @@ cond-swap false true x = refl
 cond-swap false false x = refl
 
 module _ (via : ℕ → ℕ) (c : ℕ → Bool) (x : ℕ → ℕ) where
-  gathered-none : (l : ℕ) → gathered via c x 0 l ≡ 0
+  pub gathered-none : (l : ℕ) → gathered via c x 0 l ≡ 0
   unfolding gathered
   gathered-none l = refl
 
-  gathered-more : (n l : ℕ) → gathered via c x (n + 1) l ≡ gathered via c x n l + cond (c n && inSet (via n) l) (x n) 0
+  pub gathered-more : (n l : ℕ) → gathered via c x (n + 1) l ≡ gathered via c x n l + cond (c n && inSet (via n) l) (x n) 0
   unfolding gathered addedOn
   gathered-more n l = rw (add-one n) (ap (λ (y : ℕ). gathered via c x n l + y) (sym (cond-swap (c n) (inSet (via n) l) (x n))))
 
-  gathered-most : (n l most : ℕ) → ((t : ℕ) → t < n → x t ≤ most) → gathered via c x n l ≤ n * most
+  pub gathered-most : (n l most : ℕ) → ((t : ℕ) → t < n → x t ≤ most) → gathered via c x n l ≤ n * most
   gathered-most zero l most h = omega (arith, gathered-none l)
   gathered-most (suc n) l most h =
       omega (
@@ -64,7 +64,7 @@ gathered-cong via via′ c c′ x x′ (suc n) l hv hc hx =
     (gathered-cong via via′ c c′ x x′ n l (λ t h. hv t (omega arith)) (λ t h. hc t (omega arith)) (λ t h. hx t (omega arith))))
 
 -- both parts together are all tunnels
-part-cases : (b : Bool) (u : ℕ) → cond (eqb (cond b 0 1) 0) u 0 + cond (eqb (cond b 0 1) 1) u 0 ≡ u
+pub part-cases : (b : Bool) (u : ℕ) → cond (eqb (cond b 0 1) 0) u 0 + cond (eqb (cond b 0 1) 1) u 0 ≡ u
 part-cases true u = omega arith
 part-cases false u = omega arith
 
@@ -83,7 +83,7 @@ module _ (links : ℕ) (vias classes amounts : List ℕ) where
   }
 
   pub loads-more : (n : ℕ) (s s₁ : List ℕ) → Loads links vias classes n amounts s
-      → SetAdded links (partOf (at classes n)) (inSet (at vias n)) (λ k. at amounts (amountAt n k)) s s₁ → Loads links vias classes (n + 1) amounts s₁
+      → SetAdded links (partOf (at classes n)) (inSet (at vias n)) (λ _ k. at amounts (amountAt n k)) s s₁ → Loads links vias classes (n + 1) amounts s₁
   unfolding inPart
   loads-more n s s₁ g a = record {
     size = a .size ∙ g .size;

@@ -94,8 +94,15 @@ cond-both : (b c d e : Bool) (x : ℕ) → cond c x 0 + cond d x 0 ≡ cond e x 
 cond-both true c d e x h = h
 cond-both false c d e x h = refl
 
-module _ (links p : ℕ) (x : ℕ → ℕ) where
-  pub set-both : (c e : ℕ → Bool) (z : ℕ) (s s₁ s₂ : List ℕ) → p < 2 → SetAdded links p c x s s₁ → VectorAdded (2 * z + p) x s₁ s₂
+here-only : (b : Bool) (x : ℕ → ℕ) (l z : ℕ) → cond (b && eqb l z) (x z) 0 ≡ cond (b && eqb l z) (x l) 0
+here-only b x l z =
+    ⊎-elim
+    (λ e. ap (λ (i : ℕ). cond (b && eqb l z) (x i) 0) (sym (eqb-true l z e)))
+    (λ e. let none : (b && eqb l z) ≡ false = ap (λ (d : Bool). b && d) e ∙ and-false b in rw none refl)
+    (bool-cases (eqb l z))
+
+module _ (links p : ℕ) (x : ℕ → ℕ → ℕ) where
+  pub set-both : (c e : ℕ → Bool) (z : ℕ) (s s₁ s₂ : List ℕ) → p < 2 → SetAdded links p c x s s₁ → VectorAdded (2 * z + p) (x z) s₁ s₂
       → ((l y : ℕ) → cond (c l) y 0 + cond (eqb l z) y 0 ≡ cond (e l) y 0) → SetAdded links p e x s s₂
   set-both c e z s s₁ s₂ hp a b h = record {
     size = b .size ∙ a .size;
@@ -104,17 +111,18 @@ module _ (links p : ℕ) (x : ℕ → ℕ) where
           arith,
           a .each q l k hq hl hk,
           b .each (2 * l + q) k hk,
-          ap (λ (t : Bool). cond t (x k) 0) (vector-eqb p q z l hp hq),
-          cond-both (eqb p q) (c l) (eqb l z) (e l) (x k) (h l (x k)),
+          ap (λ (t : Bool). cond t (x z k) 0) (vector-eqb p q z l hp hq),
+          here-only (eqb p q) (λ i. x i k) l z,
+          cond-both (eqb p q) (c l) (eqb l z) (e l) (x l k) (h l (x l k)),
         );
   }
 
   pub set-none : (s : List ℕ) → SetAdded links p (λ l. false) x s s
-  set-none s = record { size = refl; each = λ q l k hq hl hk. sym (ap (λ (b : Bool). at s (loadAt l q k) + cond b (x k) 0) (and-false (eqb p q)) ∙ add-zero _) }
+  set-none s = record { size = refl; each = λ q l k hq hl hk. sym (ap (λ (b : Bool). at s (loadAt l q k) + cond b (x l k) 0) (and-false (eqb p q)) ∙ add-zero _) }
 
 -- what is left of a set can be added on its lowest link
 pub addable : (links : ℕ) (amounts : List ℕ) (t p z : ℕ) (c : ℕ → Bool) (s s₁ : List ℕ) → links ≤ mostLinks → t < mostTunnels → p < 2 → z < links → length amounts ≡ amountsSize
-    → AmountsWithin amounts (t + 1) → LoadsWithin links mostTunnels s → SetAdded links p c (λ k. at amounts (amountAt t k)) s s₁ → Addable amounts t s₁ (2 * z + p)
+    → AmountsWithin amounts (t + 1) → LoadsWithin links mostTunnels s → SetAdded links p c (λ _ k. at amounts (amountAt t k)) s s₁ → Addable amounts t s₁ (2 * z + p)
 addable links amounts t p z c s s₁ hl ht hp hz size small room a = record {
   from = (ht, size);
   to = (omega arith, a .size ∙ room .size);

@@ -1,7 +1,9 @@
 -- What one pass over the tunnels gathers. "the check is to gather all links' loads of a step in one pass over the tunnels"
-use Prim.Native.Nat.{ℕ, zero, suc, _+_}
+use Prim.Native.Nat.{ℕ, zero, suc, _+_, max}
 use mathlib.Core.Bool.{Bool, cond}
+use lib.Dec.{eqb}
 use Rattle.model.specs.Sets.{inSet}
+use Rattle.model.specs.Sum.{sumOver}
 
 -- an amount, added to the load of each link of a set
 unfoldable pub addedOn : ℕ → ℕ → (ℕ → ℕ) → ℕ → ℕ
@@ -11,3 +13,15 @@ addedOn set x loads l = loads l + cond (inSet set l) x 0
 unfoldable pub gathered : (ℕ → ℕ) → (ℕ → Bool) → (ℕ → ℕ) → ℕ → ℕ → ℕ
 gathered via counts x zero = λ l. 0
 gathered via counts x (suc n) = addedOn (via n) (cond (counts n) (x n) 0) (gathered via counts x n)
+
+-- the tunnels of flow f
+unfoldable pub ofFlow : (ℕ → ℕ) → ℕ → ℕ → Bool
+ofFlow flow f t = eqb (flow t) f
+
+-- the larger of what the tunnels that c picks gather with the amounts x, and with the amounts y
+unfoldable pub largerSum : (ℕ → ℕ) → (ℕ → Bool) → (ℕ → ℕ) → (ℕ → ℕ) → ℕ → ℕ → ℕ
+largerSum via c x y n l = max (gathered via c x n l) (gathered via c y n l)
+
+-- the loads of all links, flow by flow: "a flow's amounts on a link are added for each row, and the larger sum counts"
+unfoldable pub gatheredByFlow : (ℕ → ℕ) → (ℕ → ℕ) → (ℕ → Bool) → (ℕ → ℕ) → (ℕ → ℕ) → ℕ → ℕ → ℕ → ℕ
+gatheredByFlow via flow counts x y n flows l = sumOver flows counts (λ f. largerSum via (ofFlow flow f) x y n l)

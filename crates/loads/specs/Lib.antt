@@ -1,3 +1,4 @@
 pub mod Gathered
 pub mod Claim
 pub mod Tables
+pub mod Flows

@@ -52,10 +52,10 @@ pub record VectorAdded (j : ℕ) (x : ℕ → ℕ) (s s′ : List ℕ) : Type 0 
   pub size : length s′ ≡ length s
   pub each : (i k : ℕ) → k < blockSteps → at s′ (blockSteps * i + k) ≡ at s (blockSteps * i + k) + cond (eqb i j) (x k) 0
 
--- they are added to those of the links that c picks, in one part
-pub record SetAdded (links part : ℕ) (c : ℕ → Bool) (x : ℕ → ℕ) (s s′ : List ℕ) : Type 0 where
+-- the numbers x l are added to those of each link l that c picks, in one part
+pub record SetAdded (links part : ℕ) (c : ℕ → Bool) (x : ℕ → ℕ → ℕ) (s s′ : List ℕ) : Type 0 where
   pub size : length s′ ≡ length s
-  pub each : (q l k : ℕ) → q < 2 → l < links → k < blockSteps → at s′ (loadAt l q k) ≡ at s (loadAt l q k) + cond (eqb part q && c l) (x k) 0
+  pub each : (q l k : ℕ) → q < 2 → l < links → k < blockSteps → at s′ (loadAt l q k) ≡ at s (loadAt l q k) + cond (eqb part q && c l) (x l k) 0
 
 -- no load is over that of n amounts
 pub record LoadsWithin (links n : ℕ) (loads : List ℕ) : Type 0 where

@@ -1,7 +1,7 @@
 // One pass over the tunnels gathers the loads of all links for a block of steps: a tunnel's amounts in these steps, side by
 // side, are a vector, and so are a link's loads. Those of protected tunnels and those of the others are kept apart.
 ghost use mathlib.Core.Path.{_≡_};
-ghost use Prim.Native.Nat.{_+_, _*_, _^_, _≤_, _<_};
+ghost use Prim.Native.Nat.{_+_, _*_, _^_, _≤_, _<_, max};
 ghost use lib.ListN.{length};
 ghost use Rattle.model.specs.Limits.{mostLinks, mostTunnels};
 ghost use Rattle.model.specs.Sets.{inSet};
@@ -33,6 +33,13 @@ pub fn load_at(l: usize, part: usize, k: usize) -> usize
     STEPS * (2 * l + part) + k
 }
 
+// The larger of two amounts.
+pub fn larger(x: u64, y: u64) -> u64
+    ensures { λ r. ⌜ r ≡ max x y ⌝ }
+{
+    if x < y { y } else { x }
+}
+
 // Adds vector t of the amounts to vector j of the loads.
 fn add_vector(amounts: &[u64], t: usize, loads: &mut [u64], j: usize)
     requires { ⌜ Addable (now amounts) t (now loads) j ⌝ }
@@ -49,9 +56,16 @@ fn add_vector(amounts: &[u64], t: usize, loads: &mut [u64], j: usize)
 
 // Adds a tunnel's amounts to the loads of the links of its set: of the link of the set's lowest bit, which is then cleared,
 // until none is left.
-fn add_tunnel(links: usize, amounts: &[u64], t: usize, via: u64, part: usize, loads: &mut [u64])
+pub(crate) fn add_tunnel(
+    links: usize,
+    amounts: &[u64],
+    t: usize,
+    via: u64,
+    part: usize,
+    loads: &mut [u64],
+)
     requires { ⌜ (links ≤ mostLinks) × (t < mostTunnels) × (part < 2) × (via < 2 ^ links) × (length (now amounts) ≡ amountsSize) × AmountsWithin (now amounts) (t + 1) × LoadsWithin links mostTunnels (now loads) ⌝ }
-    ensures { λ _. ⌜ SetAdded links part (inSet via) (λ k. at (now (amounts .entry)) (amountAt t k)) (now (loads .entry)) (now (loads .exit)) ⌝ }
+    ensures { λ _. ⌜ SetAdded links part (inSet via) (λ _ k. at (now (amounts .entry)) (amountAt t k)) (now (loads .entry)) (now (loads .exit)) ⌝ }
 {
     let mut set = via;
     while set != 0 {
@@ -62,14 +76,14 @@ fn add_tunnel(links: usize, amounts: &[u64], t: usize, via: u64, part: usize, lo
 }
 
 // The part of a class.
-fn part_of(class: u64) -> usize
+pub(crate) fn part_of(class: u64) -> usize
     ensures { λ r. ⌜ (r ≡ partOf class) × (r < 2) ⌝ }
 {
     if class <= 1 { 0 } else { 1 }
 }
 
 // Clears the loads of the first so many links.
-fn clear(links: usize, loads: &mut [u64])
+pub(crate) fn clear(links: usize, loads: &mut [u64])
     requires { ⌜ (links ≤ mostLinks) × (length (now loads) ≡ loadsSize) ⌝ }
     ensures { λ _. ⌜ Cleared links (now (loads .exit)) ⌝ }
 {

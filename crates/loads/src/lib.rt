@@ -1,2 +1,4 @@
-// The loads of all links, gathered in one pass over the tunnels. Inner functions of the checker; they know nothing of rows.
+// The loads of all links, gathered in one pass over the tunnels, or flow by flow. Inner functions of the checker; they know
+// nothing of rows.
+pub mod flows;
 pub mod gather;

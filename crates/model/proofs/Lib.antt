@@ -9,8 +9,8 @@ pub mod Movers
 pub mod Gathered
 pub mod Choices
 pub mod Rows
-pub mod Weaker
 pub mod Evens
 pub mod Bounded
+pub mod Weaker
 pub mod Main
 pub mod Cases

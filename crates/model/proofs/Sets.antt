@@ -1,5 +1,5 @@
 -- Sets of links or switches, gone through from each set digit to the next: what `trailing_zeros` and `n & (n - 1)` tell.
-use Prim.Native.Nat.{ℕ, zero, suc, _+_, _-_, _*_, _/_, _%_, _^_, _≤_, _<_}
+use Prim.Native.Nat.{ℕ, zero, suc, _+_, _-_, _*_, _/_, _%_, _^_, _≤_, _<_, max}
 use mathlib.Core.Path.{_≡_, refl, sym, ap, ap₂, _∙_, subst, fun-ext}
 use mathlib.Core.Logic.{_≢_}
 use mathlib.Core.Bool.{Bool, true, false, cond, _&&_}
@@ -10,9 +10,9 @@ use native.Mathlib.Nat.{add-zero, mul-one, mul-assoc, div-one, div-eq-of-lt, div
 use native.Mathlib.Numerals.{add-one, one-add}
 use lib.Dec.{eqb, ltb}
 use lib.Pow.{pow-pos, pow-mono, pow-lt, pow-add, shl-shr, shr-shr, shr-lt, split, mod-pow-add}
-use lib.Bits.{bitAnd, and-block, and-self, and-mask, and-le-r, shifted-even}
+use lib.Bits.{bitAnd, bitOr, and-block, and-self, and-mask, and-le-r, shifted-even, or-shr, or-step}
 use lib.Count.{trailingZeros, under}
-use borrow.Author.Tests.{eq-eqb, ne-eqb, lt-ltb, le-ltb}
+use borrow.Author.Tests.{eq-eqb, ne-eqb, eqb-false, lt-ltb, le-ltb}
 use Rattle.model.specs.Sets.{inSet}
 use Rattle.model.proofs.Searches.{le-of-not-lt}
 
@@ -224,3 +224,19 @@ module _ (Done : (ℕ → Bool) → List ℕ → Type 0) (via : ℕ) where
 
   pub passing-end : (left : ℕ) (s : List ℕ) → Passing Done via left s → left ≡ 0 → Done (inSet via) s
   passing-end left s P z = subst (λ (c : ℕ → Bool). Done c s) (fun-ext (passed-all via (P .link) (none-left via (P .link) (sym (P .left-from) ∙ z)))) (P .done)
+
+-- ---- two sets together
+
+or-digit : (a b l : ℕ) → bitOr a b / 2 ^ l % 2 ≡ max (a / 2 ^ l % 2) (b / 2 ^ l % 2)
+or-digit a b l =
+    ap (λ (m : ℕ). m % 2) (or-shr a b l ∙ or-step (a / 2 ^ l) (b / 2 ^ l))
+    ∙ omega (arith, mod-lt (a / 2 ^ l) {m = 2} (omega arith), mod-lt (b / 2 ^ l) {m = 2} (omega arith))
+
+-- what is not in the two together is in neither
+pub or-outside : (a b l : ℕ) → inSet (bitOr a b) l ≡ false → (inSet a l ≡ false) × (inSet b l ≡ false)
+or-outside a b l e =
+    let low : (n : ℕ) → n % 2 < 2 = λ n. mod-lt n {m = 2} (omega arith) in
+    let no : max (a / 2 ^ l % 2) (b / 2 ^ l % 2) ≢ 1 = λ q. eqb-false (bitOr a b / 2 ^ l % 2) 1 e (or-digit a b l ∙ q) in (
+      ne-eqb (a / 2 ^ l % 2) 1 (λ q. no (omega (arith, q, low (b / 2 ^ l)))),
+      ne-eqb (b / 2 ^ l % 2) 1 (λ q. no (omega (arith, q, low (a / 2 ^ l)))),
+    )

@@ -1,5 +1,5 @@
 -- Laws of blocks: what the loops that fill a table of amounts prove at each turn, and that the loads gathered from it are the rule's.
-use Prim.Native.Nat.{ℕ, _+_, _*_, _/_, _%_, _≤_, _<_}
+use Prim.Native.Nat.{ℕ, suc, _+_, _*_, _/_, _%_, _≤_, _<_}
 use mathlib.Core.Path.{_≡_, refl, sym, ap, ap₂, _∙_, subst}
 use mathlib.Core.Logic.{⊎-elim}
 use mathlib.Core.Bool.{Bool, true, false, cond}
@@ -8,22 +8,24 @@ use native.Mathlib.Omega.{arith}
 use lib.Dec.{eqb, leb, ltb}
 use lib.ListN.{length, set, replicate, length-set, length-replicate, getD-replicate}
 use borrow.Author.Tests.{eqb-true, eqb-false}
-use Rattle.model.specs.Limits.{mostTunnels}
+use Rattle.model.specs.Limits.{mostTunnels, mostSteps, mostAmount}
 use Rattle.model.specs.Scan.{Bound}
-use Rattle.model.specs.Net.{Net, Plan}
-use Rattle.model.specs.Rule.{counts, load, worst}
+use Rattle.model.specs.Net.{Net, Plan, row}
+use Rattle.model.specs.Rule.{byFlow, counts, load, worst}
+use Rattle.model.proofs.Gathered.{counts-by-tunnel, counts-by-flow}
 use Rattle.model.proofs.Searches.{bool-cases}
 use Rattle.lists.specs.Lists.{at, networkSizes, networkOf, planSizes, planOf}
 use Rattle.loads.specs.Claim.{worstAmount}
-use Rattle.loads.specs.Gathered.{gathered}
+use Rattle.loads.specs.Gathered.{gathered, gatheredByFlow}
 use Rattle.loads.specs.Tables.{blockSteps, amountAt, amountsSize, loadAt, loadsSize, inPart, SetsWithin, LoadsWithin, Loads}
+use Rattle.loads.specs.Flows.{FlowsWithin, Amounts, FlowLoads}
 use Rattle.loads.proofs.Vectors.{at-same, at-other, last-or}
 use Rattle.loads.proofs.Passes.{gathered-cong, gathered-parts, loads-within}
+use Rattle.loads.proofs.ByFlow.{by-flow-cong, by-flow-parts, flows-within}
 use Rattle.loads.proofs.Main.{gathering}
 use Rattle.overloads.specs.Columns.{Holds, capacity, raised}
 use Rattle.overloads.specs.Inner.{Checkable, overNumber}
-use Rattle.overloads.specs.Blocks.{TunnelColumns, AmountTable, Placed, WorstAmounts, Gathers, InBlock}
-use Rattle.overloads.proofs.Good.{worst-small}
+use Rattle.overloads.specs.Blocks.{TunnelColumns, AmountTable, Placed, StepAmounts, Gathers, InBlock}
 use Rattle.overloads.proofs.Overloads.{overIn, over-same}
 
 -- ---- one step's amounts
@@ -54,13 +56,13 @@ no-amounts l h = record {
   within = record { each = λ t k ht hk. rw (getD-replicate {A = ℕ} amountsSize (amountAt t k) 0 0 (omega arith)) (omega arith) };
 }
 
-module _ (l p : List ℕ) (i : ℕ) where
-  pub worst-none : (s : List ℕ) → AmountTable l s → WorstAmounts l p i 0 s
-  worst-none s a = record { table = a; each = λ t k ht hk h. absurd (omega arith) }
+module _ (x : ℕ → ℕ → ℕ) (l p : List ℕ) (i : ℕ) where
+  pub steps-none : (s : List ℕ) → AmountTable l s → StepAmounts x l p i 0 s
+  steps-none s a = record { table = a; each = λ t k ht hk h. absurd (omega arith) }
 
-  pub worst-more : Checkable l p → (m : ℕ) (s s₁ : List ℕ) → i + m < planSizes p .steps → m < blockSteps → WorstAmounts l p i m s
-      → Placed (worstAmount (networkOf l) (planOf p) (i + m)) (networkSizes l .tunnels) m s s₁ → WorstAmounts l p i (m + 1) s₁
-  worst-more c m s s₁ h hm w a = record {
+  pub steps-more : (m : ℕ) (s s₁ : List ℕ) → m < blockSteps → ((t : ℕ) → t < networkSizes l .tunnels → x (i + m) t ≤ mostAmount * mostSteps) → StepAmounts x l p i m s
+      → Placed (x (i + m)) (networkSizes l .tunnels) m s s₁ → StepAmounts x l p i (m + 1) s₁
+  steps-more m s s₁ hm small w a = record {
     table = record {
       size = a .size ∙ w .table .size;
       within = record {
@@ -68,7 +70,7 @@ module _ (l p : List ℕ) (i : ℕ) where
             ⊎-elim
             (λ e.
             let q : k ≡ m = eqb-true k m e in
-            rw (q, a .here t ht) (worst-small l p c (i + m) t h ht))
+            rw (q, a .here t ht) (small t ht))
             (λ e. rw (a .others t k hk (eqb-false k m e)) (w .table .within .each t k ht hk))
             (bool-cases (eqb k m));
       };
@@ -79,8 +81,8 @@ module _ (l p : List ℕ) (i : ℕ) where
         (λ g. a .others t k (omega arith) (λ e. omega arith) ∙ w .each t k ht g hs);
   }
 
-  pub worst-end : (m : ℕ) (s : List ℕ) → ((k : ℕ) → k < blockSteps → i + k < planSizes p .steps → k < m) → WorstAmounts l p i m s → WorstAmounts l p i blockSteps s
-  worst-end m s h w = record { table = w .table; each = λ t k ht hk hs. w .each t k ht (h k hk hs) hs }
+  pub steps-end : (m : ℕ) (s : List ℕ) → ((k : ℕ) → k < blockSteps → i + k < planSizes p .steps → k < m) → StepAmounts x l p i m s → StepAmounts x l p i blockSteps s
+  steps-end m s h w = record { table = w .table; each = λ t k ht hk hs. w .each t k ht (h k hk hs) hs }
 
 -- ---- the loads of a block
 
@@ -88,27 +90,45 @@ part-0 : (b : Bool) → eqb (cond b 0 1) 0 ≡ b
 part-0 true = refl
 part-0 false = refl
 
-module _ (l p : List ℕ) (c : Checkable l p) (vias classes : List ℕ) (t : TunnelColumns l vias classes) where
-  pub sets-within : SetsWithin (networkSizes l .links) vias (networkSizes l .tunnels)
-  unfolding networkOf
-  sets-within = record { each = λ u h. rw (t .via .each u h) (c .network .ranges .tunnels .via u h .1) }
+pub sets-within : (l p vias : List ℕ) → Checkable l p → Holds vias (networkSizes l .tunnels) (networkOf l .via) → SetsWithin (networkSizes l .links) vias (networkSizes l .tunnels)
+unfolding networkOf
+sets-within l p vias c h = record { each = λ u k. rw (h .each u k) (c .network .ranges .tunnels .via u k .1) }
 
+pub owners-within : (l p flows : List ℕ) → Checkable l p → Holds flows (networkSizes l .tunnels) (networkOf l .flow) → FlowsWithin flows (networkSizes l .tunnels)
+unfolding networkOf
+owners-within l p flows c h = record { each = λ u k. rw (h .each u k) (omega (arith, c .network .ranges .tunnels .flow u k, c .network .ranges .sized .counts)) }
+
+pub flow-amounts : (l p vias earlier later : List ℕ) → Checkable l p → mostTunnels ≤ length vias → Holds vias (networkSizes l .tunnels) (networkOf l .via) → AmountTable l earlier
+    → AmountTable l later → Amounts (networkSizes l .links) vias earlier later (networkSizes l .tunnels)
+flow-amounts l p vias earlier later c size h a b = record {
+  few = (c .network .ranges .sized .counts .links, c .network .ranges .sized .counts .tunnels, omega (arith, c .network .ranges .sized .counts, size));
+  sets = sets-within l p vias c h;
+  size = (a .size, b .size);
+  within = (a .within, b .within);
+}
+
+module _ (l p : List ℕ) (c : Checkable l p) (i b : ℕ) (e : i ≡ blockSteps * b) where
   abbrev N : Net
   N = networkOf l
 
   abbrev P : Plan
   P = planOf p
 
-  module _ (i b : ℕ) (e : i ≡ blockSteps * b) (amounts loads : List ℕ) (w : WorstAmounts l p i blockSteps amounts)
-      (g : Loads (networkSizes l .links) vias classes (networkSizes l .tunnels) amounts loads) where
+  -- a step's amounts, by the row that it leads from
+  amount-in : (x : ℕ → ℕ → ℕ) (amounts : List ℕ) → StepAmounts x l p i blockSteps amounts
+      → (k u : ℕ) → k < blockSteps → blockSteps * b + k < planSizes p .steps → u < networkSizes l .tunnels → at amounts (amountAt u k) ≡ x (blockSteps * b + k) u
+  amount-in x amounts w k u hk hs h = w .each u k h hk (omega (arith, e)) ∙ ap (λ (j : ℕ). x (j + k) u) e
+
+  module _ (one : byFlow N ≡ false) (vias classes : List ℕ) (t : TunnelColumns l vias classes) (amounts loads : List ℕ)
+      (w : StepAmounts (worstAmount N P) l p i blockSteps amounts) (g : Loads (networkSizes l .links) vias classes (networkSizes l .tunnels) amounts loads) where
     same : (x : ℕ → Bool) (y : Bound) (m k : ℕ) → k < blockSteps → blockSteps * b + k < planSizes p .steps → ((u : ℕ) → u < networkSizes l .tunnels → x u ≡ counts N y u)
         → gathered (at vias) x (λ u. at amounts (amountAt u k)) (networkSizes l .tunnels) m ≡ load N y (worst N P (blockSteps * b + k) m)
     unfolding networkOf
     same x y m k hk hs hx =
         gathered-cong (at vias) (N .via) x (counts N y) (λ u. at amounts (amountAt u k)) (worstAmount N P (blockSteps * b + k)) (networkSizes l .tunnels) m
         (λ u h. t .via .each u h) hx
-        (λ u h. w .each u k h hk (omega (arith, e)) ∙ ap (λ (j : ℕ). worstAmount N P (j + k) u) e)
-        ∙ gathering .rule N P (blockSteps * b + k) m y
+        (λ u h. amount-in (worstAmount N P) amounts w k u hk hs h)
+        ∙ gathering .tunnels N P (blockSteps * b + k) m y one
 
     pub gathers : Gathers N P b loads
     unfolding networkOf planOf inPart counts
@@ -116,11 +136,42 @@ module _ (l p : List ℕ) (c : Checkable l p) (vias classes : List ℕ) (t : Tun
       within = loads-within _ _ _ _ _ _ _ (c .network .ranges .sized .counts .tunnels) (w .table .within) g;
       protected = λ m k hm hk hs.
           g .each 0 m k (omega arith) hm hk
-          ∙ same (inPart (at classes) 0) Bound.protected m k hk hs (λ u h. ap (λ (v : ℕ). eqb (cond (leb v 1) 0 1) 0) (t .class .each u h) ∙ part-0 _);
+          ∙ same (inPart (at classes) 0) Bound.protected m k hk hs (λ u h. ap (λ (v : ℕ). eqb (cond (leb v 1) 0 1) 0) (t .class .each u h) ∙ part-0 _ ∙ sym (counts-by-tunnel N one u));
       total = λ m k hm hk hs.
           ap₂ _+_ (g .each 0 m k (omega arith) hm hk) (g .each 1 m k (omega arith) hm hk)
           ∙ gathered-parts (at vias) (at classes) (λ u. at amounts (amountAt u k)) (networkSizes l .tunnels) m
           ∙ same (λ u. true) Bound.total m k hk hs (λ u h. refl);
+    }
+
+  module _ (whole : byFlow N ≡ true) (vias flows classes : List ℕ) (hv : Holds vias (networkSizes l .tunnels) (N .via)) (hf : Holds flows (networkSizes l .tunnels) (N .flow))
+      (hc : Holds classes (networkSizes l .flows) (N .class)) (earlier later loads : List ℕ)
+      (a : Amounts (networkSizes l .links) vias earlier later (networkSizes l .tunnels))
+      (wb : StepAmounts (row N P) l p i blockSteps earlier) (wa : StepAmounts (λ j. row N P (suc j)) l p i blockSteps later)
+      (g : FlowLoads (networkSizes l .links) vias flows (networkSizes l .tunnels) classes (networkSizes l .flows) earlier later loads) where
+    same-flows : (x : ℕ → Bool) (y : Bound) (m k : ℕ) → k < blockSteps → blockSteps * b + k < planSizes p .steps → ((f : ℕ) → f < networkSizes l .flows → x f ≡ counts N y f)
+        → gatheredByFlow (at vias) (at flows) x (λ u. at earlier (amountAt u k)) (λ u. at later (amountAt u k)) (networkSizes l .tunnels) (networkSizes l .flows) m
+        ≡ load N y (worst N P (blockSteps * b + k) m)
+    unfolding networkOf
+    same-flows x y m k hk hs hx =
+        by-flow-cong (at vias) (N .via) (at flows) (N .flow) x (counts N y) (λ u. at earlier (amountAt u k)) (row N P (blockSteps * b + k)) (λ u. at later (amountAt u k))
+        (row N P (suc (blockSteps * b + k))) (networkSizes l .tunnels) (networkSizes l .flows) m
+        (λ u h. hv .each u h)
+        (λ u h. hf .each u h) hx
+        (λ u h. amount-in (row N P) earlier wb k u hk hs h)
+        (λ u h. amount-in (λ j. row N P (suc j)) later wa k u hk hs h)
+        ∙ gathering .flows N P (blockSteps * b + k) m y whole
+
+    pub flows-gather : Gathers N P b loads
+    unfolding networkOf planOf inPart counts
+    flows-gather = record {
+      within = flows-within _ _ _ _ _ _ _ _ _ a g (λ u h. rw (hf .each u h) (c .network .ranges .tunnels .flow u h));
+      protected = λ m k hm hk hs.
+          g .each 0 m k (omega arith) hm hk
+          ∙ same-flows (inPart (at classes) 0) Bound.protected m k hk hs (λ f h. ap (λ (v : ℕ). eqb (cond (leb v 1) 0 1) 0) (hc .each f h) ∙ part-0 _ ∙ sym (counts-by-flow N whole f));
+      total = λ m k hm hk hs.
+          ap₂ _+_ (g .each 0 m k (omega arith) hm hk) (g .each 1 m k (omega arith) hm hk)
+          ∙ by-flow-parts (at vias) (at flows) (at classes) (λ u. at earlier (amountAt u k)) (λ u. at later (amountAt u k)) (networkSizes l .tunnels) (networkSizes l .flows) m
+          ∙ same-flows (λ f. true) Bound.total m k hk hs (λ f h. refl);
     }
 
 -- ---- from one step to the next

@@ -1,6 +1,6 @@
 -- What a good network and a good plan say of their amounts, their sets and their capacities.
-use Prim.Native.Nat.{ℕ, suc, _+_, _*_, _/_, _^_, _≤_, _<_}
-use mathlib.Core.Path.{_≡_, sym, ap, _∙_, subst, subst⁻¹}
+use Prim.Native.Nat.{ℕ, suc, _+_, _-_, _*_, _/_, _^_, _≤_, _<_}
+use mathlib.Core.Path.{_≡_, sym, ap, ap₂, _∙_, subst, subst⁻¹}
 use mathlib.Core.Logic.{⊎-elim}
 use mathlib.Core.List.{List}
 use native.Mathlib.Omega.{arith}
@@ -9,10 +9,11 @@ use lib.ListN.{length}
 use Rattle.model.specs.Limits.{mostSteps, mostAmount, mostShare}
 use Rattle.model.specs.Net.{row}
 use Rattle.model.proofs.Rows.{row-first, row-last, row-between, row-cases}
-use Rattle.lists.specs.Lists.{at, networkSizes, flowAt, networkOf, planSizes, rowAt, planOf, mostPlan}
+use Rattle.lists.specs.Lists.{at, networkSizes, flowAt, heldOf, networkOf, planSizes, rowAt, planOf, mostPlan}
 use Rattle.lists.specs.declared.Network.{Network}
 use Rattle.lists.specs.Good.{GoodNetwork}
-use Rattle.lists.proofs.Positions.{LinkPlace, TunnelPlace, row-in, short-plan}
+use Rattle.lists.proofs.Positions.{LinkPlace, FlowPlace, TunnelPlace, row-in, short-plan}
+use Rattle.lists.proofs.Held.{cap-most}
 use Rattle.loads.specs.Claim.{worstAmount}
 use Rattle.overloads.specs.Columns.{classOf, capacity, raised}
 use Rattle.overloads.specs.Inner.{Checkable}
@@ -43,6 +44,11 @@ module _ (l : List ℕ) (g : GoodNetwork l) (t i : ℕ) (p : TunnelPlace l t i) 
 
     pub new-fits : parts * at l (i + 3) < 2 ^ 64
     new-fits = rw (p .here) (omega (arith, in-parts parts _ h (g .ranges .tunnels .new t (p .there))))
+
+-- the class of flow f, where it is known to stand at i
+pub flow-class : (l : List ℕ) (f i : ℕ) → FlowPlace l f i → at l i ≡ networkOf l .class f
+unfolding networkOf
+flow-class l f i p = ap (at l) (p .here)
 
 module _ (l p : List ℕ) (k : Checkable l p) where
   -- the first row and the last are the network's amounts, in parts
@@ -84,7 +90,12 @@ module _ (l p : List ℕ) (k : Checkable l p) where
 pub own-tunnel : (l : List ℕ) (n : Network) (t : ℕ) → n ≡ networkSizes l → t < networkSizes l .tunnels → t < n .tunnels
 own-tunnel l n t e h = subst⁻¹ (λ (m : Network). t < m .tunnels) e h
 
--- what link k can carry, where its capacity is known to stand at i: in parts, and with the overrun
+-- what is left of link k, where its capacity is known to stand at i
+pub left-here : (l : List ℕ) (k i held : ℕ) → LinkPlace l k i → held ≡ heldOf l k → at l i - held ≡ networkOf l .cap k
+unfolding networkOf
+left-here l k i held p e = ap₂ (λ (j h : ℕ). at l j - h) (p .here) e
+
+-- what a link can carry: in parts, and with the overrun
 module _ (l : List ℕ) (g : GoodNetwork l) where
   overrun-small : at l 2 ≤ mostShare
   overrun-small = ⊎-elim (λ e. omega (arith, e)) (λ h. h .1) (g .ranges .overrun)
@@ -92,24 +103,23 @@ module _ (l : List ℕ) (g : GoodNetwork l) where
   pub times-fits : 1000 + at l 2 < 2 ^ 64
   times-fits = omega (arith, overrun-small)
 
-  module _ (k i parts : ℕ) (p : LinkPlace l k i) where
-    pub capacity-here : parts * at l i ≡ capacity (networkOf l) parts k
+  module _ (k left parts : ℕ) (e : left ≡ networkOf l .cap k) where
+    pub capacity-here : parts * left ≡ capacity (networkOf l) parts k
+    capacity-here = ap (λ (c : ℕ). parts * c) e
+
+    pub raised-here : (1000 + at l 2) * (parts * left) / 1000 ≡ raised (networkOf l) parts k
     unfolding networkOf
-    capacity-here = ap (λ (j : ℕ). parts * at l j) (p .here)
+    raised-here = ap (λ (c : ℕ). (1000 + at l 2) * (parts * c) / 1000) e
 
-    pub raised-here : (1000 + at l 2) * (parts * at l i) / 1000 ≡ raised (networkOf l) parts k
-    unfolding networkOf
-    raised-here = ap (λ (j : ℕ). (1000 + at l 2) * (parts * at l j) / 1000) (p .here)
+    module _ (h : parts ≤ mostSteps) (there : k < networkSizes l .links) where
+      capacity-small : parts * left ≤ mostAmount * mostSteps
+      capacity-small = rw e (in-parts parts _ h (cap-most l k _ (g .ranges .links) there))
 
-    module _ (h : parts ≤ mostSteps) where
-      capacity-small : parts * at l i ≤ mostAmount * mostSteps
-      capacity-small = rw (p .here) (in-parts parts _ h (g .ranges .links .cap k (p .there)))
-
-      pub capacity-fits : parts * at l i < 2 ^ 64
+      pub capacity-fits : parts * left < 2 ^ 64
       capacity-fits = omega (arith, capacity-small)
 
-      pub raised-fits : (1000 + at l 2) * (parts * at l i) < 2 ^ 64
+      pub raised-fits : (1000 + at l 2) * (parts * left) < 2 ^ 64
       raised-fits =
           let most : 1000 + at l 2 ≤ 1000 + mostShare = omega (arith, overrun-small) in
-          let q : (1000 + at l 2) * (parts * at l i) ≤ (1000 + mostShare) * (mostAmount * mostSteps) = mul-le-mul most capacity-small in
+          let q : (1000 + at l 2) * (parts * left) ≤ (1000 + mostShare) * (mostAmount * mostSteps) = mul-le-mul most capacity-small in
           omega arith

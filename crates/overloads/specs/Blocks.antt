@@ -8,8 +8,7 @@ use Rattle.model.specs.Limits.{mostTunnels}
 use Rattle.model.specs.Net.{Net, Plan}
 use Rattle.model.specs.Scan.{Bound}
 use Rattle.model.specs.Rule.{load, worst}
-use Rattle.lists.specs.Lists.{at, networkSizes, networkOf, planSizes, planOf}
-use Rattle.loads.specs.Claim.{worstAmount}
+use Rattle.lists.specs.Lists.{at, networkSizes, networkOf, planSizes}
 use Rattle.loads.specs.Tables.{blockSteps, amountsSize, loadsSize, amountAt, loadAt, AmountsWithin, LoadsWithin}
 use Rattle.overloads.specs.Columns.{Holds, classOf}
 
@@ -30,10 +29,10 @@ pub record Placed (x : ℕ → ℕ) (n k : ℕ) (s s′ : List ℕ) : Type 0 whe
   pub here : (t : ℕ) → t < n → at s′ (amountAt t k) ≡ x t
   pub others : (t j : ℕ) → j < blockSteps → j ≢ k → at s′ (amountAt t j) ≡ at s (amountAt t j)
 
--- the first m steps of the block have the worst amounts in the steps from row i on, as many as the plan has
-pub record WorstAmounts (l p : List ℕ) (i m : ℕ) (amounts : List ℕ) : Type 0 where
+-- the first m steps of the block have the amounts x a of the steps from row i on, each by the row a that it leads from, as many as the plan has
+pub record StepAmounts (x : ℕ → ℕ → ℕ) (l p : List ℕ) (i m : ℕ) (amounts : List ℕ) : Type 0 where
   pub table : AmountTable l amounts
-  pub each : (t k : ℕ) → t < networkSizes l .tunnels → k < m → i + k < planSizes p .steps → at amounts (amountAt t k) ≡ worstAmount (networkOf l) (planOf p) (i + k) t
+  pub each : (t k : ℕ) → t < networkSizes l .tunnels → k < m → i + k < planSizes p .steps → at amounts (amountAt t k) ≡ x (i + k) t
 
 -- the loads in block b are the rule's: of protected tunnels, and of both parts together
 pub record Gathers (N : Net) (P : Plan) (b : ℕ) (loads : List ℕ) : Type 0 where

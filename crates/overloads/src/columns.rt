@@ -1,14 +1,16 @@
-// Columns: one number for each tunnel, or for each link, at the front of an array.
+// Columns: one number for each tunnel, for each flow or for each link, at the front of an array.
 ghost use Prim.Native.Nat.{_+_, _*_, _/_, _≤_};
 ghost use lib.ListN.{length};
-ghost use Rattle.model.specs.Limits.{mostLinks, mostTunnels, mostSteps};
+ghost use Rattle.model.specs.Limits.{mostLinks, mostFlows, mostTunnels, mostSteps};
 ghost use Rattle.lists.specs.Lists.{networkSizes, networkOf};
 ghost use Rattle.lists.specs.Good.{GoodNetwork};
 ghost use Rattle.overloads.specs.Columns.{Holds, classOf, capacity, raised};
 use lists::Network;
 
-// The most tunnels and links, for which every column has room.
+// The most tunnels, flows and links, for which every column has room.
 pub(crate) const TUNNELS: usize = Network::TUNNELS as usize;
+
+pub(crate) const FLOWS: usize = Network::FLOWS as usize;
 
 pub(crate) const LINKS: usize = Network::LINKS as usize;
 
@@ -28,7 +30,33 @@ pub(crate) fn tunnels(network: &[u64], vias: &mut [u64], classes: &mut [u64])
     }
 }
 
-// What each link can carry, in parts: of protected traffic, and with the overrun, rounded down.
+// The flow of each tunnel.
+pub(crate) fn owners(network: &[u64], flows: &mut [u64])
+    requires { ⌜ GoodNetwork (now network) × (mostTunnels ≤ length (now flows)) ⌝ }
+    ensures { λ _. ⌜ Holds (now (flows .exit)) (networkSizes (now (network .entry)) .tunnels) (networkOf (now (network .entry)) .flow) ⌝ }
+{
+    let sizes = Network::of(network);
+    let mut t = 0;
+    while t < sizes.tunnels {
+        flows[t] = network[sizes.tunnel_at(t)];
+        t += 1;
+    }
+}
+
+// The class of each flow.
+pub(crate) fn flow_classes(network: &[u64], classes: &mut [u64])
+    requires { ⌜ GoodNetwork (now network) × (mostFlows ≤ length (now classes)) ⌝ }
+    ensures { λ _. ⌜ Holds (now (classes .exit)) (networkSizes (now (network .entry)) .flows) (networkOf (now (network .entry)) .class) ⌝ }
+{
+    let sizes = Network::of(network);
+    let mut f = 0;
+    while f < sizes.flows {
+        classes[f] = network[sizes.flow_at(f)];
+        f += 1;
+    }
+}
+
+// What each link can carry of what is not held, in parts: of protected traffic, and with the overrun, rounded down.
 pub(crate) fn links(network: &[u64], parts: u64, capacities: &mut [u64], all: &mut [u64])
     requires { ⌜ GoodNetwork (now network) × (parts ≤ mostSteps) × (mostLinks ≤ length (now capacities)) × (mostLinks ≤ length (now all)) ⌝ }
     ensures { λ _. ⌜ Holds (now (capacities .exit)) (networkSizes (now (network .entry)) .links) (capacity (networkOf (now (network .entry))) parts) ⌝ }
@@ -38,7 +66,8 @@ pub(crate) fn links(network: &[u64], parts: u64, capacities: &mut [u64], all: &m
     let times = 1000 + network[Network::OVERRUN];
     let mut l = 0;
     while l < sizes.links {
-        let capacity = parts * network[sizes.link_at(l)];
+        let left = network[sizes.link_at(l)] - sizes.held(network, l);
+        let capacity = parts * left;
         capacities[l] = capacity;
         all[l] = times * capacity / 1000;
         l += 1;

@@ -1,4 +1,5 @@
 // The first overload of a plan, found step by step and link by link. Inner functions of the checker.
 mod columns;
+mod flows;
 pub mod rows;
 pub mod steps;

@@ -12,6 +12,7 @@ ghost use Rattle.overloads.specs.Blocks.{TunnelColumns, AmountTable, InB
 use crate::columns;
 use crate::columns::LINKS;
 use crate::columns::TUNNELS;
+use crate::flows;
 use crate::rows;
 use lists::Network;
 use lists::PlanSizes;
@@ -64,6 +65,10 @@ fn block_loads(
     ensures { λ _. ⌜ Gathers (networkOf (now (network .entry))) (planOf (now (plan .entry))) (i / blockSteps) (now (loads .exit)) ⌝ }
 {
     if i % STEPS != 0 {
+        return;
+    }
+    if Network::by_flow(network) {
+        flows::flow_loads(network, plan, vias, i, amounts, loads);
         return;
     }
     let sizes = Network::of(network);

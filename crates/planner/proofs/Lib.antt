@@ -1,4 +1,5 @@
 pub mod Tables
+pub mod Flows
 pub mod Good
 pub mod Searching
 pub mod EvenLists

@@ -10,7 +10,7 @@ use native.Mathlib.Nat.{le-refl, mul-le-mul}
 use native.Mathlib.Numerals.{add-one}
 use lib.Dec.{ltb}
 use borrow.Author.Tests.{lt-ltb, le-ltb}
-use Rattle.model.specs.Limits.{mostLinks, mostTunnels, mostSteps, mostAmount, mostShare}
+use Rattle.model.specs.Limits.{mostLinks, mostSteps, mostAmount, mostShare}
 use Rattle.model.specs.Search.{first, onlyIf}
 use Rattle.model.specs.Net.{Net}
 use Rattle.model.specs.Scan.{Bound, testLink}
@@ -24,7 +24,8 @@ use Rattle.model.proofs.Evens.{even-load, even-accepted}
 use Rattle.lists.specs.Answers.{plan}
 use Rattle.lists.specs.Lists.{networkOf}
 use Rattle.lists.specs.declared.Answer.the-variants.{Refused}
-use Rattle.planner.specs.Tables.{Part, Room, onPart, Loads, Ready, stepSum, endSum}
+use Rattle.lists.proofs.Held.{cap-most}
+use Rattle.planner.specs.Tables.{Part, mostSums, Room, onPart, Loads, Ready, stepSum, endSum}
 use Rattle.planner.specs.Planned.{stuck}
 use Rattle.planner.specs.Search.{isOver}
 use Rattle.planner.proofs.Tables.{table-room}
@@ -62,22 +63,22 @@ module _ {l p a : List ℕ} {q k cap : ℕ} (h : AtLink l p a q k cap) where
   unfolding networkOf
   link-low = omega (arith, h .link, h .ready .good .ranges .sized .counts)
 
-  pub protected-room : Room mostTunnels p
-  protected-room = table-room _ _ _ _ (h .ready .protected) (le-refl _) (good-range l (h .ready .good))
+  pub protected-room : Room mostSums p
+  protected-room = table-room _ (good-range l (h .ready .good)) _ _ _ (h .ready .protected) (le-refl _)
 
-  pub all-room : Room mostTunnels a
-  all-room = table-room _ _ _ _ (h .ready .all) (le-refl _) (good-range l (h .ready .good))
+  pub all-room : Room mostSums a
+  all-room = table-room _ (good-range l (h .ready .good)) _ _ _ (h .ready .all) (le-refl _)
 
   pub overrun-most : networkOf l .overrun ≤ mostShare
   unfolding networkOf
   overrun-most = ⊎-elim (λ z. omega arith) (λ b. omega arith) (h .ready .good .ranges .overrun)
 
-  cap-most : cap ≤ mostAmount
+  left-most : cap ≤ mostAmount
   unfolding networkOf
-  cap-most = omega (arith, h .same, h .ready .good .ranges .links .cap k (h .link))
+  left-most = omega (arith, h .same, cap-most l k _ (h .ready .good .ranges .links) (h .link))
 
   pub cap-room : q * cap ≤ mostSteps * mostAmount
-  cap-room = mul-le-mul (h .most) cap-most
+  cap-room = mul-le-mul (h .most) left-most
 
   pub overrun-room : (1000 + networkOf l .overrun) * (q * cap) ≤ (1000 + mostShare) * (mostSteps * mostAmount)
   overrun-room = let o : 1000 + networkOf l .overrun ≤ 1000 + mostShare = omega (arith, overrun-most) in mul-le-mul o cap-room

@@ -1,31 +1,33 @@
 -- The laws of the tables of sums.
-use Prim.Native.Nat.{ℕ, suc, _+_, _-_, _*_, _≤_, _<_, max}
+use Prim.Native.Nat.{ℕ, suc, _+_, _-_, _*_, _^_, _≤_, _<_, max}
 use mathlib.Core.Path.{_≡_, refl, sym, ap, subst, _∙_}
 use mathlib.Core.Logic.{⊎-elim}
 use mathlib.Core.Bool.{Bool, true, false, cond, not}
 use mathlib.Core.List.{List}
 use native.Mathlib.Omega.{arith}
 use native.Mathlib.Decide.{decLt}
-use native.Mathlib.Nat.{add-zero, mul-le-mul, mul-le-mul-right}
+use native.Mathlib.Nat.{add-zero, le-refl, mul-le-mul, mul-le-mul-right}
 use lib.Dec.{eqb, ltb}
 use lib.ListN.{length, getD, set, replicate, length-set, length-replicate, getD-replicate}
 use lib.Seq.{getD-set-same, getD-set-other}
 use borrow.Author.Tests.{eq-eqb, ne-eqb, eqb-true, eqb-false, lt-ltb, le-ltb}
-use Rattle.model.specs.Limits.{mostLinks, mostTunnels, mostSteps, mostAmount}
+use Rattle.model.specs.Limits.{mostLinks, mostFlows, mostTunnels, mostSteps, mostAmount}
 use Rattle.lists.specs.Lists.{at}
 use Rattle.model.specs.Sum.{sumOver}
 use Rattle.model.specs.Net.{Net}
 use Rattle.model.specs.Scan.{Bound}
-use Rattle.model.specs.Rule.{crosses, onLink, counts}
+use Rattle.model.specs.Rule.{crosses, across, flowSum, byFlow, movers, onLink, counts}
 use Rattle.model.proofs.Sums.{sum-zero, sum-take, sum-skip, sum-bound, sum-both}
 use Rattle.model.proofs.Searches.{bool-cases, cond-most}
+use Rattle.model.proofs.Movers.{movers-tunnels, on-tunnel, movers-flows, on-flow}
+use Rattle.model.proofs.Gathered.{larger-by-tunnel}
 use Rattle.model.specs.Sets.{inSet}
-use Rattle.planner.specs.Tables.{Part, tableSize, sumAt, amount, Room, Added, onPart, Table, unprotected, Loads, Joined, stepSum, endSum}
+use Rattle.planner.specs.Tables.{Part, tableSize, sumAt, amount, mostSums, Room, Added, onPart, Table, unprotected, Loads, Joined, stepSum, endSum}
 
 -- ---- one link
 
 -- a store that adds x to the number at i
-store-at : (s : List ℕ) (i x j : ℕ) → i < length s → getD (set s i (getD s i 0 + x)) j 0 ≡ getD s j 0 + cond (eqb j i) x 0
+pub store-at : (s : List ℕ) (i x j : ℕ) → i < length s → getD (set s i (getD s i 0 + x)) j 0 ≡ getD s j 0 + cond (eqb j i) x 0
 store-at s i x j h =
     ⊎-elim
     (λ e. let same : j ≡ i = eqb-true j i e in rw e (rw same (getD-set-same s i (getD s i 0 + x) 0 h)))
@@ -85,16 +87,16 @@ added-both c d e o n s s₁ s₂ a b h = record {
 pub added-none : (o n : ℕ) (s : List ℕ) → Added (λ l. false) o n s s
 added-none o n s = record { size = refl; each = λ p l k. sym (add-zero _) }
 
--- a tunnel's amounts make the sums those of one amount more
-amount-most : (o n : ℕ) → o ≤ mostAmount → n ≤ mostAmount → (p : Part) → amount o n p ≤ mostAmount
-amount-most o n ho hn Part.old = ho
-amount-most o n ho hn Part.new = hn
-amount-most o n ho hn Part.peak = omega arith
+-- a mover's amounts make the sums those of its amounts more
+pub amount-most : (B o n : ℕ) → o ≤ B → n ≤ B → (p : Part) → amount o n p ≤ B
+amount-most B o n ho hn Part.old = ho
+amount-most B o n ho hn Part.new = hn
+amount-most B o n ho hn Part.peak = omega arith
 
-pub added-room : (c : ℕ → Bool) (o n : ℕ) (s s′ : List ℕ) → Added c o n s s′ → Room mostTunnels s → o ≤ mostAmount → n ≤ mostAmount → Room (mostTunnels + 1) s′
+pub added-room : (c : ℕ → Bool) (o n : ℕ) (s s′ : List ℕ) → Added c o n s s′ → Room mostSums s → o ≤ mostAmount → n ≤ mostAmount → Room (mostSums + mostTunnels) s′
 added-room c o n s s′ a r ho hn = record {
   size = a .size ∙ r .size;
-  most = λ p l h. omega (arith, a .each p l h, r .most p l h, cond-most (c l) (amount o n p), amount-most o n ho hn p);
+  most = λ p l h. omega (arith, a .each p l h, r .most p l h, cond-most (c l) (amount o n p), amount-most mostAmount o n ho hn p);
 }
 
 -- ---- two tables joined, place by place
@@ -139,18 +141,21 @@ room-at n s r i h =
       ]
     ]
 
--- ---- a table of tunnels
+-- ---- a table of movers
 
--- what a part counts of a tunnel is its amount, on the links of its set
-part-amount : (N : Net) (l : ℕ) (p : Part) (t : ℕ) → onPart N l p t ≡ cond (inSet (N .via t) l) (amount (N .old t) (N .new t) p) 0
-unfolding onPart onLink crosses
-part-amount N l Part.old t = refl
-part-amount N l Part.new t = refl
-part-amount N l Part.peak t = cond-max (inSet (N .via t) l) (N .old t) (N .new t)
-  where
-    cond-max : (b : Bool) (x y : ℕ) → max (cond b x 0) (cond b y 0) ≡ cond b (max x y) 0
-    cond-max true x y = refl
-    cond-max false x y = refl
+-- what a part counts of a mover
+pub part-mover : (N : Net) (l : ℕ) (p : Part) (m : ℕ) → onPart N l p m ≡ amount (onLink N l (N .old) m) (onLink N l (N .new) m) p
+unfolding onPart
+part-mover N l Part.old m = refl
+part-mover N l Part.new m = refl
+part-mover N l Part.peak m = refl
+
+-- of a tunnel that moves for itself, its amount on the links of its set
+part-tunnel : (N : Net) → byFlow N ≡ false → (l : ℕ) (p : Part) (t : ℕ) → onPart N l p t ≡ cond (inSet (N .via t) l) (amount (N .old t) (N .new t) p) 0
+unfolding onPart across crosses
+part-tunnel N e l Part.old t = on-tunnel N e l (N .old) t
+part-tunnel N e l Part.new t = on-tunnel N e l (N .new) t
+part-tunnel N e l Part.peak t = larger-by-tunnel N e l (N .old) (N .new) t
 
 sum-zeros : (p : Part) (l : ℕ) → l < mostLinks → sumAt (replicate tableSize 0) p l ≡ 0
 sum-zeros Part.old l h = getD-replicate tableSize l 0 0 (omega arith)
@@ -163,34 +168,65 @@ table-zero N c s e = record {
   each = λ p l h. ap (λ (z : List ℕ). sumAt z p l) e ∙ sum-zeros p l h ∙ sym (sum-zero c (onPart N l p));
 }
 
-pub table-take : (N : Net) (t : ℕ) (c : ℕ → Bool) (s s′ : List ℕ) → Table N t c s → c t ≡ true → Added (inSet (N .via t)) (N .old t) (N .new t) s s′ → Table N (t + 1) c s′
-table-take N t c s s′ T e a = record {
+pub table-take : (N : Net) → byFlow N ≡ false → (t : ℕ) (c : ℕ → Bool) (s s′ : List ℕ) → Table N t c s → c t ≡ true → Added (inSet (N .via t)) (N .old t) (N .new t) s s′
+    → Table N (t + 1) c s′
+table-take N u t c s s′ T e a = record {
   size = a .size ∙ T .size;
-  each = λ p l h. omega (arith, a .each p l h, T .each p l h, part-amount N l p t, sum-take t c (onPart N l p) e);
+  each = λ p l h. omega (arith, a .each p l h, T .each p l h, part-tunnel N u l p t, sum-take t c (onPart N l p) e);
 }
 
-pub table-skip : (N : Net) (t : ℕ) (c : ℕ → Bool) (s : List ℕ) → Table N t c s → c t ≡ false → Table N (t + 1) c s
-table-skip N t c s T e = record { size = T .size; each = λ p l h. T .each p l h ∙ sym (sum-skip t c (onPart N l p) e) }
+pub table-skip : (N : Net) (m : ℕ) (c : ℕ → Bool) (s : List ℕ) → Table N m c s → c m ≡ false → Table N (m + 1) c s
+table-skip N m c s T e = record { size = T .size; each = λ p l h. T .each p l h ∙ sym (sum-skip m c (onPart N l p) e) }
 
--- the amounts of a network's tunnels are in their range
-abbrev pub InRange : Net → Type 0
-InRange N = (N .tunnels ≤ mostTunnels) × ((t : ℕ) → t < N .tunnels → (N .old t ≤ mostAmount) × (N .new t ≤ mostAmount))
+-- a network's counts, sets and amounts are in their ranges
+pub record InRange (N : Net) : Type 0 where
+  pub flows : N .flows ≤ mostFlows
+  pub tunnels : N .tunnels ≤ mostTunnels
+  pub via : (t : ℕ) → t < N .tunnels → N .via t < 2 ^ N .links
+  pub old : (t : ℕ) → t < N .tunnels → N .old t ≤ mostAmount
+  pub new : (t : ℕ) → t < N .tunnels → N .new t ≤ mostAmount
 
--- so no sum is larger than all amounts together: what shows that the sums, and all that is computed from them, fit 64 bits
-pub table-room : (N : Net) (t : ℕ) (c : ℕ → Bool) (s : List ℕ) → Table N t c s → t ≤ N .tunnels → InRange N → Room mostTunnels s
-table-room N t c s T h r = record {
-  size = T .size;
-  most = λ p l k.
+-- so no mover has more on a link than all tunnels together
+module _ (N : Net) (r : InRange N) where
+  pub movers-most : movers N ≤ mostTunnels
+  movers-most =
+      ⊎-elim (λ e. omega (arith, movers-flows N e, r .flows)) (λ e. omega (arith, movers-tunnels N e, r .tunnels)) (bool-cases (byFlow N))
+
+  pub flow-most : (n : ℕ) (c : ℕ → Bool) (x : ℕ → ℕ) → ((t : ℕ) → t < N .tunnels → x t ≤ mostAmount) → n ≤ N .tunnels → (l : ℕ)
+      → sumOver n c (across N l x) ≤ mostTunnels * mostAmount
+  unfolding across
+  flow-most n c x h k l =
       omega (
         arith,
-        T .each p l k,
-        mul-le-mul-right mostAmount h,
-        mul-le-mul-right mostAmount (r .0),
-        sum-bound t c (onPart N l p) mostAmount (λ u g.
-            let a = r .1 u (omega arith) in
-            omega (arith, part-amount N l p u, cond-most (inSet (N .via u) l) (amount (N .old u) (N .new u) p), amount-most (N .old u) (N .new u) (a .0) (a .1) p)),
-      );
-}
+        mul-le-mul-right mostAmount k,
+        mul-le-mul-right mostAmount (r .tunnels),
+        sum-bound n c (across N l x) mostAmount (λ t j. omega (arith, cond-most (crosses N l t) (x t), h t (omega arith))),
+      )
+
+  on-most : (x : ℕ → ℕ) → ((t : ℕ) → t < N .tunnels → x t ≤ mostAmount) → (l m : ℕ) → m < movers N → onLink N l x m ≤ mostTunnels * mostAmount
+  unfolding across flowSum
+  on-most x h l m k =
+      ⊎-elim
+      (λ e. omega (arith, on-flow N e l x m, flow-most (N .tunnels) (λ t. eqb (N .flow t) m) x h (le-refl _) l))
+      (λ e. omega (arith, on-tunnel N e l x m, cond-most (crosses N l m) (x m), h m (omega (arith, movers-tunnels N e))))
+      (bool-cases (byFlow N))
+
+  -- and all that is computed from the sums of some movers fits 64 bits
+  pub table-room : (n : ℕ) (c : ℕ → Bool) (s : List ℕ) → Table N n c s → n ≤ movers N → Room mostSums s
+  table-room n c s T h = record {
+    size = T .size;
+    most = λ p l k.
+        omega (
+          arith,
+          T .each p l k,
+          movers-most,
+          mul-le-mul-right (mostTunnels * mostAmount) h,
+          mul-le-mul-right (mostTunnels * mostAmount) movers-most,
+          sum-bound n c (onPart N l p) (mostTunnels * mostAmount) (λ m g.
+              let low : m < movers N = omega arith in
+              omega (arith, part-mover N l p m, amount-most (mostTunnels * mostAmount) _ _ (on-most (N .old) (r .old) l m low) (on-most (N .new) (r .new) l m low) p)),
+        );
+  }
 
 -- the sums of all classes are those of the protected ones and of the others together
 either-class : (b : Bool) (u : ℕ) → cond b u 0 + cond (not b) u 0 ≡ u
@@ -206,22 +242,22 @@ joined-part s more s′ j Part.old l h = j .each l (omega arith)
 joined-part s more s′ j Part.new l h = j .each (64 + l) (omega arith)
 joined-part s more s′ j Part.peak l h = j .each (128 + l) (omega arith)
 
-pub tables-join : (N : Net) (s more s′ : List ℕ) → Loads N Bound.protected more → Table N (N .tunnels) (unprotected N) s → Joined s more s′ → Loads N Bound.total s′
+pub tables-join : (N : Net) (s more s′ : List ℕ) → Loads N Bound.protected more → Table N (movers N) (unprotected N) s → Joined s more s′ → Loads N Bound.total s′
 tables-join N s more s′ P T j = record {
   size = j .size;
-  each = λ p l h. omega (arith, joined-part s more s′ j p l h, P .each p l h, T .each p l h, class-sum N (N .tunnels) (onPart N l p));
+  each = λ p l h. omega (arith, joined-part s more s′ j p l h, P .each p l h, T .each p l h, class-sum N (movers N) (onPart N l p));
 }
 
 -- ---- the figures computed from a table
 
--- "96 tunnels and 50 steps; amounts up to 10,000,000": a load of a plan of even steps, in parts, has at most two such products, and 1500 times it fits 64 bits
+-- "96 tunnels and 50 steps; amounts up to 10,000,000": a load of a plan of even steps, in parts, has at most three such products, and 1000 times it fits 64 bits
 abbrev pub mostProduct : ℕ
-mostProduct = mostSteps * (mostTunnels * mostAmount)
+mostProduct = mostSteps * (mostSums * mostAmount)
 
-pub product-room : (k x : ℕ) → k ≤ mostSteps → x ≤ mostTunnels * mostAmount → k * x ≤ mostProduct
+pub product-room : (k x : ℕ) → k ≤ mostSteps → x ≤ mostSums * mostAmount → k * x ≤ mostProduct
 product-room k x hk hx = mul-le-mul hk hx
 
-module _ (s : List ℕ) (r : Room mostTunnels s) (l : ℕ) (h : l < mostLinks) where
+module _ (s : List ℕ) (r : Room mostSums s) (l : ℕ) (h : l < mostLinks) where
   pub end-room : (q : ℕ) → q ≤ mostSteps → endSum s q l ≤ 2 * mostProduct
   end-room q k =
       omega (

@@ -3,12 +3,13 @@
 // its largest stands in the first step or in the last.
 ghost use mathlib.Core.Path.{_≡_};
 ghost use Prim.Native.Nat.{_≤_, _<_};
-ghost use Rattle.model.specs.Limits.{mostLinks, mostTunnels, mostSteps};
+ghost use Rattle.model.specs.Limits.{mostLinks, mostSteps};
 ghost use Rattle.model.specs.Rule.{accepted, firstOverload};
 ghost use Rattle.model.specs.Even.{even, fewest};
 ghost use Rattle.lists.specs.Answers.{plan};
 ghost use Rattle.lists.specs.Lists.{networkSizes, networkOf};
-ghost use Rattle.planner.specs.Tables.{Room, Ready, stepSum, endSum};
+ghost use Rattle.lists.specs.Good.{NetworkRanges};
+ghost use Rattle.planner.specs.Tables.{mostSums, Room, Ready, stepSum, endSum};
 ghost use Rattle.planner.specs.Planned.{stuck};
 ghost use Rattle.planner.specs.Search.{answered, isOver};
 use crate::sums;
@@ -20,9 +21,17 @@ pub enum Fewest {
     NoPlan,
 }
 
+// What is left of a link's capacity.
+fn capacity(network: &[u64], sizes: Network, link: usize) -> u64
+    requires { ⌜ NetworkRanges (now network) × (sizes ≡ networkSizes (now network)) × (link < sizes .links) ⌝ }
+    ensures { λ r. ⌜ r ≡ networkOf (now (network .entry)) .cap link ⌝ }
+{
+    network[sizes.link_at(link)] - sizes.held(network, link)
+}
+
 // The worst load of a link in the step that leads from the given row, of the plan of 50 steps.
 fn step_load(table: &[u64], row: u64, link: usize) -> u64
-    requires { ⌜ Room mostTunnels (now table) × (row < mostSteps) × (link < mostLinks) ⌝ }
+    requires { ⌜ Room mostSums (now table) × (row < mostSteps) × (link < mostLinks) ⌝ }
     ensures { λ r. ⌜ r ≡ stepSum (now (table .entry)) mostSteps row link ⌝ }
 {
     let old = table[link];
@@ -32,7 +41,7 @@ fn step_load(table: &[u64], row: u64, link: usize) -> u64
 
 // The larger of a link's worst loads in the first step and in the last, of the plan of q steps: no step's load is larger.
 fn end_load(table: &[u64], q: u64, link: usize) -> u64
-    requires { ⌜ Room mostTunnels (now table) × (1 ≤ q) × (q ≤ mostSteps) × (link < mostLinks) ⌝ }
+    requires { ⌜ Room mostSums (now table) × (1 ≤ q) × (q ≤ mostSteps) × (link < mostLinks) ⌝ }
     ensures { λ r. ⌜ r ≡ endSum (now (table .entry)) q link ⌝ }
 {
     let old = table[link];
@@ -52,7 +61,7 @@ fn fits(network: &[u64], protected: &[u64], all: &[u64], q: u64) -> bool
     let sizes = Network::of(network);
     let mut link: usize = 0;
     while link < sizes.links {
-        let room = q * network[sizes.link_at(link)];
+        let room = q * capacity(network, sizes, link);
         if room < end_load(protected, q, link) {
             return false;
         }
@@ -86,7 +95,7 @@ fn is_over(network: &[u64], protected: &[u64], all: &[u64], row: u64, link: usiz
     ensures { λ r. ⌜ r ≡ isOver (networkOf (now (network .entry))) row link ⌝ }
 {
     let sizes = Network::of(network);
-    let room = Network::STEPS * network[sizes.link_at(link)];
+    let room = Network::STEPS * capacity(network, sizes, link);
     if room < step_load(protected, row, link) {
         return true;
     }

@@ -1,4 +1,5 @@
 pub mod Causes
 pub mod Main
 pub mod Plans
+pub mod Units
 pub mod Edges

@@ -1,6 +1,6 @@
 -- Demand 3 holds.
 use Prim.Native.Nat.{ℕ, suc, _-_, _≤_, _<_}
-use mathlib.Core.Path.{_≡_, refl, sym, ap, ap₂, _∙_, subst}
+use mathlib.Core.Path.{_≡_, refl, sym, ap, ap₂, _∙_, subst, fun-ext}
 use mathlib.Core.Bool.{Bool, true, false, cond}
 use mathlib.Core.List.{List, _++_}
 use mathlib.Core.Option.{Option, none, some}
@@ -10,11 +10,11 @@ use lib.Dec.{eqb, leb}
 use lib.ListN.{length, getD, take, drop, List·getD-append}
 use lib.Seq.{take-append-seam}
 use Rattle.model.specs.Outcome.{Outcome, good, refused, Cause, number}
-use Rattle.model.specs.Net.{Net, Plan, row}
+use Rattle.model.specs.Net.{Net, Plan}
 use Rattle.model.specs.Scan.{Bound, Overload, cause, step}
-use Rattle.model.specs.Rule.{onLink, load, counts, shown, overloads, exceeds, mark, marked, stepCount}
+use Rattle.model.specs.Rule.{overloads, mark, moversOf, marked, stepCount}
 use Rattle.model.specs.Even.{keepsScratch, stepBound}
-use Rattle.model.proofs.Sums.{sum-cong}
+use Rattle.model.proofs.Movers.{movers-same}
 use Rattle.lists.specs.Lists.{networkOf, planOf}
 use Rattle.lists.specs.Answers.{withRoom, plan, lent}
 use Rattle.lists.specs.declared.Answer.the-variants.{Done, Plan as Planned, Refused}
@@ -78,11 +78,9 @@ mark-at m n t rest h =
     ap (λ (k : ℕ). eqb k 1) (List·getD-append (marksOf m n) rest 0 t (rw (listed-length {A = ℕ} n (λ i. cond (m i) 1 0)) h) ∙ listed-at n (λ i. cond (m i) 1 0) t h) ∙ bit (m t)
 
 shows-same : (N : Net) (P : Plan) (o : Overload) (marks : List ℕ) → ((t : ℕ) → t < N .tunnels → eqb (getD marks t 0) 1 ≡ mark N P o t)
-    → overloads N P (o .from) (o .link) (λ t. eqb (getD marks t 0) 1) (o .bound) ≡ overloads N P (o .from) (o .link) (marked N P o) (o .bound)
-unfolding overloads load shown marked
-shows-same N P o marks h =
-    ap (exceeds N (o .bound) (P .parts) (o .link))
-    (sum-cong (N .tunnels) (counts N (o .bound)) (λ t k _. ap (λ (b : Bool). onLink N (o .link) (row N P (cond b (suc (o .from)) (o .from))) t) (h t k)))
+    → overloads N P (o .from) (o .link) (moversOf N (λ t. eqb (getD marks t 0) 1)) (o .bound) ≡ overloads N P (o .from) (o .link) (marked N P o) (o .bound)
+unfolding marked
+shows-same N P o marks h = ap (λ (c : ℕ → Bool). overloads N P (o .from) (o .link) c (o .bound)) (fun-ext (movers-same N _ _ h))
 
 -- what is shown of an overload, in the terms of its answer
 shown-at : (n p marks : List ℕ) (b : Bound) (a l : ℕ) (o : Over (verdict n p (length marks)) b a l)

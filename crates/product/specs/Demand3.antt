@@ -9,7 +9,7 @@ use lib.Dec.{eqb}
 use lib.ListN.{length, getD, drop}
 use Rattle.model.specs.Outcome.{good, number}
 use Rattle.model.specs.Scan.{Bound, cause}
-use Rattle.model.specs.Rule.{Choice, overloads, missedRow, stepCount}
+use Rattle.model.specs.Rule.{Choice, overloads, missedRow, stepCount, moversOf}
 use Rattle.model.specs.Even.{keepsScratch, ceilDiv, stepBound}
 use Rattle.lists.specs.Lists.{networkOf, planSizes, planOf}
 use Rattle.lists.specs.Answers.{withRoom, plan, lent}
@@ -31,9 +31,10 @@ NoOverload n p =
     (i l : ℕ) → i < stepCount (networkOf n) (planOf p) → l < networkOf n .links
     → (c : Choice (networkOf n) (planOf p) i) (b : Bound) → overloads (networkOf n) (planOf p) i l c b ≡ false
 
--- "the choice in the named step in which the marked tunnels show the later row and all others the earlier", by the bytes of the marks
+-- "the choice in the named step in which the marked tunnels show the later row and all others the earlier", with `unit=1` "the flows of the marked tunnels", by the bytes
+-- of the marks
 abbrev pub byMarks : (n p : List ℕ) (i : ℕ) → List ℕ → Choice (networkOf n) (planOf p) i
-byMarks n p i marks t = eqb (getD marks t 0) 1
+byMarks n p i marks = moversOf (networkOf n) (λ t. eqb (getD marks t 0) 1)
 
 -- the planner, given the room, returns the plan p: the answer is a plan, and p stands at the front of the output
 abbrev pub Returns : List ℕ → List ℕ → List ℕ → Type 0

@@ -1,4 +1,4 @@
--- The edges P1 to P12, and those of rates that change, over the definitions that the contracts cite: one list, one computed test.
+-- The edges P1 to P12, and those of rates that change, of whole-flow switches and of held capacity, over the definitions that the contracts cite: one list, one computed test.
 use Prim.Native.Nat.{ℕ}
 use mathlib.Core.Bool.{Bool, true, false, _&&_}
 use mathlib.Core.List.{List, [], _∷_, _++_}
@@ -73,6 +73,22 @@ growing cap =
     (2 ∷ 333 ∷ 0 ∷ 2 ∷ 2 ∷ 4 ∷ cap ∷ cap ∷ 0 ∷ 10 ∷ 14 ∷ 0 ∷ 10 ∷ 14 ∷ [])
     ++ (0 ∷ 1 ∷ 10 ∷ 0 ∷ 0 ∷ 2 ∷ 0 ∷ 14 ∷ 1 ∷ 2 ∷ 10 ∷ 0 ∷ 1 ∷ 1 ∷ 0 ∷ 14 ∷ [])
 
+-- the session's swap and the longer way in edition 3, with a unit and with so much held of each link: after the overrun, the unit; of each link cap and held; next is the rate
+abbrev swapHeld : ℕ → ℕ → ℕ → List ℕ
+swapHeld unit cap held =
+    (3 ∷ 333 ∷ 0 ∷ unit ∷ 2 ∷ 2 ∷ 4 ∷ cap ∷ held ∷ cap ∷ held ∷ 0 ∷ 10 ∷ 10 ∷ 0 ∷ 10 ∷ 10 ∷ [])
+    ++ (0 ∷ 1 ∷ 10 ∷ 0 ∷ 0 ∷ 2 ∷ 0 ∷ 10 ∷ 1 ∷ 2 ∷ 10 ∷ 0 ∷ 1 ∷ 1 ∷ 0 ∷ 10 ∷ [])
+
+abbrev longerHeld : ℕ → ℕ → ℕ → List ℕ
+longerHeld unit cap held =
+    3 ∷ 333 ∷ 0 ∷ unit ∷ 2 ∷ 1 ∷ 2 ∷ cap ∷ held ∷ cap ∷ held ∷ 0 ∷ 10 ∷ 10 ∷ 0 ∷ 1 ∷ 10 ∷ 0 ∷ 0 ∷ 3 ∷ 0 ∷ 10 ∷ []
+
+-- two flows on two links: one is gathered from two tunnels of link 0 and one of link 1 on the second of them, the other goes from link 0 to link 1
+abbrev gathered : ℕ → ℕ → List ℕ
+gathered unit cap =
+    (3 ∷ 333 ∷ 0 ∷ unit ∷ 2 ∷ 2 ∷ 5 ∷ cap ∷ 0 ∷ cap ∷ 0 ∷ 0 ∷ 10 ∷ 10 ∷ 2 ∷ 10 ∷ 10 ∷ [])
+    ++ (0 ∷ 1 ∷ 6 ∷ 0 ∷ 0 ∷ 1 ∷ 0 ∷ 10 ∷ 0 ∷ 2 ∷ 4 ∷ 0 ∷ 1 ∷ 1 ∷ 10 ∷ 0 ∷ 1 ∷ 2 ∷ 0 ∷ 10 ∷ [])
+
 -- a plan of two steps and two parts for one tunnel, with a row between
 abbrev through : ℕ → List ℕ
 through amount = 1 ∷ 2 ∷ 2 ∷ 1 ∷ amount ∷ []
@@ -131,10 +147,34 @@ edges =
     -- new amounts that miss next, and old ones that have next instead of rate
     ∷ edge (steps (changing 20 10 20 10)) (refuses 4 0 1 [])
     ∷ edge (steps (2 ∷ 333 ∷ 0 ∷ 1 ∷ 1 ∷ 1 ∷ 20 ∷ 0 ∷ 10 ∷ 20 ∷ 0 ∷ 1 ∷ 20 ∷ 20 ∷ [])) (refuses 4 0 0 [])
-    -- edition 1 has no number for next, and there is no edition 0 or 3
+    -- edition 1 has no number for next, and there is no edition 0 or 4
     ∷ edge (steps (1 ∷ 333 ∷ 0 ∷ 1 ∷ 1 ∷ 1 ∷ 20 ∷ 0 ∷ 10 ∷ 20 ∷ 0 ∷ 1 ∷ 10 ∷ 20 ∷ [])) (refuses 2 10 0 [])
-    ∷ edge (steps (3 ∷ 333 ∷ 0 ∷ 1 ∷ 0 ∷ 0 ∷ 15 ∷ [])) (refuses 2 1 0 [])
+    ∷ edge (steps (4 ∷ 333 ∷ 0 ∷ 1 ∷ 0 ∷ 0 ∷ 15 ∷ [])) (refuses 2 1 0 [])
     ∷ edge (steps (0 ∷ 333 ∷ 0 ∷ 1 ∷ 0 ∷ 0 ∷ 15 ∷ [])) (refuses 2 1 0 [])
+    -- (vii): with `unit=1` the move of P11 passes, in one step, and the swap of P10 does not
+    ∷ edge (check (longerHeld 0 15 0) (oneStep 2) (9 ∷ 9 ∷ [])) (refuses 7 1 0 (0 ∷ 1 ∷ []))
+    ∷ edge (check (longerHeld 1 15 0) (oneStep 2) (9 ∷ 9 ∷ [])) (done 2 (0 ∷ 0 ∷ []))
+    ∷ edge (steps (longerHeld 0 15 0)) (plans 6 (2 ∷ []))
+    ∷ edge (steps (longerHeld 1 15 0)) (plans 4 (1 ∷ []))
+    ∷ edge (check (swapHeld 0 15 0) (oneStep 4) (9 ∷ 9 ∷ 9 ∷ 9 ∷ [])) (refuses 7 1 0 (0 ∷ 0 ∷ 0 ∷ 1 ∷ []))
+    ∷ edge (check (swapHeld 1 15 0) (oneStep 4) (9 ∷ 9 ∷ 9 ∷ 9 ∷ [])) (refuses 7 1 0 (0 ∷ 0 ∷ 0 ∷ 1 ∷ []))
+    -- what is held is not there for the planner, nor for the checker: P5, P6 and P7 with larger caps; a link may be held as a whole
+    ∷ edge (steps (swapHeld 0 20 6)) (plans 12 (3 ∷ []))
+    ∷ edge (steps (swapHeld 0 20 9)) (plans 40 (10 ∷ []))
+    ∷ edge (steps (swapHeld 0 20 10)) (refuses 9 1 0 [])
+    ∷ edge (steps (swapHeld 1 20 20)) (refuses 9 1 0 [])
+    ∷ edge (check (longerHeld 1 15 5) (oneStep 2) (9 ∷ 9 ∷ [])) (done 2 (0 ∷ 0 ∷ []))
+    ∷ edge (check (longerHeld 1 15 6) (oneStep 2) (9 ∷ 9 ∷ [])) (refuses 7 1 0 (0 ∷ 0 ∷ []))
+    -- a flow's amounts on a link are added, then the larger sum counts; the mark falls also on a tunnel whose own amount falls
+    ∷ edge (steps (gathered 0 20)) (plans 14 (3 ∷ []))
+    ∷ edge (steps (gathered 1 20)) (plans 4 (1 ∷ []))
+    ∷ edge (check (gathered 0 9) (oneStep 5) (9 ∷ 9 ∷ 9 ∷ 9 ∷ 9 ∷ [])) (refuses 7 1 0 (0 ∷ 1 ∷ 0 ∷ 0 ∷ 0 ∷ []))
+    ∷ edge (check (gathered 1 9) (oneStep 5) (9 ∷ 9 ∷ 9 ∷ 9 ∷ 9 ∷ [])) (refuses 7 1 0 (1 ∷ 1 ∷ 0 ∷ 0 ∷ 0 ∷ []))
+    -- and on class 2 after 7: the second flow of the swap
+    ∷ edge (check ((3 ∷ 333 ∷ 0 ∷ 1 ∷ 2 ∷ 2 ∷ 4 ∷ 9 ∷ 0 ∷ 9 ∷ 0 ∷ 0 ∷ 10 ∷ 10 ∷ 2 ∷ 10 ∷ 10 ∷ []) ++ (0 ∷ 1 ∷ 10 ∷ 0 ∷ 0 ∷ 2 ∷ 0 ∷ 10 ∷ 1 ∷ 2 ∷ 10 ∷ 0 ∷ 1 ∷ 1 ∷ 0 ∷ 10 ∷ [])) (oneStep 4) (9 ∷ 9 ∷ 9 ∷ 9 ∷ [])) (refuses 7 1 0 (0 ∷ 0 ∷ 0 ∷ 1 ∷ []))
+    -- held above the capacity before it is refused at its line, and so is a unit above 1
+    ∷ edge (steps (swapHeld 0 15 16)) (refuses 2 9 0 [])
+    ∷ edge (steps (swapHeld 2 15 0)) (refuses 2 4 0 [])
     ∷ []
 
 unfoldable pub same : List ℕ → List ℕ → Bool

@@ -10,19 +10,22 @@ use native.Mathlib.Decide.{decLt}
 use native.Mathlib.Omega.{arith}
 use lib.ListN.{length, getD, length-append}
 use Rattle.model.proofs.Searches.{bool-cases}
-use Rattle.lists.specs.Lists.{hasNext, perLink, perFlow, networkSizes, linkAt, flowAt, tunnelAt}
+use Rattle.lists.specs.Lists.{hasNext, hasHeld, headSize, perLink, perFlow, networkSizes, linkAt, flowAt, tunnelAt}
 use Rattle.lists.specs.declared.Network as counts
-use Rattle.lists.proofs.Positions.{flow-most, third, with-next, without-next, link-at, flow-at, tunnel-at, flows-follow, tunnels-follow, each-number}
+use Rattle.lists.proofs.Positions.{with-unit, without-unit, head-low, two-a-link, one-a-link, link-most, second, flow-most, third, with-next, without-next, link-at, flow-at, tunnel-at, flows-follow, tunnels-follow, each-number}
 use Rattle.forms.specs.Bytes.{bytes}
-use Rattle.forms.specs.Form.{Whole, networkLines, planLines}
+use Rattle.forms.specs.Form.{isHex, Whole, networkLines, planLines}
 use Rattle.forms.specs.Write.{digitsIn, widthOf, render}
 use Rattle.forms.specs.declared.form.Form.{Form}
 use Rattle.forms.specs.declared.form.Form.the-variants.{Network, Plan}
-use Rattle.forms.proofs.Forms.{head-lines}
+use Rattle.forms.specs.declared.form.Range.{Range}
+use Rattle.forms.specs.declared.form.Field.{Field}
+use Rattle.forms.specs.declared.form.Field.the-variants.{Line, End}
+use Rattle.forms.proofs.Forms.{lines-in-head, head-there}
 use Rattle.forms.proofs.Good.{network-size, plan-size}
 use Rattle.forms.proofs.Numbers.{length-digits}
-use Rattle.writers.specs.Write.{lineAt, linesFrom, Decimal, widthsOf, tunnelWidths, flowBytes}
-use Rattle.writers.proofs.Runs.{DecimalAt, lines-none, lines-more, all-lines, network-head-line, cap-line, class-line, rate-line, next-line, flow-line, via-line, old-line, new-line, plan-head-line, at-line}
+use Rattle.writers.specs.Write.{lineAt, linesFrom, Decimal, widthsOf, tunnelWidths, headBytes, linkBytes, flowBytes}
+use Rattle.writers.proofs.Runs.{DecimalAt, lines-none, lines-more, all-lines, network-head-line, unit-line, count-line, cap-line, held-line, class-line, rate-line, next-line, flow-line, via-line, old-line, new-line, plan-head-line, at-line}
 
 module _ (l : List ℕ) where
   pub widths-none : widthsOf l 0 ≡ 0
@@ -41,6 +44,14 @@ module _ (l : List ℕ) where
       ≡ tunnelWidths l t + (widthOf (getD l (tunnelAt (networkSizes l) t) 0) + widthOf (getD l (tunnelAt (networkSizes l) t + 2) 0) + widthOf (getD l (tunnelAt (networkSizes l) t + 3) 0))
   unfolding tunnelWidths
   tunnel-widths-more t = rw add-one
+
+pub head-bytes-most : (edition : ℕ) → headBytes edition ≤ 52
+unfolding headBytes
+head-bytes-most edition = ⊎-elim (λ e. rw e (omega arith)) (λ e. rw e (omega arith)) (bool-cases (hasHeld edition))
+
+pub link-bytes-most : (edition : ℕ) → linkBytes edition ≤ 11
+unfolding linkBytes
+link-bytes-most edition = ⊎-elim (λ e. rw e (omega arith)) (λ e. rw e (omega arith)) (bool-cases (hasHeld edition))
 
 pub flow-bytes-most : (edition : ℕ) → flowBytes edition ≤ 19
 unfolding flowBytes
@@ -113,26 +124,83 @@ module _ (l : List ℕ) (w : Whole Plan l) where
 
 -- ---- the network
 
+-- all lines of its head are decimal
+pub record DecimalIn (fs : List Field) (n : ℕ) : Type 0 where
+  pub key : ℕ
+  pub range : Range
+  pub line : getD fs n End ≡ Line key range
+  pub decimal : isHex range ≡ false
+
+abbrev Decimals : List Field → Type 0
+Decimals [] = Unit {0}
+Decimals (Line k r ∷ fs) = (isHex r ≡ false) × Decimals fs
+Decimals (End ∷ fs) = ⊥
+
+decimal-in : (fs : List Field) (n : ℕ) → Decimals fs → n < length fs → DecimalIn fs n
+decimal-in [] n d h = absurd (omega arith)
+decimal-in (End ∷ fs) n d h = absurd d
+decimal-in (Line k r ∷ fs) zero d h = record { key = k; range = r; line = refl; decimal = d .0 }
+decimal-in (Line k r ∷ fs) (suc n) d h = let x = decimal-in fs n (d .1) (omega arith) in record { key = x .key; range = x .range; line = x .line; decimal = x .decimal }
+
+head-decimals : (edition : ℕ) → Decimals (networkLines edition)
+head-decimals edition = (refl, (refl, (refl, ⊎-elim (λ e. rw e (refl, (refl, (refl, (refl, tt))))) (λ e. rw e (refl, (refl, (refl, tt)))) (bool-cases (hasHeld edition)))))
+
 module _ (l : List ℕ) (w : Whole Network l) where
-  network-head-long : Long Network l 6 46
-  network-head-long =
-      let line = network-head-line l w in
-      let one : Long Network l 1 5 = long-more Network l 0 1 0 5 (bytes "net=") refl refl (line 0 _ _ (omega arith) refl refl) (long-none Network l) in
-      let two : Long Network l 2 14 = long-more Network l 1 2 5 14 (bytes "scratch=") refl refl (line 1 _ _ (omega arith) refl refl) one in
-      let three : Long Network l 3 23 = long-more Network l 2 3 14 23 (bytes "overrun=") refl refl (line 2 _ _ (omega arith) refl refl) two in
-      let four : Long Network l 4 30 = long-more Network l 3 4 23 30 (bytes "links=") refl refl (line 3 _ _ (omega arith) refl refl) three in
-      let five : Long Network l 5 37 = long-more Network l 4 5 30 37 (bytes "flows=") refl refl (line 4 _ _ (omega arith) refl refl) four in
-      long-more Network l 5 6 37 46 (bytes "tunnels=") refl refl (line 5 _ _ (omega arith) refl refl) five
+  abbrev edition : ℕ
+  edition = getD l 0 0
 
   abbrev sizes : counts.Network
   sizes = networkSizes l
 
-  links-long : (k : ℕ) → k ≤ sizes .links → Long Network l (linkAt sizes k) (46 + 5 * k)
-  unfolding perLink
-  links-long zero h = rw (head-lines sizes) network-head-long
+  -- the counts' lines, where c stands for what is not a digit before them
+  counts-long : (n c : ℕ) → n ≡ headSize edition - 3 → Long Network l n c → Long Network l (headSize edition) (c + 23)
+  counts-long n c e before =
+      let line = count-line l w in
+      let one : Long Network l (n + 1) (c + 7) = long-more Network l n (n + 1) c (c + 7) (bytes "links=") refl (omega arith) (line 0 n _ _ (omega arith) (omega arith) refl refl) before in
+      let two : Long Network l (n + 2) (c + 14) = long-more Network l (n + 1) (n + 2) (c + 7) (c + 14) (bytes "flows=") (omega arith) (omega arith) (line 1 (n + 1) _ _ (omega arith) (omega arith) refl refl) one in
+      long-more Network l (n + 2) (headSize edition) (c + 14) (c + 23) (bytes "tunnels=") (omega (arith, head-low edition)) (omega arith) (line 2 (n + 2) _ _ (omega arith) (omega arith) refl refl) two
+
+  network-head-long : Long Network l (headSize edition) (headBytes edition)
+  unfolding headBytes
+  network-head-long =
+      ⊎-elim
+      (λ (e : hasHeld edition ≡ true). rw e (counts-long 4 29 (omega (arith, with-unit edition e)) (long-more Network l 3 4 23 29 (bytes "unit=") refl refl (unit-line l w e) three)))
+      (λ (e : hasHeld edition ≡ false). rw e (counts-long 3 23 (omega (arith, without-unit edition e)) three))
+      (bool-cases (hasHeld edition))
+    where
+      some : 6 ≤ headSize edition
+      some = head-low edition
+
+      two : Long Network l 2 14
+      two =
+          long-more Network l 1 2 5 14 (bytes "scratch=") refl refl (network-head-line l w 1 _ _ (omega (arith, some)) refl refl)
+          (long-more Network l 0 1 0 5 (bytes "net=") refl refl (network-head-line l w 0 _ _ (omega (arith, some)) refl refl) (long-none Network l))
+
+      three : Long Network l 3 23
+      three = long-more Network l 2 3 14 23 (bytes "overrun=") refl refl (network-head-line l w 2 _ _ (omega (arith, some)) refl refl) two
+
+  -- the lines of link k, likewise
+  link-long : (k c : ℕ) → k < sizes .links → Long Network l (linkAt sizes k) c → Long Network l (linkAt sizes k + perLink (sizes .edition)) (c + linkBytes (sizes .edition))
+  unfolding linkBytes
+  link-long k c h before =
+      ⊎-elim
+      (λ (e : hasHeld (sizes .edition) ≡ true).
+      rw (two-a-link (sizes .edition) e, e) (long-more Network l (i + 1) (i + 2) (c + 5) (c + 11) (bytes "held=") (omega arith) (omega arith) (held-line l w k (i + 1) h e refl) one))
+      (λ (e : hasHeld (sizes .edition) ≡ false). rw (one-a-link (sizes .edition) e, e) one)
+      (bool-cases (hasHeld (sizes .edition)))
+    where
+      i : ℕ
+      i = linkAt sizes k
+
+      one : Long Network l (i + 1) (c + 5)
+      one = long-more Network l i (i + 1) c (c + 5) (bytes "cap=") refl (omega arith) (cap-line l w k i h refl) before
+
+  links-long : (k : ℕ) → k ≤ sizes .links → Long Network l (linkAt sizes k) (headBytes edition + linkBytes (sizes .edition) * k)
+  links-long zero h = let e : headBytes edition + linkBytes (sizes .edition) * 0 ≡ headBytes edition = omega arith in rw (head-there l ∙ sym (lines-in-head edition), e) network-head-long
   links-long (suc k) h =
-      long-more Network l (linkAt sizes k) (linkAt sizes (suc k)) (46 + 5 * k) (46 + 5 * suc k) (bytes "cap=") (omega (arith, link-at sizes k, link-at sizes (suc k))) (omega arith)
-      (cap-line l w k (linkAt sizes k) h refl) (links-long k (le-of-lt h))
+      let e : linkAt sizes k + perLink (sizes .edition) ≡ linkAt sizes (suc k) = omega (arith, link-at sizes k, link-at sizes (suc k)) in
+      let r = rw e at (link-long k _ h (links-long k (le-of-lt h))) in
+      omega (arith, r)
 
   -- the lines of flow f, where c stands for what is not a digit before them
   flow-long : (f c : ℕ) → f < sizes .flows → Long Network l (flowAt sizes f) c → Long Network l (flowAt sizes f + perFlow (sizes .edition)) (c + flowBytes (sizes .edition))
@@ -152,7 +220,7 @@ module _ (l : List ℕ) (w : Whole Network l) where
           long-more Network l (i + 1) (i + 2) (c + 7) (c + 13) (bytes "rate=") (omega arith) (omega arith) (rate-line l w f (i + 1) h refl)
           (long-more Network l i (i + 1) c (c + 7) (bytes "class=") refl (omega arith) (class-line l w f i h refl) before)
 
-  flows-long : (f : ℕ) → f ≤ sizes .flows → Long Network l (flowAt sizes f) (46 + 5 * sizes .links + flowBytes (sizes .edition) * f)
+  flows-long : (f : ℕ) → f ≤ sizes .flows → Long Network l (flowAt sizes f) (headBytes edition + linkBytes (sizes .edition) * sizes .links + flowBytes (sizes .edition) * f)
   flows-long zero h = rw (flows-follow sizes) (omega (arith, links-long (sizes .links) (omega arith)))
   flows-long (suc f) h =
       let e : flowAt sizes f + perFlow (sizes .edition) ≡ flowAt sizes (suc f) = omega (arith, flow-at sizes f, flow-at sizes (suc f)) in
@@ -166,7 +234,7 @@ module _ (l : List ℕ) (w : Whole Network l) where
 
   -- the tunnels: the digits of their flows, old and new amounts are counted apart
   abbrev TunnelsLong : ℕ → Type 0
-  TunnelsLong t = size Network l (tunnelAt sizes t) ≡ 46 + 5 * sizes .links + flowBytes (sizes .edition) * sizes .flows + 37 * t + widthsOf l (tunnelAt sizes 0) + tunnelWidths l t
+  TunnelsLong t = size Network l (tunnelAt sizes t) ≡ headBytes edition + linkBytes (sizes .edition) * sizes .links + flowBytes (sizes .edition) * sizes .flows + 37 * t + widthsOf l (tunnelAt sizes 0) + tunnelWidths l t
 
   tunnels-none : TunnelsLong 0
   tunnels-none = rw (tunnels-follow sizes) (omega (arith, flows-long (sizes .flows) (omega arith), tunnel-widths-none l))
@@ -189,22 +257,15 @@ module _ (l : List ℕ) (w : Whole Network l) where
   tunnels-long (suc t) h = rw (add-one t) at (tunnels-more t h (tunnels-long t (le-of-lt h)))
 
   pub network-length : length (render Network l)
-      ≡ 46 + 5 * sizes .links + flowBytes (sizes .edition) * sizes .flows + 37 * sizes .tunnels + widthsOf l (tunnelAt sizes 0) + tunnelWidths l (sizes .tunnels)
+      ≡ headBytes edition + linkBytes (sizes .edition) * sizes .links + flowBytes (sizes .edition) * sizes .flows + 37 * sizes .tunnels + widthsOf l (tunnelAt sizes 0) + tunnelWidths l (sizes .tunnels)
   network-length = sym (ap length (all-lines Network l)) ∙ ap (size Network l) (network-size l w) ∙ tunnels-long (sizes .tunnels) (omega arith)
 
-  network-head-number : (i : ℕ) → i < length networkLines → Decimal l i
-  network-head-number zero h = network-head-line l w 0 _ _ h refl refl .number
-  network-head-number (suc zero) h = network-head-line l w 1 _ _ h refl refl .number
-  network-head-number (suc (suc zero)) h = network-head-line l w 2 _ _ h refl refl .number
-  network-head-number (suc (suc (suc zero))) h = network-head-line l w 3 _ _ h refl refl .number
-  network-head-number (suc (suc (suc (suc zero)))) h = network-head-line l w 4 _ _ h refl refl .number
-  network-head-number (suc (suc (suc (suc (suc zero))))) h = network-head-line l w 5 _ _ h refl refl .number
-  network-head-number (suc (suc (suc (suc (suc (suc i)))))) h = absurd (omega arith)
+  network-head-number : (i : ℕ) → i < headSize edition → Decimal l i
+  network-head-number i h = let d = decimal-in (networkLines edition) i (head-decimals edition) (omega (arith, lines-in-head edition)) in network-head-line l w i _ _ h (d .line) (d .decimal) .number
 
   -- the numbers before those of the tunnels are decimal
   pub network-number : (i : ℕ) → i < tunnelAt sizes 0 → Decimal l i
-  unfolding perLink
-  network-number i h = head (decLt i (length networkLines))
+  network-number i h = head (decLt i (headSize edition))
     where
       flow : (f j : ℕ) → f < sizes .flows → j < perFlow (sizes .edition) → flowAt sizes f + j < tunnelAt sizes 0 → Decimal l (flowAt sizes f + j)
       flow f zero k g less = class-line l w f (flowAt sizes f + 0) k (omega arith) .number
@@ -214,13 +275,14 @@ module _ (l : List ℕ) (w : Whole Network l) where
 
       link : (k j : ℕ) → k < sizes .links → j < perLink (sizes .edition) → linkAt sizes k + j < tunnelAt sizes 0 → Decimal l (linkAt sizes k + j)
       link k zero g h less = cap-line l w k (linkAt sizes k + 0) g (omega arith) .number
-      link k (suc j) g h less = absurd (omega arith)
+      link k (suc zero) g h less = held-line l w k (linkAt sizes k + 1) g (second (sizes .edition) h) refl .number
+      link k (suc (suc j)) g h less = absurd (omega (arith, link-most (sizes .edition)))
 
-      head : Dec (i < length networkLines) → Decimal l i
+      head : Dec (i < headSize edition) → Decimal l i
       head (yes k) = network-head-number i k
       head (no k) =
           each-number sizes (λ m. m < tunnelAt sizes 0 → Decimal l m)
           link
           flow
           (λ t j g g′ less. absurd (omega (arith, tunnel-at sizes t)))
-          i (omega (arith, head-lines sizes)) (omega (arith, tunnel-at sizes (sizes .tunnels))) h
+          i (omega (arith, head-there l, lines-in-head edition)) (omega (arith, tunnel-at sizes (sizes .tunnels))) h

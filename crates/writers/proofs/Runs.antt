@@ -9,12 +9,12 @@ use native.Mathlib.Omega.{arith}
 use lib.ListN.{length, getD, take, drop, length-append}
 use Rattle.model.specs.Limits.{mostAmount}
 use borrow.Author.Tests.{lt-ltb}
-use Rattle.lists.specs.Lists.{hasNext, perFlow, networkSizes, linkAt, flowAt, tunnelAt, planSizes, planSize}
+use Rattle.lists.specs.Lists.{hasNext, hasHeld, headSize, perLink, perFlow, networkSizes, linkAt, flowAt, tunnelAt, planSizes, planSize}
 use Rattle.lists.specs.declared.Network as counts
-use Rattle.lists.proofs.Positions.{flow-some, with-next, link-some, head-in, link-in, flow-in, tunnel-in, link-after, flow-after, tunnel-after}
+use Rattle.lists.proofs.Positions.{head-low, two-a-link, flow-some, with-next, link-some, head-in, link-in, flow-in, tunnel-in, link-after, flow-after, tunnel-after}
 use Rattle.forms.specs.Bytes.{bytes}
 use Rattle.forms.specs.Keys.{keys, placeIn, prefixOf}
-use Rattle.forms.specs.Form.{fieldOf, isHex, Sound, Whole, networkLines, networkBody, flowLines, tunnelLines, planLines}
+use Rattle.forms.specs.Form.{fieldOf, isHex, Sound, Whole, countLines, networkLines, networkBody, linkLines, flowLines, tunnelLines, planLines}
 use Rattle.forms.specs.Write.{widthOf, lineOf, render, renderFrom}
 use Rattle.forms.specs.declared.form.Form.{Form}
 use Rattle.forms.specs.declared.form.Form.the-variants.{Network, Plan}
@@ -22,7 +22,7 @@ use Rattle.forms.specs.declared.form.Range.{Range}
 use Rattle.forms.specs.declared.form.Range.the-variants.{Between}
 use Rattle.forms.specs.declared.form.Field.{Field}
 use Rattle.forms.specs.declared.form.Field.the-variants.{Line, End}
-use Rattle.forms.proofs.Forms.{head-lines, body-cap, body-flow, body-tunnel, network-head-field, network-body-field, plan-head-field, plan-body-field}
+use Rattle.forms.proofs.Forms.{lines-in-head, count-field, head-there, body-link, body-flow, body-tunnel, network-head-field, network-body-field, plan-head-field, plan-body-field}
 use Rattle.forms.proofs.Good.{network-size, plan-size}
 use Rattle.forms.proofs.Rendering.{render-step, render-end, at-most, short-value, line-length}
 use Rattle.lines.specs.Puts.{Puts, decimalLine, hexLine}
@@ -154,34 +154,54 @@ module _ (l : List ℕ) (w : Whole Network l) where
   abbrev sizes : counts.Network
   sizes = networkSizes l
 
-  long : length networkLines ≤ length l
-  long = omega (arith, network-size l w, head-lines sizes, head-in l (network-size l w))
+  -- the edition, and how many lines the head has
+  abbrev edition : ℕ
+  edition = getD l 0 0
 
-  pub network-head-line : (i k : ℕ) (r : Range) → i < length networkLines → getD networkLines i End ≡ Line k r → isHex r ≡ false → DecimalAt Network l i (prefixOf k)
-  network-head-line i k r h e x = decimal-at Network l i k r (w .sound) (omega (arith, long)) (network-head-field l i (omega (arith, long)) h ∙ e) x
+  pub long : headSize edition ≤ length l
+  long = omega (arith, network-size l w, head-there l, lines-in-head edition, head-in l (network-size l w))
+
+  pub network-head-line : (i k : ℕ) (r : Range) → i < headSize edition → getD (networkLines edition) i End ≡ Line k r → isHex r ≡ false → DecimalAt Network l i (prefixOf k)
+  network-head-line i k r h e x =
+      decimal-at Network l i k r (w .sound) (omega (arith, long)) (network-head-field l i (omega (arith, long)) (omega (arith, lines-in-head edition)) ∙ e) x
+
+  pub unit-line : hasHeld edition ≡ true → DecimalAt Network l 3 (bytes "unit=")
+  unit-line e = network-head-line 3 (placeIn keys "unit=") (Between 0 1) (omega (arith, head-low edition)) (rw e) refl
+
+  pub count-line : (j i k : ℕ) (r : Range) → j < length countLines → i ≡ headSize edition - length countLines + j → getD countLines j End ≡ Line k r → isHex r ≡ false
+      → DecimalAt Network l i (prefixOf k)
+  count-line j i k r h e line x = network-head-line i k r (omega (arith, head-low edition)) (rw e (count-field edition j ∙ line)) x
 
   -- the field at a number after the head
-  body-field : (i j : ℕ) → i < length l → i ≡ j → linkAt sizes 0 ≤ j → fieldOf Network (take i l) ≡ networkBody sizes j
-  body-field i j h e after = network-body-field l i (le-of-lt h) (omega (arith, head-lines sizes)) ∙ ap (networkBody sizes) e
+  body-field : (i j : ℕ) → i < length l → i ≡ j → linkAt sizes 0 ≤ j → fieldOf Network (take i l) ≡ networkBody sizes (getD l (i - 1) 0) j
+  body-field i j h e after = network-body-field l i (le-of-lt h) (omega (arith, head-there l)) ∙ ap (networkBody sizes (getD l (i - 1) 0)) e
+
+  -- the lines of link k
+  of-link : (k j i key : ℕ) (r : Range) → k < sizes .links → j < perLink (sizes .edition) → i ≡ linkAt sizes k + j
+      → getD (linkLines (sizes .edition) (getD l (i - 1) 0)) j End ≡ Line key r → isHex r ≡ false → DecimalAt Network l i (prefixOf key)
+  of-link k j i key r h below e line x =
+      let within : i < length l = omega (arith, link-in l (network-size l w) k j h below) in
+      decimal-at Network l i key r (w .sound) within
+      (body-field i (linkAt sizes k + j) within e (omega (arith, link-after sizes k)) ∙ body-link sizes _ k j h below ∙ line) x
 
   pub cap-line : (k i : ℕ) → k < sizes .links → i ≡ linkAt sizes k → DecimalAt Network l i (bytes "cap=")
-  cap-line k i h e =
-      let within : i < length l = omega (arith, link-in l (network-size l w) k h) in
-      let first : i ≡ linkAt sizes k + 0 = omega arith in
-      decimal-at Network l i _ _ (w .sound) within (body-field i (linkAt sizes k + 0) within first (omega (arith, link-after sizes k)) ∙ body-cap sizes k 0 h (link-some (sizes .edition))) refl
+  cap-line k i h e = of-link k 0 i _ _ h (link-some (sizes .edition)) (omega arith) refl refl
+
+  pub held-line : (k i : ℕ) → k < sizes .links → hasHeld (sizes .edition) ≡ true → i ≡ linkAt sizes k + 1 → DecimalAt Network l i (bytes "held=")
+  held-line k i h has e = of-link k 1 i (placeIn keys "held=") (Between 0 (getD l (i - 1) 0)) h (omega (arith, two-a-link (sizes .edition) has)) e (rw has) refl
 
   -- the lines of flow f, and those of tunnel t
   flow-within : (f j i : ℕ) → f < sizes .flows → j < perFlow (sizes .edition) → i ≡ flowAt sizes f + j → i < length l
   flow-within f j i h k e = omega (arith, flow-in l (network-size l w) f j h k)
 
   flow-field : (f j i : ℕ) → f < sizes .flows → j < perFlow (sizes .edition) → i ≡ flowAt sizes f + j → fieldOf Network (take i l) ≡ getD (flowLines (sizes .edition)) j End
-  flow-field f j i h k e = body-field i (flowAt sizes f + j) (flow-within f j i h k e) e (omega (arith, flow-after sizes f)) ∙ body-flow sizes f j h k
+  flow-field f j i h k e = body-field i (flowAt sizes f + j) (flow-within f j i h k e) e (omega (arith, flow-after sizes f)) ∙ body-flow sizes _ f j h k
 
   tunnel-within : (t j i : ℕ) → t < sizes .tunnels → j < length (tunnelLines sizes) → i ≡ tunnelAt sizes t + j → i < length l
   tunnel-within t j i h k e = omega (arith, tunnel-in l (network-size l w) t h)
 
   tunnel-field : (t j i : ℕ) → t < sizes .tunnels → j < length (tunnelLines sizes) → i ≡ tunnelAt sizes t + j → fieldOf Network (take i l) ≡ getD (tunnelLines sizes) j End
-  tunnel-field t j i h k e = body-field i (tunnelAt sizes t + j) (tunnel-within t j i h k e) e (omega (arith, tunnel-after sizes t)) ∙ body-tunnel sizes t j h k
+  tunnel-field t j i h k e = body-field i (tunnelAt sizes t + j) (tunnel-within t j i h k e) e (omega (arith, tunnel-after sizes t)) ∙ body-tunnel sizes _ t j h k
 
   of-flow : (f j i k : ℕ) (r : Range) → f < sizes .flows → j < perFlow (sizes .edition) → i ≡ flowAt sizes f + j → getD (flowLines (sizes .edition)) j End ≡ Line k r → isHex r ≡ false
       → DecimalAt Network l i (prefixOf k)

@@ -74,7 +74,7 @@ row-at-requires : tie.Need-row-at-requires
 row-at-requires c κs = let e = c .plan-sizes .ensures in
     let f = fewest-some _ _ (found (c .before)) in
     let s = ap (λ (n : PlanSizes). n .steps) e in
-    (omega (arith, s, f), omega (arith, s, f), omega (arith, ap (λ (n : PlanSizes). n .tunnels) e, good-range _ (c .before .before .before .before .before .before .before .before .before .before .before .before .before .before .pre) .0))
+    (omega (arith, s, f), omega (arith, s, f), omega (arith, ap (λ (n : PlanSizes). n .tunnels) e, good-range _ (c .before .before .before .before .before .before .before .before .before .before .before .before .before .before .pre) .tunnels))
 
 returns-2 : tie.Need-returns-2
 returns-2 c = let n = size (c .before) in

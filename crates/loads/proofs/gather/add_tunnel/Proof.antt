@@ -12,7 +12,7 @@ use Rattle.loads.proofs.gather.add_tunnel.Statement.{statement}
 use Rattle.loads.proofs.gather.add_tunnel.Tie as tie
 
 abbrev Inv-loop : tie.InvT-loop
-Inv-loop links amounts t via part loads₀ set₀ loads set = Passing (λ c s. SetAdded links part c (λ k. at amounts (amountAt t k)) loads₀ s) via set loads
+Inv-loop links amounts t via part loads₀ set₀ loads set = Passing (λ c s. SetAdded links part c (λ _ k. at amounts (amountAt t k)) loads₀ s) via set loads
 
 abbrev μ-loop : tie.MeasureT-loop
 μ-loop links amounts t via part loads₀ set₀ loads set = set

@@ -56,7 +56,7 @@ module _ (c : tie.In-loop Inv-loop μ-loop) where
   small : c .before .loop .at + N .tunnels ≤ 4 + mostSteps * mostTunnels + mostTunnels
   small =
       let k : done ≤ mostSteps = omega (arith, c .before .loop .inv .low, begin .pre .1) in
-      omega (arith, place, good-range _ (begin .pre .0) .0, mul-le-mul k (good-range _ (begin .pre .0) .0))
+      omega (arith, place, good-range _ (begin .pre .0) .tunnels, mul-le-mul k (good-range _ (begin .pre .0) .tunnels))
 
 plan-sizes-requires : tie.Need-plan-sizes-requires Inv-loop μ-loop
 plan-sizes-requires c κs = c .before .before .pre .0 .ranges .sized
@@ -74,7 +74,7 @@ slice-write-out-4 : tie.Need-slice-write-out-4 Inv-loop μ-loop
 slice-write-out-4 c = simp length-set (omega (arith, fits-head (c)))
 
 row-at-requires : tie.Need-row-at-requires Inv-loop μ-loop
-row-at-requires c κs = (omega arith, omega arith, omega (arith, width (c), good-range _ (c .before .before .before .pre .0) .0))
+row-at-requires c κs = (omega arith, omega arith, omega (arith, width (c), good-range _ (c .before .before .before .pre .0) .tunnels))
 
 loop-holds : tie.Need-loop-holds Inv-loop μ-loop
 loop-holds c = let s = c .before .before .before .before in

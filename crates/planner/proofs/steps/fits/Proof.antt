@@ -4,22 +4,21 @@ use mathlib.Core.Path.{_≡_, sym, ap}
 use mathlib.Core.Logic.{⊎-elim}
 use native.Mathlib.Nat.{eq-or-lt-of-le, le-of-suc-le-suc}
 use native.Mathlib.Numerals.{add-one}
-use lib.ListN.{getD}
 use Rattle.model.specs.Scan.{Bound}
 use Rattle.model.specs.ThreeSums.{endLoad}
 use Rattle.model.proofs.Choices.{factor, room}
 use Rattle.model.proofs.Evens.{even-accepted}
-use Rattle.lists.specs.Lists.{at, networkSizes, networkOf}
+use Rattle.lists.specs.Lists.{networkSizes, networkOf}
 use Rattle.lists.specs.declared.Network as counts
-use Rattle.lists.proofs.Positions.{LinkPlace, link-place, limited, head-in, head-least}
+use Rattle.lists.proofs.Positions.{head-in, head-least}
 use Rattle.planner.proofs.Tables.{end-room}
 use Rattle.planner.proofs.Searching.{AtLink, link-low, protected-room, all-room, overrun-most, cap-room, overrun-room, over-protected, over-total, kept-both}
 use native.Mathlib.Omega.{arith}
 use borrow.Author.Needs.{needs}
 use Rattle.planner.proofs.steps.fits.Statement.{statement}
 use Rattle.planner.proofs.steps.fits.Tie as tie
-use Rattle.lists.proofs.Network.link_at.Reads as link-at-reads
 use Rattle.lists.proofs.Network.of.Reads as of-reads
+use Rattle.planner.proofs.steps.capacity.Reads as capacity-reads
 use Rattle.planner.proofs.steps.end_load.Reads as end-load-reads
 
 abbrev Inv-loop : tie.InvT-loop
@@ -29,16 +28,19 @@ abbrev μ-loop : tie.MeasureT-loop
 μ-loop network protected all q overrun sizes link₀ link = sizes .links - link
 
 -- what is known where the code looks at a link
-module _ (c : tie.After-link-at Inv-loop μ-loop) where
+module _ (c : tie.After-capacity Inv-loop μ-loop) where
   abbrev begin : tie.Start Inv-loop μ-loop
   begin = c .before .before .before .before .before .before .before .before .before
 
-  place : LinkPlace (begin .args .network .now) (c .before .before .before .loop .link) (c .link-at .result)
-  place = link-place _ (begin .pre .0 .good .ranges .sized) _ (c .before .before .before .before .of .ensures) _ _ (c .before .if1 .taken) (c .link-at .ensures)
-
-  here : AtLink (begin .args .network .now) (begin .args .protected .now) (begin .args .all .now) (begin .args .q) (c .before .before .before .loop .link) (getD (begin .args .network .now) (c .link-at .result) 0)
+  here : AtLink (begin .args .network .now) (begin .args .protected .now) (begin .args .all .now) (begin .args .q) (c .before .before .before .loop .link) (c .capacity .result)
   unfolding networkOf
-  here = record { ready = begin .pre .0; least = begin .pre .1 .0; most = begin .pre .1 .1; link = place .there; same = ap (at (begin .args .network .now)) (place .here) }
+  here = record {
+    ready = begin .pre .0;
+    least = begin .pre .1 .0;
+    most = begin .pre .1 .1;
+    link = omega (arith, c .before .if1 .taken, ap (λ (n : counts.Network). n .links) (c .before .before .before .before .of .ensures));
+    same = c .capacity .ensures;
+  }
 
 shared-slice-read-overrun : tie.Need-shared-slice-read-overrun Inv-loop μ-loop
 shared-slice-read-overrun c = omega (arith, head-in _ (c .before .before .before .before .pre .0 .good .ranges .sized .size), head-least (networkSizes (c .before .before .before .before .args .network .now)))
@@ -49,41 +51,35 @@ of-requires c κs = head-in _ (c .before .before .before .before .pre .0 .good .
 loop-holds : tie.Need-loop-holds Inv-loop μ-loop
 loop-holds c = record { low = omega arith; kept = λ k h. absurd (omega arith) }
 
-link-at-requires : tie.Need-link-at-requires Inv-loop μ-loop
-link-at-requires c κs = (limited _ (c .before .before .before .before .before .before .before .before .pre .0 .good .ranges .sized) _ (c .before .before .before .of .ensures), omega (arith, c .if1 .taken))
+capacity-requires : tie.Need-capacity-requires Inv-loop μ-loop
+capacity-requires c κs = (c .before .before .before .before .before .before .before .before .pre .0 .good .ranges, c .before .before .before .of .ensures, c .if1 .taken)
 
 mul-room : tie.Need-mul-room Inv-loop μ-loop
-mul-room c = record { fits = omega (arith, place (c) .few) }
-
-shared-slice-read-room : tie.Need-shared-slice-read-room Inv-loop μ-loop
-shared-slice-read-room c = omega (arith, place (c .before) .within)
-
-mul-room-2 : tie.Need-mul-room-2 Inv-loop μ-loop
-mul-room-2 c = record { fits = omega (arith, cap-room (here (c .before))) }
+mul-room c = record { fits = omega (arith, cap-room (here (c))) }
 
 end-load-requires : tie.Need-end-load-requires Inv-loop μ-loop
-end-load-requires c κs = let h = here (c .before) in (protected-room h, h .least, h .most, link-low h)
+end-load-requires c κs = let h = here (c) in (protected-room h, h .least, h .most, link-low h)
 
 returns : tie.Need-returns Inv-loop μ-loop
-returns c = sym (over-protected (here (c .before .before .before)) (omega (arith, c .before .end-load .ensures, c .if2 .taken)))
+returns c = sym (over-protected (here (c .before .before)) (omega (arith, c .before .end-load .ensures, c .if2 .taken)))
 
 add-if3 : tie.Need-add-if3 Inv-loop μ-loop
 unfolding networkOf
-add-if3 c = record { fits = omega (arith, overrun-most (here (c .before .before .before))) }
+add-if3 c = record { fits = omega (arith, overrun-most (here (c .before .before))) }
 
 mul-if3 : tie.Need-mul-if3 Inv-loop μ-loop
 unfolding networkOf
-mul-if3 c = record { fits = omega (arith, overrun-room (here (c .before .before .before))) }
+mul-if3 c = record { fits = omega (arith, overrun-room (here (c .before .before))) }
 
 end-load-requires-2 : tie.Need-end-load-requires-2 Inv-loop μ-loop
-end-load-requires-2 c κs = let h = here (c .before .before .before) in (all-room h, h .least, h .most, link-low h)
+end-load-requires-2 c κs = let h = here (c .before .before) in (all-room h, h .least, h .most, link-low h)
 
 mul-if3-2 : tie.Need-mul-if3-2 Inv-loop μ-loop
-mul-if3-2 c = let h = here (c .before .before .before .before) in record { fits = omega (arith, c .end-load2 .ensures, end-room _ (all-room h) _ (link-low h) _ (h .most)) }
+mul-if3-2 c = let h = here (c .before .before .before) in record { fits = omega (arith, c .end-load2 .ensures, end-room _ (all-room h) _ (link-low h) _ (h .most)) }
 
 returns-2 : tie.Need-returns-2 Inv-loop μ-loop
 unfolding networkOf
-returns-2 c = sym (over-total (here (c .before .before .before .before .before)) (omega (arith, ap (λ (w : ℕ). 1000 * w) (c .before .end-load2 .ensures), c .if3 .taken)))
+returns-2 c = sym (over-total (here (c .before .before .before .before)) (omega (arith, ap (λ (w : ℕ). 1000 * w) (c .before .end-load2 .ensures), c .if3 .taken)))
 
 add-link : tie.Need-add-link Inv-loop μ-loop
 add-link c = search needs
@@ -94,17 +90,17 @@ loop-less c = search needs
 loop-again : tie.Need-loop-again Inv-loop μ-loop
 unfolding networkOf
 loop-again c =
-    let both = kept-both (here (c .before .before .before .before .before)) (omega (arith, c .before .before .before .end-load .ensures, c .before .before .if2 .left)) (omega (arith, ap (λ (w : ℕ). 1000 * w) (c .before .end-load2 .ensures), c .if3 .left)) in
+    let both = kept-both (here (c .before .before .before .before)) (omega (arith, c .before .before .before .end-load .ensures, c .before .before .if2 .left)) (omega (arith, ap (λ (w : ℕ). 1000 * w) (c .before .end-load2 .ensures), c .if3 .left)) in
     record {
-      low = omega (arith, c .before .before .before .before .before .before .if1 .taken);
-      kept = λ j h. ⊎-elim (λ (e : j ≡ c .before .before .before .before .before .before .before .before .loop .link). rw e both) (c .before .before .before .before .before .before .before .before .loop .inv .kept j) (eq-or-lt-of-le (le-of-suc-le-suc (rw add-one at h)));
+      low = omega (arith, c .before .before .before .before .before .if1 .taken);
+      kept = λ j h. ⊎-elim (λ (e : j ≡ c .before .before .before .before .before .before .before .loop .link). rw e both) (c .before .before .before .before .before .before .before .loop .inv .kept j) (eq-or-lt-of-le (le-of-suc-le-suc (rw add-one at h)));
     }
 
 returns-3 : tie.Need-returns-3 Inv-loop μ-loop
 unfolding networkOf
 returns-3 c =
-    let N = networkOf (c .before .before .before .before .before .before .before .before .args .network .now) in
-    sym (even-accepted N (c .before .before .before .before .before .before .before .before .pre .0 .good .sums) (c .before .before .before .before .before .before .before .before .args .q) (c .before .before .before .before .before .before .before .before .pre .1 .0) .1 (λ k h. c .before .before .loop .inv .kept k (omega (arith, c .if1 .left, ap (λ (n : counts.Network). n .links) (c .before .before .before .of .ensures)))))
+    let a = (c .before .before .before .before .before .before .before .before) in
+    sym (even-accepted (networkOf (a .args .network .now)) (a .pre .0 .good .sums) (a .args .q) (a .pre .1 .0) .1 (λ k h. c .before .before .loop .inv .kept k (omega (arith, c .if1 .left, ap (λ (n : counts.Network). n .links) (c .before .before .before .of .ensures)))))
 
 pub fits-spec : {M : Type 1} → statement M
 fits-spec =
@@ -115,10 +111,8 @@ fits-spec =
     shared-slice-read-overrun
     of-requires
     loop-holds
-    link-at-requires
+    capacity-requires
     mul-room
-    shared-slice-read-room
-    mul-room-2
     end-load-requires
     returns
     add-if3

@@ -2,86 +2,73 @@
 use Prim.Native.Nat.{ℕ, _+_, _*_}
 use mathlib.Core.Path.{ap, _∙_}
 use lib.Dec.{ltb}
-use lib.ListN.{getD}
 use Rattle.model.specs.Limits.{mostSteps}
 use Rattle.lists.specs.Lists.{at, networkSizes, networkOf}
 use Rattle.lists.specs.declared.Network as counts
-use Rattle.lists.proofs.Positions.{LinkPlace, link-place, limited, head-in, head-least}
+use Rattle.lists.proofs.Positions.{head-in, head-least}
 use Rattle.planner.proofs.Tables.{step-room}
 use Rattle.planner.proofs.Searching.{AtLink, link-low, protected-room, all-room, overrun-most, cap-room, overrun-room, is-over-first, is-over-second}
 use native.Mathlib.Omega.{arith}
 use Rattle.planner.proofs.steps.is_over.Statement.{statement}
 use Rattle.planner.proofs.steps.is_over.Tie as tie
-use Rattle.lists.proofs.Network.link_at.Reads as link-at-reads
 use Rattle.lists.proofs.Network.of.Reads as of-reads
+use Rattle.planner.proofs.steps.capacity.Reads as capacity-reads
 use Rattle.planner.proofs.steps.step_load.Reads as step-load-reads
 
 -- what is known where the code looks at a link
-module _ (c : tie.After-link-at) where
+module _ (c : tie.After-capacity) where
   abbrev begin : tie.Start
   begin = c .before .before .before .before .before
 
-  place : LinkPlace (begin .args .network .now) (begin .args .link) (c .link-at .result)
-  place = link-place _ (begin .pre .0 .good .ranges .sized) _ (c .before .of .ensures) _ _ (omega (arith, begin .pre .1 .1, ap (λ (n : counts.Network). n .links) (c .before .of .ensures))) (c .link-at .ensures)
-
-  here : AtLink (begin .args .network .now) (begin .args .protected .now) (begin .args .all .now) mostSteps (begin .args .link) (getD (begin .args .network .now) (c .link-at .result) 0)
+  here : AtLink (begin .args .network .now) (begin .args .protected .now) (begin .args .all .now) mostSteps (begin .args .link) (c .capacity .result)
   unfolding networkOf
-  here = record { ready = begin .pre .0; least = omega arith; most = omega arith; link = place .there; same = ap (at (begin .args .network .now)) (place .here) }
+  here = record { ready = begin .pre .0; least = omega arith; most = omega arith; link = begin .pre .1 .1; same = c .capacity .ensures }
 
 of-requires : tie.Need-of-requires
 of-requires c κs = head-in _ (c .before .before .before .pre .0 .good .ranges .sized .size)
 
-link-at-requires : tie.Need-link-at-requires
-link-at-requires c κs = (limited _ (c .before .before .before .before .pre .0 .good .ranges .sized) _ (c .of .ensures), omega (arith, c .before .before .before .before .pre .1 .1, ap (λ (n : counts.Network). n .links) (c .of .ensures)))
+capacity-requires : tie.Need-capacity-requires
+capacity-requires c κs = (c .before .before .before .before .pre .0 .good .ranges, c .of .ensures, omega (arith, c .before .before .before .before .pre .1 .1, ap (λ (n : counts.Network). n .links) (c .of .ensures)))
 
 mul-room : tie.Need-mul-room
-mul-room c = record { fits = omega (arith, place (c) .few) }
-
-shared-slice-read-room : tie.Need-shared-slice-read-room
-shared-slice-read-room c = omega (arith, place (c .before) .within)
-
-mul-room-2 : tie.Need-mul-room-2
-mul-room-2 c = record { fits = omega (arith, cap-room (here (c .before))) }
+mul-room c = record { fits = omega (arith, cap-room (here (c))) }
 
 step-load-requires : tie.Need-step-load-requires
-step-load-requires c κs = let h = here (c .before) in (protected-room h, c .before .before .before .before .before .before .pre .1 .0, link-low h)
+step-load-requires c κs = let h = here (c) in (protected-room h, c .before .before .before .before .before .pre .1 .0, link-low h)
 
 returns : tie.Need-returns
-returns c = is-over-first (here (c .before .before .before)) _ (c .before .before .before .before .before .before .before .before .pre .1 .0) (omega (arith, c .before .step-load .ensures, c .if1 .taken))
+returns c = is-over-first (here (c .before .before)) _ (c .before .before .before .before .before .before .before .pre .1 .0) (omega (arith, c .before .step-load .ensures, c .if1 .taken))
 
 shared-slice-read-result : tie.Need-shared-slice-read-result
-shared-slice-read-result c = omega (arith, head-in _ (c .before .before .before .before .before .before .before .before .before .pre .0 .good .ranges .sized .size), head-least (networkSizes (c .before .before .before .before .before .before .before .before .before .args .network .now)))
+shared-slice-read-result c = omega (arith, head-in _ (c .before .before .before .before .before .before .before .before .pre .0 .good .ranges .sized .size), head-least (networkSizes (c .before .before .before .before .before .before .before .before .args .network .now)))
 
 add-result : tie.Need-add-result
 unfolding networkOf
-add-result c = record { fits = omega (arith, overrun-most (here (c .before .before .before .before))) }
+add-result c = record { fits = omega (arith, overrun-most (here (c .before .before .before))) }
 
 mul-result : tie.Need-mul-result
 unfolding networkOf
-mul-result c = record { fits = omega (arith, overrun-room (here (c .before .before .before .before))) }
+mul-result c = record { fits = omega (arith, overrun-room (here (c .before .before .before))) }
 
 step-load-requires-2 : tie.Need-step-load-requires-2
-step-load-requires-2 c κs = let h = here (c .before .before .before .before) in (all-room h, c .before .before .before .before .before .before .before .before .before .pre .1 .0, link-low h)
+step-load-requires-2 c κs = let h = here (c .before .before .before) in (all-room h, c .before .before .before .before .before .before .before .before .pre .1 .0, link-low h)
 
 mul-result-2 : tie.Need-mul-result-2
-mul-result-2 c = let h = here (c .before .before .before .before .before) in record { fits = omega (arith, c .step-load2 .ensures, step-room _ (all-room h) _ (link-low h) _ (c .before .before .before .before .before .before .before .before .before .before .pre .1 .0)) }
+mul-result-2 c = let h = here (c .before .before .before .before) in record { fits = omega (arith, c .step-load2 .ensures, step-room _ (all-room h) _ (link-low h) _ (c .before .before .before .before .before .before .before .before .before .pre .1 .0)) }
 
 returns-2 : tie.Need-returns-2
 unfolding networkOf
 returns-2 c =
-    let l = c .before .before .before .before .before .before .before .before .before .before .args .network .now in
-    ap (λ (w : ℕ). ltb ((1000 + at l 2) * (mostSteps * at l (c .before .before .before .before .before .link-at .result))) (1000 * w)) (c .step-load2 .ensures)
-    ∙ is-over-second (here (c .before .before .before .before .before)) _ (c .before .before .before .before .before .before .before .before .before .before .pre .1 .0) (omega (arith, c .before .before .before .step-load .ensures, c .before .before .if1 .left))
+    ap (λ (w : ℕ). ltb ((1000 + at (c .before .before .before .before .before .before .before .before .before .args .network .now) 2) * (mostSteps * c .before .before .before .before .capacity .result)) (1000 * w)) (c .step-load2 .ensures)
+    ∙ is-over-second (here (c .before .before .before .before)) _ (c .before .before .before .before .before .before .before .before .before .pre .1 .0) (omega (arith, c .before .before .before .step-load .ensures, c .before .before .if1 .left))
 
 pub is-over-spec : {M : Type 1} → statement M
 is-over-spec =
     tie.close
     (tie.spec
     of-requires
-    link-at-requires
+    capacity-requires
     mul-room
-    shared-slice-read-room
-    mul-room-2
     step-load-requires
     returns
     shared-slice-read-result

@@ -3,8 +3,7 @@ use Prim.Native.Nat.{ℕ, _-_, _≤_, _<_}
 use mathlib.Core.Path.{_≡_, subst}
 use native.Mathlib.Omega.{arith}
 use borrow.Author.Needs.{needs}
-use Rattle.model.specs.Limits.{mostTunnels}
-use Rattle.planner.specs.Tables.{tableSize}
+use Rattle.planner.specs.Tables.{tableSize, mostSums}
 use Rattle.planner.proofs.Tables.{Joining, join-none, join-on, join-all, join-ahead, room-at}
 use Rattle.planner.proofs.sums.add_table.Statement.{statement}
 use Rattle.planner.proofs.sums.add_table.Tie as tie
@@ -37,8 +36,8 @@ add-table c =
     omega (
       arith,
       join-ahead (i .loop .i) (i .before .args .table .now) (i .before .args .more .now) (i .loop .table) (i .loop .inv .joined),
-      room-at mostTunnels (i .before .args .table .now) (i .before .pre .1) (i .loop .i) low,
-      room-at mostTunnels (i .before .args .more .now) (i .before .pre .0) (i .loop .i) low,
+      room-at mostSums (i .before .args .table .now) (i .before .pre .1) (i .loop .i) low,
+      room-at mostSums (i .before .args .more .now) (i .before .pre .0) (i .loop .i) low,
     )
 
 slice-write-table : tie.Need-slice-write-table Inv-loop μ-loop

@@ -25,7 +25,7 @@ add-link-requires c κs =
     let s = c .before .before .before .before in
     let i = c .before .before .loop in
     let p = i .inv in
-    (added-room _ _ _ _ _ (p .done) (s .pre .0) (s .pre .1) (s .pre .2), next-within (s .args .via) (p .link) (i .set) (s .fits .via .fits) (p .left-from) (c .before .loop-test .taken), s .pre .1, s .pre .2)
+    (added-room _ _ _ _ _ (p .done) (s .pre .0) (s .pre .1) (s .pre .2), next-within (s .args .via) (p .link) (i .set) (s .fits .via .fits) (p .left-from) (c .before .loop-test .taken), omega (arith, s .pre .1), omega (arith, s .pre .2))
 
 sub-set : tie.Need-sub-set Inv-loop μ-loop
 sub-set c = search needs

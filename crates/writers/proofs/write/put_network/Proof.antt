@@ -2,17 +2,16 @@
 use Prim.Native.Nat.{ℕ, _+_, _*_}
 use mathlib.Core.Path.{_≡_, subst}
 use mathlib.Core.List.{List}
-use lib.ListN.{length}
-use Rattle.lists.specs.Lists.{perLink, perFlow, networkSizes, linkAt, flowAt, tunnelAt}
+use lib.ListN.{length, getD}
+use Rattle.lists.specs.Lists.{headSize, perLink, perFlow, networkSizes, linkAt, flowAt, tunnelAt}
 use Rattle.lists.specs.declared.Network as counts
-use Rattle.lists.proofs.Positions.{link-at, flow-at, tunnel-at, flows-follow, tunnels-follow, head-in}
-use Rattle.forms.proofs.Forms.{head-lines}
-use Rattle.forms.specs.Form.{networkLines, tunnelLines}
+use Rattle.lists.proofs.Positions.{link-at, flow-at, tunnel-at, flows-follow, tunnels-follow, head-size}
+use Rattle.forms.specs.Form.{tunnelLines}
 use Rattle.forms.specs.declared.form.Form.the-variants.{Network}
 use Rattle.forms.proofs.Good.{network-size}
 use Rattle.lines.specs.Puts.{Puts}
 use Rattle.writers.specs.Write.{linesFrom}
-use Rattle.writers.proofs.Runs.{all-lines, front-fits, rest-fits, rest-put}
+use Rattle.writers.proofs.Runs.{long, all-lines, front-fits, rest-fits, rest-put}
 use native.Mathlib.Omega.{arith}
 use borrow.Author.Needs.{needs}
 use Rattle.writers.proofs.write.put_network.Statement.{statement}
@@ -30,8 +29,7 @@ module _ (s : tie.Start) where
   abbrev sizes : counts.Network
   sizes = networkSizes list
 
-  links-end : linkAt sizes 0 + sizes .links ≡ flowAt sizes 0
-  unfolding perLink
+  links-end : linkAt sizes 0 + perLink (sizes .edition) * sizes .links ≡ flowAt sizes 0
   links-end = omega (arith, link-at sizes (sizes .links), flows-follow sizes)
 
   flows-end : flowAt sizes 0 + perFlow (sizes .edition) * sizes .flows ≡ tunnelAt sizes 0
@@ -40,18 +38,22 @@ module _ (s : tie.Start) where
   tunnels-end : tunnelAt sizes 0 + length (tunnelLines sizes) * sizes .tunnels ≡ length list
   tunnels-end = omega (arith, tunnel-at sizes (sizes .tunnels), network-size list (s .pre .0))
 
+  head-long : linkAt sizes 0 ≡ headSize (getD list 0 0)
+  unfolding networkSizes
+  head-long = head-size sizes
+
   abbrev Written : List ℕ → ℕ → ℕ → Type 0
   Written out p m = Puts (linesFrom Network list 0 m) 0 (s .args .out .now) out p
 
 -- the head is put, then the lines of the links, then those of the flows
 with-head : (c : tie.After-put-network-head) → let s = c .before .before .before .before in Written s (c .put-network-head .last .0) (c .put-network-head .result) (linkAt (sizes s) 0)
-with-head c = let s = c .before .before .before .before in rw (head-lines (sizes s)) (c .put-network-head .ensures)
+with-head c = let s = c .before .before .before .before in rw (head-long s) (c .put-network-head .ensures)
 
 with-links : (c : tie.After-put-links) → let s = c .before .before .before .before .before .before .before .before in Written s (c .put-links .last .0) (c .put-links .result) (flowAt (sizes s) 0)
 with-links c =
     let s = c .before .before .before .before .before .before .before .before in
     subst (Written s (c .put-links .last .0) (c .put-links .result)) (links-end s)
-    (rest-put Network (list s) (linkAt (sizes s) 0) (sizes s .links) (s .pre .1) (omega (arith, links-end s, flows-end s, tunnels-end s)) (with-head (c .before .before .before .before)) (c .put-links .ensures))
+    (rest-put Network (list s) (linkAt (sizes s) 0) (perLink (sizes s .edition) * sizes s .links) (s .pre .1) (omega (arith, links-end s, flows-end s, tunnels-end s)) (with-head (c .before .before .before .before)) (c .put-links .ensures))
 
 with-flows : (c : tie.After-put-flows) → let s = c .before .before .before .before .before .before .before .before .before .before .before .before in Written s (c .put-flows .last .0) (c .put-flows .result) (tunnelAt (sizes s) 0)
 with-flows c =
@@ -61,11 +63,11 @@ with-flows c =
 
 put-network-head-requires : tie.Need-put-network-head-requires
 put-network-head-requires c κs = let s = c .before .before .before in
-    (s .pre .0, front-fits Network (list s) (length networkLines) (s .args .out .now) (s .pre .1) (omega (arith, head-lines (sizes s), head-in (list s) (network-size (list s) (s .pre .0)))))
+    (s .pre .0, front-fits Network (list s) (headSize (getD (list s) 0 0)) (s .args .out .now) (s .pre .1) (long (list s) (s .pre .0)))
 
 put-links-requires : tie.Need-put-links-requires
 put-links-requires c κs = let s = c .before .before .before .before .before .before .before in
-    (s .pre .0, rest-fits Network (list s) (linkAt (sizes s) 0) (sizes s .links) (s .pre .1) (omega (arith, links-end s, flows-end s, tunnels-end s)) (with-head (c .before .before .before)))
+    (s .pre .0, rest-fits Network (list s) (linkAt (sizes s) 0) (perLink (sizes s .edition) * sizes s .links) (s .pre .1) (omega (arith, links-end s, flows-end s, tunnels-end s)) (with-head (c .before .before .before)))
 
 put-flows-requires : tie.Need-put-flows-requires
 put-flows-requires c κs = let s = c .before .before .before .before .before .before .before .before .before .before .before in

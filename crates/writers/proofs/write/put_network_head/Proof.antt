@@ -1,28 +1,45 @@
 -- `writers::write::put_network_head` meets its contract.
-use Prim.Native.Nat.{ℕ, _<_}
+use Prim.Native.Nat.{ℕ, _+_, _≤_, _<_}
 use mathlib.Core.Path.{_≡_, refl}
-use mathlib.Core.Bool.{false}
+use mathlib.Core.Bool.{true}
 use mathlib.Core.List.{List}
-use native.Mathlib.Omega.{arith}
-use lib.ListN.{getD}
+use lib.ListN.{length, getD}
+use borrow.Author.Tests.{le-leb, lt-leb}
+use Rattle.lists.specs.Lists.{headSize}
+use Rattle.lists.proofs.Positions.{head-low, with-unit, without-unit}
 use Rattle.forms.specs.Keys.{prefixOf}
+use Rattle.forms.specs.Bytes.{bytes}
 use Rattle.forms.specs.Form.{isHex, networkLines}
 use Rattle.forms.specs.declared.form.Form.the-variants.{Network}
-use Rattle.forms.specs.declared.form.Range.{Range}
 use Rattle.forms.specs.declared.form.Field.the-variants.{Line, End}
 use Rattle.lines.specs.Puts.{Puts}
 use Rattle.writers.specs.Write.{linesFrom}
-use Rattle.writers.proofs.Runs.{DecimalAt, network-head-line, no-lines, head-fits, head-next}
+use Rattle.writers.proofs.Runs.{DecimalAt, network-head-line, unit-line, no-lines, head-fits, head-next, run-fits, run-put}
+use native.Mathlib.Omega.{arith}
 use borrow.Author.Needs.{needs}
 use Rattle.writers.proofs.write.put_network_head.Statement.{statement}
 use Rattle.writers.proofs.write.put_network_head.Tie as tie
+use Rattle.lines.proofs.put_line.Reads as put-line-reads
+use Rattle.writers.proofs.write.put_counts.Reads as put-counts-reads
 
 module _ (s : tie.Start) where
   abbrev list : List ℕ
   list = s .args .list .now
 
-  line : (i k : ℕ) (r : Range) → i < 6 → getD networkLines i End ≡ Line k r → isHex r ≡ false → DecimalAt Network list i (prefixOf k)
-  line = network-head-line list (s .pre .0)
+  abbrev edition : ℕ
+  edition = getD list 0 0
+
+  some : 6 ≤ headSize edition
+  some = head-low edition
+
+  net : DecimalAt Network list 0 (bytes "net=")
+  net = network-head-line list (s .pre .0) 0 _ _ (omega (arith, some)) refl refl
+
+  scratch : DecimalAt Network list 1 (bytes "scratch=")
+  scratch = network-head-line list (s .pre .0) 1 _ _ (omega (arith, some)) refl refl
+
+  overrun : DecimalAt Network list 2 (bytes "overrun=")
+  overrun = network-head-line list (s .pre .0) 2 _ _ (omega (arith, some)) refl refl
 
   -- the first m lines are put
   abbrev Written : ℕ → List ℕ → ℕ → Type 0
@@ -31,101 +48,87 @@ module _ (s : tie.Start) where
   none : Written 0 (s .args .out .now) 0
   none = no-lines Network list 0 0 (s .args .out .now)
 
-abbrev start-1 : tie.After-put-line → tie.Start
-start-1 c = c .before .before .before .before .before .before
+  room : 0 + length (linesFrom Network list 0 (headSize edition)) ≤ length (s .args .out .now)
+  room = omega (arith, s .pre .1)
 
-one : (c : tie.After-put-line) → Written (start-1 c) 1 (c .put-line .last .0) (c .put-line .result)
-one c = let s = start-1 c in head-next Network (list s) 6 (s .pre .1) 0 (omega arith) (line s 0 _ _ (omega arith) refl refl) (none s) (c .put-line .ensures)
+  -- the edition, by the test
+  early : edition < 3 → headSize edition ≡ 6
+  early h = without-unit edition (lt-leb 3 edition h)
 
-abbrev start-2 : tie.After-put-line2 → tie.Start
-start-2 c = start-1 (c .before .before .before .before .before .before)
+  late : 3 ≤ edition → headSize edition ≡ 7
+  late h = with-unit edition (le-leb 3 edition h)
 
-two : (c : tie.After-put-line2) → Written (start-2 c) 2 (c .put-line2 .last .0) (c .put-line2 .result)
-two c = let s = start-2 c in head-next Network (list s) 6 (s .pre .1) 1 (omega arith) (line s 1 _ _ (omega arith) refl refl) (one (c .before .before .before .before .before .before)) (c .put-line2 .ensures)
+  unit : 3 ≤ edition → DecimalAt Network list 3 (bytes "unit=")
+  unit h = unit-line list (s .pre .0) (le-leb 3 edition h)
 
-abbrev start-3 : tie.After-put-line3 → tie.Start
-start-3 c = start-2 (c .before .before .before .before .before .before)
+one : (c : tie.After-put-line) → Written (c .before .before .before .before .before .before) 1 (c .put-line .last .0) (c .put-line .result)
+one c = let s = (c .before .before .before .before .before .before) in head-next Network (list s) _ (s .pre .1) 0 (omega (arith, some s)) (net s) (none s) (c .put-line .ensures)
 
-three : (c : tie.After-put-line3) → Written (start-3 c) 3 (c .put-line3 .last .0) (c .put-line3 .result)
-three c = let s = start-3 c in head-next Network (list s) 6 (s .pre .1) 2 (omega arith) (line s 2 _ _ (omega arith) refl refl) (two (c .before .before .before .before .before .before)) (c .put-line3 .ensures)
+two : (c : tie.After-put-line2) → Written (c .before .before .before .before .before .before .before .before .before .before .before .before) 2 (c .put-line2 .last .0) (c .put-line2 .result)
+two c = let s = (c .before .before .before .before .before .before .before .before .before .before .before .before) in head-next Network (list s) _ (s .pre .1) 1 (omega (arith, some s)) (scratch s) (one (c .before .before .before .before .before .before)) (c .put-line2 .ensures)
 
-abbrev start-4 : tie.After-put-line4 → tie.Start
-start-4 c = start-3 (c .before .before .before .before .before .before)
+three : (c : tie.After-put-line3) → Written (c .before .before .before .before .before .before .before .before .before .before .before .before .before .before .before .before .before .before) 3 (c .put-line3 .last .0) (c .put-line3 .result)
+three c = let s = (c .before .before .before .before .before .before .before .before .before .before .before .before .before .before .before .before .before .before) in head-next Network (list s) _ (s .pre .1) 2 (omega (arith, some s)) (overrun s) (two (c .before .before .before .before .before .before)) (c .put-line3 .ensures)
 
-four : (c : tie.After-put-line4) → Written (start-4 c) 4 (c .put-line4 .last .0) (c .put-line4 .result)
-four c = let s = start-4 c in head-next Network (list s) 6 (s .pre .1) 3 (omega arith) (line s 3 _ _ (omega arith) refl refl) (three (c .before .before .before .before .before .before)) (c .put-line4 .ensures)
-
-abbrev start-5 : tie.After-put-line5 → tie.Start
-start-5 c = start-4 (c .before .before .before .before .before .before)
-
-five : (c : tie.After-put-line5) → Written (start-5 c) 5 (c .put-line5 .last .0) (c .put-line5 .result)
-five c = let s = start-5 c in head-next Network (list s) 6 (s .pre .1) 4 (omega arith) (line s 4 _ _ (omega arith) refl refl) (four (c .before .before .before .before .before .before)) (c .put-line5 .ensures)
-
-abbrev start-6 : tie.After-put-line6 → tie.Start
-start-6 c = start-5 (c .before .before .before .before .before .before)
-
-six : (c : tie.After-put-line6) → Written (start-6 c) 6 (c .put-line6 .last .0) (c .put-line6 .result)
-six c = let s = start-6 c in head-next Network (list s) 6 (s .pre .1) 5 (omega arith) (line s 5 _ _ (omega arith) refl refl) (five (c .before .before .before .before .before .before)) (c .put-line6 .ensures)
+four : (c : tie.After-put-line4) → Written (c .before .before .before .before .before .before .before .before .before .before .before .before .before .before .before .before .before .before .before .before .before .before .before .before .before .before) 4 (c .put-line4 .last .0) (c .put-line4 .result)
+four c = let s = (c .before .before .before .before .before .before .before .before .before .before .before .before .before .before .before .before .before .before .before .before .before .before .before .before .before .before) in head-next Network (list s) _ (s .pre .1) 3 (omega (arith, some s)) (unit s (c .before .before .before .before .if1 .left)) (three (c .before .before .before .before .before .before .before .before)) (c .put-line4 .ensures)
 
 slice-aggregate-put-line : tie.Need-slice-aggregate-put-line
 slice-aggregate-put-line c = search needs
 
 shared-slice-read-put-line : tie.Need-shared-slice-read-put-line
-shared-slice-read-put-line c = line (c .before .before .before .before .before) 0 _ _ (omega arith) refl refl .number .within
+shared-slice-read-put-line c = net ((c .before .before .before .before .before)) .number .within
 
 put-line-requires : tie.Need-put-line-requires
-put-line-requires c κs = let s = c .before .before .before .before .before in head-fits Network (list s) 6 (s .pre .1) 0 (omega arith) (line s 0 _ _ (omega arith) refl refl) (none s)
+put-line-requires c κs = let s = (c .before .before .before .before .before) in head-fits Network (list s) _ (s .pre .1) 0 (omega (arith, some s)) (net s) (none s)
 
 slice-aggregate-put-line-2 : tie.Need-slice-aggregate-put-line-2
 slice-aggregate-put-line-2 c = search needs
 
 shared-slice-read-put-line-2 : tie.Need-shared-slice-read-put-line-2
-shared-slice-read-put-line-2 c = line (start-1 (c .before .before .before .before .before)) 1 _ _ (omega arith) refl refl .number .within
+shared-slice-read-put-line-2 c = scratch ((c .before .before .before .before .before .before .before .before .before .before .before)) .number .within
 
 put-line-requires-2 : tie.Need-put-line-requires-2
-put-line-requires-2 c κs = let s = start-1 (c .before .before .before .before .before) in head-fits Network (list s) 6 (s .pre .1) 1 (omega arith) (line s 1 _ _ (omega arith) refl refl) (one (c .before .before .before .before .before))
+put-line-requires-2 c κs = let s = (c .before .before .before .before .before .before .before .before .before .before .before) in head-fits Network (list s) _ (s .pre .1) 1 (omega (arith, some s)) (scratch s) (one ((c .before .before .before .before .before)))
 
 slice-aggregate-put-line-3 : tie.Need-slice-aggregate-put-line-3
 slice-aggregate-put-line-3 c = search needs
 
 shared-slice-read-put-line-3 : tie.Need-shared-slice-read-put-line-3
-shared-slice-read-put-line-3 c = line (start-2 (c .before .before .before .before .before)) 2 _ _ (omega arith) refl refl .number .within
+shared-slice-read-put-line-3 c = overrun ((c .before .before .before .before .before .before .before .before .before .before .before .before .before .before .before .before .before)) .number .within
 
 put-line-requires-3 : tie.Need-put-line-requires-3
-put-line-requires-3 c κs = let s = start-2 (c .before .before .before .before .before) in head-fits Network (list s) 6 (s .pre .1) 2 (omega arith) (line s 2 _ _ (omega arith) refl refl) (two (c .before .before .before .before .before))
+put-line-requires-3 c κs = let s = (c .before .before .before .before .before .before .before .before .before .before .before .before .before .before .before .before .before) in head-fits Network (list s) _ (s .pre .1) 2 (omega (arith, some s)) (overrun s) (two ((c .before .before .before .before .before)))
 
-slice-aggregate-put-line-4 : tie.Need-slice-aggregate-put-line-4
-slice-aggregate-put-line-4 c = search needs
+shared-slice-read-if1 : tie.Need-shared-slice-read-if1
+shared-slice-read-if1 c = net ((c .before .before .before .before .before .before .before .before .before .before .before .before .before .before .before .before .before .before .before .before .before)) .number .within
 
-shared-slice-read-put-line-4 : tie.Need-shared-slice-read-put-line-4
-shared-slice-read-put-line-4 c = line (start-3 (c .before .before .before .before .before)) 3 _ _ (omega arith) refl refl .number .within
-
-put-line-requires-4 : tie.Need-put-line-requires-4
-put-line-requires-4 c κs = let s = start-3 (c .before .before .before .before .before) in head-fits Network (list s) 6 (s .pre .1) 3 (omega arith) (line s 3 _ _ (omega arith) refl refl) (three (c .before .before .before .before .before))
-
-slice-aggregate-put-line-5 : tie.Need-slice-aggregate-put-line-5
-slice-aggregate-put-line-5 c = search needs
-
-shared-slice-read-put-line-5 : tie.Need-shared-slice-read-put-line-5
-shared-slice-read-put-line-5 c = line (start-4 (c .before .before .before .before .before)) 4 _ _ (omega arith) refl refl .number .within
-
-put-line-requires-5 : tie.Need-put-line-requires-5
-put-line-requires-5 c κs = let s = start-4 (c .before .before .before .before .before) in head-fits Network (list s) 6 (s .pre .1) 4 (omega arith) (line s 4 _ _ (omega arith) refl refl) (four (c .before .before .before .before .before))
-
-slice-aggregate-put-line-6 : tie.Need-slice-aggregate-put-line-6
-slice-aggregate-put-line-6 c = search needs
-
-shared-slice-read-put-line-6 : tie.Need-shared-slice-read-put-line-6
-shared-slice-read-put-line-6 c = line (start-5 (c .before .before .before .before .before)) 5 _ _ (omega arith) refl refl .number .within
-
-put-line-requires-6 : tie.Need-put-line-requires-6
-put-line-requires-6 c κs = let s = start-5 (c .before .before .before .before .before) in head-fits Network (list s) 6 (s .pre .1) 5 (omega arith) (line s 5 _ _ (omega arith) refl refl) (five (c .before .before .before .before .before))
+put-counts-requires : tie.Need-put-counts-requires
+put-counts-requires c κs = let s = (c .before .before .before .before .before .before .before .before .before .before .before .before .before .before .before .before .before .before .before .before .before .before .before) in let e = early s (c .before .if1 .taken) in (s .pre .0, run-fits Network (list s) 0 _ (room s) 3 3 _ (omega (arith, e)) (omega (arith, e)) (three ((c .before .before .before .before .before))))
 
 same-length : tie.Need-same-length
 same-length c = search needs
 
 returns : tie.Need-returns
-returns c = six (c .before .before)
+returns c = let s = (c .before .before .before .before .before .before .before .before .before .before .before .before .before .before .before .before .before .before .before .before .before .before .before .before .before .before) in let e = early s (c .before .before .before .before .if1 .taken) in run-put Network (list s) 0 _ (room s) 3 3 _ (omega (arith, e)) (omega (arith, e)) (three ((c .before .before .before .before .before .before .before .before))) _ (omega (arith, e)) (c .before .before .put-counts .ensures)
+
+slice-aggregate-put-line-4 : tie.Need-slice-aggregate-put-line-4
+slice-aggregate-put-line-4 c = search needs
+
+shared-slice-read-put-line-4 : tie.Need-shared-slice-read-put-line-4
+shared-slice-read-put-line-4 c = unit ((c .before .before .before .before .before .before .before .before .before .before .before .before .before .before .before .before .before .before .before .before .before .before .before .before .before)) (c .before .before .before .if1 .left) .number .within
+
+put-line-requires-4 : tie.Need-put-line-requires-4
+put-line-requires-4 c κs = let s = (c .before .before .before .before .before .before .before .before .before .before .before .before .before .before .before .before .before .before .before .before .before .before .before .before .before) in head-fits Network (list s) _ (s .pre .1) 3 (omega (arith, some s)) (unit s (c .before .before .before .if1 .left)) (three ((c .before .before .before .before .before .before .before)))
+
+put-counts-requires-2 : tie.Need-put-counts-requires-2
+put-counts-requires-2 c κs = let s = (c .before .before .before .before .before .before .before .before .before .before .before .before .before .before .before .before .before .before .before .before .before .before .before .before .before .before .before .before .before) in let e = late s (c .before .before .before .before .before .before .before .if1 .left) in (s .pre .0, run-fits Network (list s) 0 _ (room s) 4 3 _ (omega (arith, e)) (omega (arith, e)) (four ((c .before .before .before))))
+
+same-length-2 : tie.Need-same-length-2
+same-length-2 c = search needs
+
+returns-2 : tie.Need-returns-2
+returns-2 c = let s = (c .before .before .before .before .before .before .before .before .before .before .before .before .before .before .before .before .before .before .before .before .before .before .before .before .before .before .before .before .before .before .before .before) in let e = late s (c .before .before .before .before .before .before .before .before .before .before .if1 .left) in run-put Network (list s) 0 _ (room s) 4 3 _ (omega (arith, e)) (omega (arith, e)) (four ((c .before .before .before .before .before .before))) _ (omega (arith, e)) (c .before .before .put-counts2 .ensures)
 
 pub put-network-head-spec : {M : Type 1} → statement M
 put-network-head-spec =
@@ -140,14 +143,13 @@ put-network-head-spec =
     slice-aggregate-put-line-3
     shared-slice-read-put-line-3
     put-line-requires-3
+    shared-slice-read-if1
+    put-counts-requires
+    same-length
+    returns
     slice-aggregate-put-line-4
     shared-slice-read-put-line-4
     put-line-requires-4
-    slice-aggregate-put-line-5
-    shared-slice-read-put-line-5
-    put-line-requires-5
-    slice-aggregate-put-line-6
-    shared-slice-read-put-line-6
-    put-line-requires-6
-    same-length
-    returns)
+    put-counts-requires-2
+    same-length-2
+    returns-2)
