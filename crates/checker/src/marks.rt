@@ -18,12 +18,20 @@ use overloads::rows;
 
 const FLOWS: usize = Network::FLOWS as usize;
 
-// A tunnel's mark: 1 if it crosses link l and what moves it rises.
+// Whether a tunnel crosses link l.
+fn crosses(via: u64, l: u64) -> bool
+    requires { ⌜ l < mostLinks ⌝ }
+    ensures { λ r. ⌜ r ≡ inSet via l ⌝ }
+{
+    (via >> l) & 1 == 1
+}
+
+// A tunnel's mark: 1 if it crosses link l and an amount, its own or its flow's, rises.
 fn rises(via: u64, l: u64, earlier: u64, later: u64) -> u8
     requires { ⌜ l < mostLinks ⌝ }
     ensures { λ r. ⌜ r ≡ cond (inSet via l && ltb earlier later) 1 0 ⌝ }
 {
-    if (via >> l) & 1 == 1 {
+    if crosses(via, l) {
         if earlier < later {
             return 1;
         }
@@ -53,7 +61,7 @@ fn on_link(via: u64, l: u64, amount: u64) -> u64
     requires { ⌜ l < mostLinks ⌝ }
     ensures { λ r. ⌜ r ≡ cond (inSet via l) amount 0 ⌝ }
 {
-    if (via >> l) & 1 == 1 { amount } else { 0 }
+    if crosses(via, l) { amount } else { 0 }
 }
 
 // What each flow puts on link l before and after the step from row i, in one pass over the tunnels.

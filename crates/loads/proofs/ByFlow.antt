@@ -1,21 +1,19 @@
 -- Laws of the loads that are gathered flow by flow.
 use Prim.Native.Nat.{ℕ, zero, suc, _+_, _*_, _≤_, _<_, max}
 use mathlib.Core.Path.{_≡_, refl, sym, ap, ap₂, _∙_, subst}
-use mathlib.Core.Logic.{⊎-elim}
 use mathlib.Core.Bool.{Bool, true, false, cond, _&&_}
 use mathlib.Core.List.{List}
 use native.Mathlib.Omega.{arith}
 use native.Mathlib.Nat.{max-le}
 use lib.Dec.{eqb, leb}
-use lib.ListN.{length}
 use Rattle.model.specs.Limits.{mostLinks, mostFlows, mostTunnels, mostSteps, mostAmount}
 use Rattle.model.specs.Sets.{inSet}
 use Rattle.model.specs.Sum.{sumOver}
-use Rattle.model.proofs.Searches.{bool-cases, and-false, cond-most}
+use Rattle.model.proofs.Searches.{cond-most}
 use Rattle.model.proofs.Sums.{sum-zero, sum-next, sum-mono, sum-cong, sum-bound, sum-both, sum-groups}
 use Rattle.lists.specs.Lists.{at}
 use Rattle.loads.specs.Gathered.{gathered, ofFlow, largerSum, gatheredByFlow}
-use Rattle.loads.specs.Tables.{blockSteps, amountAt, loadAt, loadsSize, partOf, inPart, AmountsWithin, SetAdded, LoadsWithin, Cleared}
+use Rattle.loads.specs.Tables.{blockSteps, amountAt, loadAt, partOf, inPart, SetAdded, LoadsWithin, Cleared}
 use Rattle.loads.specs.Flows.{Chain, Amounts, ChainSums, largerAt, LargerFits, FlowLoads}
 use Rattle.loads.proofs.Passes.{gathered-most, gathered-sum, gathered-cong, part-cases, fewer-within}
 
@@ -90,11 +88,11 @@ module _ (links : ℕ) (vias flows : List ℕ) (n : ℕ) (classes earlier later 
     each = λ q l k hq hl hk. z .each (loadAt l q k) (omega arith) ∙ sym (sum-zero (inPart (at classes) q) (sumOf l k));
   }
 
-  pub flows-more : (f m set : ℕ) (prior sums s s₁ : List ℕ) → Chain (ofFlow (at flows) f) prior n m → ChainSums links vias prior m earlier later set sums
-      → FlowLoads links vias flows n classes f earlier later s → SetAdded links (partOf (at classes f)) (inSet set) (largerAt sums) s s₁
+  pub flows-more : (f m set part : ℕ) (prior sums s s₁ : List ℕ) → part ≡ partOf (at classes f) → Chain (ofFlow (at flows) f) prior n m → ChainSums links vias prior m earlier later set sums
+      → FlowLoads links vias flows n classes f earlier later s → SetAdded links part (inSet set) (largerAt sums) s s₁
       → FlowLoads links vias flows n classes (f + 1) earlier later s₁
   unfolding gatheredByFlow largerSum largerAt inPart
-  flows-more f m set prior sums s s₁ c a g d = record {
+  flows-more f m set part prior sums s s₁ p c a g d = record {
     size = d .size ∙ g .size;
     each = λ q l k hq hl hk.
         let e : largerAt sums l k ≡ sumOf l k f =
@@ -102,6 +100,7 @@ module _ (links : ℕ) (vias flows : List ℕ) (n : ℕ) (classes earlier later 
         let none : inSet set l ≡ false → largerAt sums l k ≡ 0 =
         λ o. ap₂ max (a .outside 0 l k (omega arith) hl hk o) (a .outside 1 l k (omega arith) hl hk o) in
         d .each q l k hq hl hk
+        ∙ ap (λ (b : ℕ). at s (loadAt l q k) + cond (eqb b q && inSet set l) (largerAt sums l k) 0) p
         ∙ ap₂ _+_ (g .each q l k hq hl hk) (inside (inPart (at classes) q f) (inSet set l) (largerAt sums l k) none ∙ ap (λ (y : ℕ). cond (inPart (at classes) q f) y 0) e)
         ∙ sym (sum-next f (inPart (at classes) q) (sumOf l k));
   }

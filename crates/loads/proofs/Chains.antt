@@ -19,9 +19,9 @@ use Rattle.model.proofs.Sets.{or-outside}
 use Rattle.lists.specs.Lists.{at}
 use Rattle.loads.specs.Gathered.{gathered, ofFlow}
 use Rattle.loads.specs.Tables.{blockSteps, amountAt, loadAt, loadsSize, SetAdded, LoadsWithin, Cleared}
-use Rattle.loads.specs.Flows.{LastOf, Chain, FlowsWithin, Chains, Downward, Amounts, inRow, ChainSums}
+use Rattle.loads.specs.Flows.{LastOf, Chain, Chains, Downward, Amounts, inRow, ChainSums}
 use Rattle.loads.proofs.Vectors.{at-same, at-other, last-or}
-use Rattle.loads.proofs.Passes.{gathered-none, gathered-more, fewer-within}
+use Rattle.loads.proofs.Passes.{gathered-none, gathered-more}
 
 -- ---- the last tunnel of a kind
 

@@ -1,6 +1,6 @@
 // With `unit=1` the loads are gathered flow by flow: of a flow's sums on a link in the rows before and after a step, the larger
-// counts. The tunnels of a flow are chained, so that none is looked at for another flow: a number of a chain is 1 more than a
-// tunnel's, and 0 at the end.
+// counts. The tunnels of a flow are chained, a linked list from the last down, so that none is looked at for another flow: an
+// entry is 1 more than a tunnel's number, and 0 at the end.
 ghost use mathlib.Core.Path.{_≡_};
 ghost use Prim.Native.Nat.{_*_, _^_, _≤_, _<_};
 ghost use lib.ListN.{length, replicate};
@@ -17,7 +17,7 @@ const FLOWS: usize = Network::FLOWS as usize;
 
 const TUNNELS: usize = Network::TUNNELS as usize;
 
-// The chains of n tunnels, by the flow of each: where that of a flow begins, and how it goes on from a tunnel, downward.
+// The chains of n tunnels, by the flow of each: the last tunnel of each flow, and the one of the same flow before each tunnel.
 fn chain(flows: &[u64], n: usize, last: &mut [u64], prior: &mut [u64])
     requires { ⌜ FlowsWithin (now flows) n × (n ≤ mostTunnels) × (n ≤ length (now flows)) × (now last ≡ replicate mostFlows 0) × (length (now prior) ≡ mostTunnels) ⌝ }
     ensures { λ _. ⌜ Chains (now (flows .entry)) n (now (last .exit)) (now (prior .exit)) ⌝ }
@@ -31,7 +31,7 @@ fn chain(flows: &[u64], n: usize, last: &mut [u64], prior: &mut [u64])
     }
 }
 
-// The sums of the tunnels of the chain from m, and a set of links that has all that they cross.
+// The sums of the tunnels of the chain from entry m on, and a set of links that has all that they cross.
 fn chain_sums(
     links: usize,
     vias: &[u64],

@@ -94,9 +94,9 @@ pub sets-within : (l p vias : List ℕ) → Checkable l p → Holds vias (networ
 unfolding networkOf
 sets-within l p vias c h = record { each = λ u k. rw (h .each u k) (c .network .ranges .tunnels .via u k .1) }
 
-pub owners-within : (l p flows : List ℕ) → Checkable l p → Holds flows (networkSizes l .tunnels) (networkOf l .flow) → FlowsWithin flows (networkSizes l .tunnels)
+pub tunnel-flows-within : (l p flows : List ℕ) → Checkable l p → Holds flows (networkSizes l .tunnels) (networkOf l .flow) → FlowsWithin flows (networkSizes l .tunnels)
 unfolding networkOf
-owners-within l p flows c h = record { each = λ u k. rw (h .each u k) (omega (arith, c .network .ranges .tunnels .flow u k, c .network .ranges .sized .counts)) }
+tunnel-flows-within l p flows c h = record { each = λ u k. rw (h .each u k) (omega (arith, c .network .ranges .tunnels .flow u k, c .network .ranges .sized .counts)) }
 
 pub flow-amounts : (l p vias earlier later : List ℕ) → Checkable l p → mostTunnels ≤ length vias → Holds vias (networkSizes l .tunnels) (networkOf l .via) → AmountTable l earlier
     → AmountTable l later → Amounts (networkSizes l .links) vias earlier later (networkSizes l .tunnels)

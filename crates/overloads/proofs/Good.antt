@@ -13,7 +13,6 @@ use Rattle.lists.specs.Lists.{at, networkSizes, flowAt, heldOf, networkOf, plan
 use Rattle.lists.specs.declared.Network.{Network}
 use Rattle.lists.specs.Good.{GoodNetwork}
 use Rattle.lists.proofs.Positions.{LinkPlace, FlowPlace, TunnelPlace, row-in, short-plan}
-use Rattle.lists.proofs.Held.{cap-most}
 use Rattle.loads.specs.Claim.{worstAmount}
 use Rattle.overloads.specs.Columns.{classOf, capacity, raised}
 use Rattle.overloads.specs.Inner.{Checkable}
@@ -111,15 +110,16 @@ module _ (l : List ℕ) (g : GoodNetwork l) where
     unfolding networkOf
     raised-here = ap (λ (c : ℕ). (1000 + at l 2) * (parts * c) / 1000) e
 
-    module _ (h : parts ≤ mostSteps) (there : k < networkSizes l .links) where
-      capacity-small : parts * left ≤ mostAmount * mostSteps
-      capacity-small = rw e (in-parts parts _ h (cap-most l k _ (g .ranges .links) there))
+  module _ (left parts : ℕ) (h : parts ≤ mostSteps) (low : left ≤ mostAmount) where
+    pub capacity-fits : parts * left < 2 ^ 64
+    capacity-fits = omega (arith, in-parts parts left h low)
 
-      pub capacity-fits : parts * left < 2 ^ 64
-      capacity-fits = omega (arith, capacity-small)
+    pub raised-fits : (1000 + at l 2) * (parts * left) < 2 ^ 64
+    raised-fits =
+        let most : 1000 + at l 2 ≤ 1000 + mostShare = omega (arith, overrun-small) in
+        let q : (1000 + at l 2) * (parts * left) ≤ (1000 + mostShare) * (mostAmount * mostSteps) = mul-le-mul most (in-parts parts left h low) in
+        omega arith
 
-      pub raised-fits : (1000 + at l 2) * (parts * left) < 2 ^ 64
-      raised-fits =
-          let most : 1000 + at l 2 ≤ 1000 + mostShare = omega (arith, overrun-small) in
-          let q : (1000 + at l 2) * (parts * left) ≤ (1000 + mostShare) * (mostAmount * mostSteps) = mul-le-mul most capacity-small in
-          omega arith
+-- the capacity of link k is no more than an amount
+pub cap-low : (l : List ℕ) → GoodNetwork l → (k i : ℕ) → LinkPlace l k i → at l i ≤ mostAmount
+cap-low l g k i p = rw (p .here) (g .ranges .links .cap k (p .there))

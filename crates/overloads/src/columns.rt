@@ -31,7 +31,7 @@ pub(crate) fn tunnels(network: &[u64], vias: &mut [u64], classes: &mut [u64])
 }
 
 // The flow of each tunnel.
-pub(crate) fn owners(network: &[u64], flows: &mut [u64])
+pub(crate) fn tunnel_flows(network: &[u64], flows: &mut [u64])
     requires { ⌜ GoodNetwork (now network) × (mostTunnels ≤ length (now flows)) ⌝ }
     ensures { λ _. ⌜ Holds (now (flows .exit)) (networkSizes (now (network .entry)) .tunnels) (networkOf (now (network .entry)) .flow) ⌝ }
 {
@@ -66,7 +66,8 @@ pub(crate) fn links(network: &[u64], parts: u64, capacities: &mut [u64], all: &m
     let times = 1000 + network[Network::OVERRUN];
     let mut l = 0;
     while l < sizes.links {
-        let left = network[sizes.link_at(l)] - sizes.held(network, l);
+        let cap = network[sizes.link_at(l)];
+        let left = cap - sizes.held(network, l);
         let capacity = parts * left;
         capacities[l] = capacity;
         all[l] = times * capacity / 1000;

@@ -32,16 +32,16 @@ pub(crate) fn flow_loads(
     ensures { λ _. ⌜ Gathers (networkOf (now (network .entry))) (planOf (now (plan .entry))) (i / blockSteps) (now (loads .exit)) ⌝ }
 {
     let sizes = Network::of(network);
-    let mut owners = [0u64; TUNNELS];
+    let mut flow_of = [0u64; TUNNELS];
     let mut classes = [0u64; FLOWS];
-    columns::owners(network, &mut owners);
+    columns::tunnel_flows(network, &mut flow_of);
     columns::flow_classes(network, &mut classes);
     let mut later = [0u64; AMOUNTS];
     rows::row_amounts(network, plan, i, amounts, &mut later);
     flows::gather_flows(
         sizes.links,
         vias,
-        &owners,
+        &flow_of,
         sizes.tunnels,
         &classes,
         sizes.flows,

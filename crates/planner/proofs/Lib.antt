@@ -1,6 +1,4 @@
-pub mod Tables
-pub mod Flows
-pub mod Good
+pub mod Figures
 pub mod Searching
 pub mod EvenLists
 pub mod Planned

@@ -25,11 +25,12 @@ use Rattle.lists.specs.Answers.{plan}
 use Rattle.lists.specs.Lists.{networkOf}
 use Rattle.lists.specs.declared.Answer.the-variants.{Refused}
 use Rattle.lists.proofs.Held.{cap-most}
-use Rattle.planner.specs.Tables.{Part, mostSums, Room, onPart, Loads, Ready, stepSum, endSum}
+use Rattle.link_sums.specs.Tables.{Part, mostSums, Room, onPart, Loads}
+use Rattle.planner.specs.Tables.{Ready, stepSum, endSum}
 use Rattle.planner.specs.Planned.{stuck}
 use Rattle.planner.specs.Search.{isOver}
-use Rattle.planner.proofs.Tables.{table-room}
-use Rattle.planner.proofs.Good.{good-range}
+use Rattle.link_sums.proofs.Tables.{table-room}
+use Rattle.link_sums.proofs.Good.{good-range}
 
 -- ---- an even plan
 

@@ -11,7 +11,6 @@ use lists::Answer;
 
 mod rows;
 mod steps;
-mod sums;
 
 // Plans for a network whose list is judged good.
 fn plan_good(network: &[u64], out: &mut [u64]) -> Answer
@@ -19,9 +18,9 @@ fn plan_good(network: &[u64], out: &mut [u64]) -> Answer
     ensures { λ r. ⌜ r ≡ plan (withRoom (length (now (out .entry))) (evenPlan (networkOf (now (network .entry))))) ⌝ }
     ensures { λ _. ⌜ now (out .exit) ≡ lent (withRoom (length (now (out .entry))) (evenPlan (networkOf (now (network .entry))))) (now (out .entry)) ⌝ }
 {
-    let mut protected = [0u64; sums::TABLE];
-    let mut all = [0u64; sums::TABLE];
-    sums::gather(network, &mut protected, &mut all);
+    let mut protected = [0u64; link_sums::TABLE];
+    let mut all = [0u64; link_sums::TABLE];
+    link_sums::gather(network, &mut protected, &mut all);
     let fewest = steps::fewest_steps(network, &protected, &all);
     let Fewest::Steps(q) = fewest else {
         return steps::first_overload(network, &protected, &all);

@@ -9,10 +9,10 @@ ghost use Rattle.model.specs.Even.{even, fewest};
 ghost use Rattle.lists.specs.Answers.{plan};
 ghost use Rattle.lists.specs.Lists.{networkSizes, networkOf};
 ghost use Rattle.lists.specs.Good.{NetworkRanges};
-ghost use Rattle.planner.specs.Tables.{mostSums, Room, Ready, stepSum, endSum};
+ghost use Rattle.link_sums.specs.Tables.{mostSums, Room};
+ghost use Rattle.planner.specs.Tables.{Ready, stepSum, endSum};
 ghost use Rattle.planner.specs.Planned.{stuck};
 ghost use Rattle.planner.specs.Search.{answered, isOver};
-use crate::sums;
 use lists::Answer;
 use lists::Network;
 
@@ -35,8 +35,8 @@ fn step_load(table: &[u64], row: u64, link: usize) -> u64
     ensures { λ r. ⌜ r ≡ stepSum (now (table .entry)) mostSteps row link ⌝ }
 {
     let old = table[link];
-    let new = table[sums::NEW_AT + link];
-    (Network::STEPS - (row + 1)) * old + row * new + table[sums::PEAK_AT + link]
+    let new = table[link_sums::NEW_AT + link];
+    (Network::STEPS - (row + 1)) * old + row * new + table[link_sums::PEAK_AT + link]
 }
 
 // The larger of a link's worst loads in the first step and in the last, of the plan of q steps: no step's load is larger.
@@ -45,9 +45,9 @@ fn end_load(table: &[u64], q: u64, link: usize) -> u64
     ensures { λ r. ⌜ r ≡ endSum (now (table .entry)) q link ⌝ }
 {
     let old = table[link];
-    let new = table[sums::NEW_AT + link];
-    let most = sums::larger(old, new);
-    let peak = table[sums::PEAK_AT + link];
+    let new = table[link_sums::NEW_AT + link];
+    let most = link_sums::larger(old, new);
+    let peak = table[link_sums::PEAK_AT + link];
     (q - 1) * most + peak
 }
 

@@ -5,7 +5,7 @@ use mathlib.Core.Bool.{Bool, true, false, cond}
 use mathlib.Core.List.{List, _++_}
 use mathlib.Core.Option.{Option, none, some}
 use native.Mathlib.Omega.{arith}
-use borrow.Author.Tests.{le-leb}
+use borrow.Author.Tests.{le-leb, leb-true}
 use lib.Dec.{eqb, leb}
 use lib.ListN.{length, getD, take, drop, List·getD-append}
 use lib.Seq.{take-append-seam}
@@ -43,6 +43,14 @@ room-planned (good q) room k e = go (leb (length q) room) refl e
     go true t e = (q, refl, simp t, cc)
     go false t e = let z : _≡_ {A = ℕ} 0 1 = cc in absurd (omega arith)
 room-planned (refused c place second) room k e = let z : _≡_ {A = ℕ} 0 1 = cc in absurd (omega arith)
+
+room-within : (o : Outcome (List ℕ)) (room k : ℕ) → plan (withRoom room o) ≡ Planned k → k ≤ room
+room-within (good q) room k e = go (leb (length q) room) refl e
+  where
+    go : (b : Bool) → leb (length q) room ≡ b → plan (cond b (good q) (refused Cause.noRoom (length q) 0)) ≡ Planned k → k ≤ room
+    go true t e = let same : length q ≡ k = cc in omega (arith, leb-true (length q) room t)
+    go false t e = let z : _≡_ {A = ℕ} 0 1 = cc in absurd (omega arith)
+room-within (refused c place second) room k e = let z : _≡_ {A = ℕ} 0 1 = cc in absurd (omega arith)
 
 same-front : (p q : List ℕ) (out : List ℕ) → length q ≡ length p → q ++ drop (length q) out ≡ p ++ drop (length p) out → q ≡ p
 same-front p q out e h = sym (take-append-seam q (drop (length q) out)) ∙ ap₂ (λ (n : ℕ) (l : List ℕ). take n l) e h ∙ take-append-seam p (drop (length p) out)
@@ -107,7 +115,7 @@ valid form l (as-list e) = e
 valid form l (as-text text e) = read-good form text l e
 
 -- a plan that the planner comes to is answered and written, given the room
-returned : (n p out : List ℕ) → planned n ≡ good p → length p ≤ length out → Returns n p out
+pub returned : (n p out : List ℕ) → planned n ≡ good p → length p ≤ length out → Returns n p out
 returned n p out e h = (simp (e, le-leb (length p) (length out) h), simp (e, le-leb (length p) (length out) h))
 
 bounded : (n : List ℕ) → Valid Form.Network n → keepsScratch (networkOf n) ≡ true
@@ -120,6 +128,10 @@ returns-planned n p out r =
     let w = room-planned (planned n) (length out) (length p) (r .0) in
     let q : w .0 ≡ p = same-front p (w .0) out (w .3) (sym (ap (λ (o : Outcome (List ℕ)). lent o out) (w .2)) ∙ r .1) in
     w .1 ∙ ap good q
+
+-- which there was room for
+pub returns-room : (n p out : List ℕ) → Returns n p out → length p ≤ length out
+returns-room n p out r = room-within (planned n) (length out) (length p) (r .0)
 
 pub demand3 : Demand3
 unfolding stepBound

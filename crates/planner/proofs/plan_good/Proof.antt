@@ -9,7 +9,7 @@ use Rattle.lists.specs.Lists.{networkOf, planSize}
 use Rattle.lists.specs.declared.Answer.the-variants.{Plan, Refused}
 use Rattle.lists.specs.declared.PlanSizes.{PlanSizes}
 use Rattle.planner.specs.Planned.{evenList}
-use Rattle.planner.proofs.Good.{good-range}
+use Rattle.link_sums.proofs.Good.{good-range}
 use Rattle.planner.proofs.EvenLists.{list-length}
 use Rattle.planner.proofs.Planned.{answered-some, answered-none, no-plan, room-short, room-enough}
 use native.Mathlib.Omega.{arith}
@@ -21,7 +21,7 @@ use Rattle.planner.proofs.rows.plan_sizes.Reads as plan-sizes-reads
 use Rattle.planner.proofs.rows.write_plan.Reads as write-plan-reads
 use Rattle.planner.proofs.steps.fewest_steps.Reads as fewest-steps-reads
 use Rattle.planner.proofs.steps.first_overload.Reads as first-overload-reads
-use Rattle.planner.proofs.sums.gather.Reads as gather-reads
+use Rattle.link_sums.proofs.gather.Reads as gather-reads
 
 found : (c : tie.After-known-told) → fewest (networkOf (c .before .before .before .before .before .before .before .before .before .before .before .before .before .args .network .now)) ≡ some (c .before .fewest .given .0 .0)
 found c = answered-some _ _ (sym (c .before .before .before .fewest-steps .ensures) ∙ c .before .fewest .given .1)

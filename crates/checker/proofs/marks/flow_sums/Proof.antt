@@ -17,11 +17,6 @@ use native.Mathlib.Omega.{arith}
 use borrow.Author.Needs.{needs}
 use Rattle.checker.proofs.marks.flow_sums.Statement.{statement}
 use Rattle.checker.proofs.marks.flow_sums.Tie as tie
-use Rattle.checker.proofs.marks.on_link.Reads as on-link-reads
-use Rattle.lists.proofs.Network.of.Reads as of-reads
-use Rattle.lists.proofs.Network.tunnel_at.Reads as tunnel-at-reads
-use Rattle.overloads.proofs.rows.after.Reads as after-reads
-use Rattle.overloads.proofs.rows.before.Reads as before-reads
 
 abbrev Inv-loop : tie.InvT-loop
 Inv-loop network plan i l earlier₀ later₀ sizes t₀ earlier later t = record {

@@ -1,13 +1,9 @@
 -- `checker::marks::mark` meets its contract.
 use mathlib.Core.Path.{sym, _∙_}
 use Rattle.lists.proofs.Positions.{head-in}
-use native.Mathlib.Omega.{arith}
 use borrow.Author.Needs.{needs}
 use Rattle.checker.proofs.marks.mark.Statement.{statement}
 use Rattle.checker.proofs.marks.mark.Tie as tie
-use Rattle.checker.proofs.marks.mark_flows.Reads as mark-flows-reads
-use Rattle.checker.proofs.marks.mark_tunnels.Reads as mark-tunnels-reads
-use Rattle.lists.proofs.Network.by_flow.Reads as by-flow-reads
 
 by-flow-requires : tie.Need-by-flow-requires
 by-flow-requires c κs = head-in _ (c .before .before .before .pre .0 .network .ranges .sized .size)

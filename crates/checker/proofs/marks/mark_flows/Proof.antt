@@ -15,10 +15,6 @@ use native.Mathlib.Omega.{arith}
 use borrow.Author.Needs.{needs}
 use Rattle.checker.proofs.marks.mark_flows.Statement.{statement}
 use Rattle.checker.proofs.marks.mark_flows.Tie as tie
-use Rattle.checker.proofs.marks.flow_sums.Reads as flow-sums-reads
-use Rattle.checker.proofs.marks.rises.Reads as rises-reads
-use Rattle.lists.proofs.Network.of.Reads as of-reads
-use Rattle.lists.proofs.Network.tunnel_at.Reads as tunnel-at-reads
 
 abbrev Inv-loop : tie.InvT-loop
 Inv-loop network plan i l marks₀ sizes earlier later t₀ marks t = (t ≤ sizes .tunnels) × (length marks ≡ length marks₀) × (marks ≡ marksAt (networkOf network) (planOf plan) i l t ++ drop t marks₀)

@@ -14,11 +14,6 @@ use native.Mathlib.Omega.{arith}
 use borrow.Author.Needs.{needs}
 use Rattle.checker.proofs.marks.mark_tunnels.Statement.{statement}
 use Rattle.checker.proofs.marks.mark_tunnels.Tie as tie
-use Rattle.checker.proofs.marks.rises.Reads as rises-reads
-use Rattle.lists.proofs.Network.of.Reads as of-reads
-use Rattle.lists.proofs.Network.tunnel_at.Reads as tunnel-at-reads
-use Rattle.overloads.proofs.rows.after.Reads as after-reads
-use Rattle.overloads.proofs.rows.before.Reads as before-reads
 
 abbrev Inv-loop : tie.InvT-loop
 Inv-loop network plan i l marks₀ sizes t₀ marks t = (t ≤ sizes .tunnels) × (length marks ≡ length marks₀) × (marks ≡ marksAt (networkOf network) (planOf plan) i l t ++ drop t marks₀)

@@ -1,27 +1,21 @@
--- `checker::marks::rises` meets its contract: the mask is the remainder by 2.
-use Prim.Native.Nat.{_/_, _^_}
+-- `checker::marks::rises` meets its contract.
 use mathlib.Core.Path.{sym, _∙_}
+use borrow.Author.Tests.{lt-ltb, le-ltb}
 use borrow.Author.Needs.{needs}
-use borrow.Author.Tests.{eq-eqb, ne-eqb, lt-ltb, le-ltb}
-use lib.Bits.{and-mask}
 use Rattle.checker.proofs.marks.rises.Statement.{statement}
 use Rattle.checker.proofs.marks.rises.Tie as tie
 
-shr-if1 : tie.Need-shr-if1
-shr-if1 c = search needs
+crosses-requires : tie.Need-crosses-requires
+crosses-requires c κs = search needs
 
 returns : tie.Need-returns
-returns c =
-    let d = c .before .before in
-    simp (eq-eqb _ _ (sym (and-mask (d .args .via / 2 ^ d .args .l) 1) ∙ c .before .if1 .taken), lt-ltb _ _ (c .if2 .taken))
+returns c = simp (sym (c .before .before .crosses .ensures) ∙ c .before .if1 .taken, lt-ltb _ _ (c .if2 .taken))
 
 returns-2 : tie.Need-returns-2
-returns-2 c =
-    let d = c .before .before in
-    simp (eq-eqb _ _ (sym (and-mask (d .args .via / 2 ^ d .args .l) 1) ∙ c .before .if1 .taken), le-ltb _ _ (c .if2 .left))
+returns-2 c = simp (sym (c .before .before .crosses .ensures) ∙ c .before .if1 .taken, le-ltb _ _ (c .if2 .left))
 
 returns-3 : tie.Need-returns-3
-returns-3 c = simp (ne-eqb _ _ (λ e. c .if1 .left (and-mask (c .before .args .via / 2 ^ c .before .args .l) 1 ∙ e)))
+returns-3 c = simp (sym (c .before .crosses .ensures) ∙ c .if1 .left)
 
 pub rises-spec : {M : Type 1} → statement M
-rises-spec = tie.close (tie.spec shr-if1 returns returns-2 returns-3)
+rises-spec = tie.close (tie.spec crosses-requires returns returns-2 returns-3)

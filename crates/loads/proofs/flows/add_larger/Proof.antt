@@ -11,7 +11,6 @@ use native.Mathlib.Omega.{arith}
 use borrow.Author.Needs.{needs}
 use Rattle.loads.proofs.flows.add_larger.Statement.{statement}
 use Rattle.loads.proofs.flows.add_larger.Tie as tie
-use Rattle.loads.proofs.flows.add_larger_vector.Reads as add-larger-vector-reads
 
 abbrev Inv-loop : tie.InvT-loop
 Inv-loop links set part sums loads₀ left₀ loads left = Passing (λ c s. SetAdded links part c (largerAt sums) loads₀ s) set left loads

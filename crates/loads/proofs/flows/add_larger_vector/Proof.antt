@@ -1,5 +1,5 @@
 -- `loads::flows::add_larger_vector` meets its contract.
-use Prim.Native.Nat.{_≤_, _-_, _+_, _*_, max}
+use Prim.Native.Nat.{_≤_, _-_, max}
 use mathlib.Core.Path.{_≡_, ap, ap₂, _∙_}
 use Rattle.lists.specs.Lists.{at}
 use Rattle.loads.specs.Tables.{blockSteps}
@@ -9,8 +9,6 @@ use native.Mathlib.Omega.{arith}
 use borrow.Author.Needs.{needs}
 use Rattle.loads.proofs.flows.add_larger_vector.Statement.{statement}
 use Rattle.loads.proofs.flows.add_larger_vector.Tie as tie
-use Rattle.loads.proofs.gather.larger.Reads as larger-reads
-use Rattle.loads.proofs.gather.load_at.Reads as load-at-reads
 
 abbrev Inv-loop : tie.InvT-loop
 Inv-loop sums l loads₀ j to k₀ loads k = record { low : k ≤ blockSteps; added : Adding j k (largerAt sums l) loads₀ loads }

@@ -7,8 +7,6 @@ use native.Mathlib.Omega.{arith}
 use borrow.Author.Needs.{needs}
 use Rattle.loads.proofs.flows.chain_sums.Statement.{statement}
 use Rattle.loads.proofs.flows.chain_sums.Tie as tie
-use Rattle.loads.proofs.gather.add_tunnel.Reads as add-tunnel-reads
-use Rattle.loads.proofs.gather.clear.Reads as clear-reads
 
 abbrev Inv-loop : tie.InvT-loop
 Inv-loop links vias prior m earlier later sums₀ set₀ from₀ sums set from = Walking links vias prior m earlier later from set sums
@@ -17,7 +15,7 @@ abbrev μ-loop : tie.MeasureT-loop
 μ-loop links vias prior m earlier later sums₀ set₀ from₀ sums set from = from
 
 clear-requires : tie.Need-clear-requires Inv-loop μ-loop
-clear-requires c κs = (c .before .before .before .before .before .before .pre .0 .few .0, c .before .before .before .before .before .before .pre .2)
+clear-requires c κs = (omega (arith, c .before .before .before .before .before .before .pre .0 .few), c .before .before .before .before .before .before .pre .2)
 
 loop-holds : tie.Need-loop-holds Inv-loop μ-loop
 loop-holds c = walk-start _ _ _ _ _ _ _ (c .before .before .clear .ensures)

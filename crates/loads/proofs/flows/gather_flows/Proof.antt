@@ -11,11 +11,6 @@ use native.Mathlib.Omega.{arith}
 use borrow.Author.Needs.{needs}
 use Rattle.loads.proofs.flows.gather_flows.Statement.{statement}
 use Rattle.loads.proofs.flows.gather_flows.Tie as tie
-use Rattle.loads.proofs.flows.add_larger.Reads as add-larger-reads
-use Rattle.loads.proofs.flows.chain.Reads as chain-reads
-use Rattle.loads.proofs.flows.chain_sums.Reads as chain-sums-reads
-use Rattle.loads.proofs.gather.clear.Reads as clear-reads
-use Rattle.loads.proofs.gather.part_of.Reads as part-of-reads
 
 abbrev Inv-loop : tie.InvT-loop
 Inv-loop links vias flows n classes count earlier later loads₀ last prior sums₀ f₀ loads sums f = record { low : f ≤ count; loads : FlowLoads links vias flows n classes f earlier later loads; sums : length sums ≡ loadsSize }
@@ -88,7 +83,7 @@ loop-less c = search needs
 loop-again : tie.Need-loop-again Inv-loop μ-loop
 loop-again c = record {
   low = omega (arith, c .before .before .before .before .before .before .before .before .before .before .before .loop-test .taken);
-  loads = flows-more _ _ _ _ _ _ _ (c .before .before .before .before .before .before .before .before .before .before .before .before .loop .f) _ _ _ _ _ _ (chain-of _ _ _ _ (c .before .before .before .before .before .before .before .before .before .before .before .before .before .before .before .before .before .before .before .chain .ensures) _ (here ((c .before .before .before .before .before .before .before .before .before .before .before)))) (c .before .before .before .before .before .before .before .before .chain-sums .ensures) (c .before .before .before .before .before .before .before .before .before .before .before .before .loop .inv .loads) (rw (← c .before .before .before .before .before .part-of .ensures .0) (c .before .before .add-larger .ensures));
+  loads = flows-more _ _ _ _ _ _ _ (c .before .before .before .before .before .before .before .before .before .before .before .before .loop .f) _ _ _ _ _ _ _ (c .before .before .before .before .before .part-of .ensures .0) (chain-of _ _ _ _ (c .before .before .before .before .before .before .before .before .before .before .before .before .before .before .before .before .before .before .before .chain .ensures) _ (here ((c .before .before .before .before .before .before .before .before .before .before .before)))) (c .before .before .before .before .before .before .before .before .chain-sums .ensures) (c .before .before .before .before .before .before .before .before .before .before .before .before .loop .inv .loads) (c .before .before .add-larger .ensures);
   sums = c .before .before .before .before .before .before .before .before .chain-sums .ensures .within .size;
 }
 

@@ -12,8 +12,6 @@ use native.Mathlib.Omega.{arith}
 use borrow.Author.Needs.{needs}
 use Rattle.overloads.proofs.columns.flow_classes.Statement.{statement}
 use Rattle.overloads.proofs.columns.flow_classes.Tie as tie
-use Rattle.lists.proofs.Network.flow_at.Reads as flow-at-reads
-use Rattle.lists.proofs.Network.of.Reads as of-reads
 
 abbrev Inv-loop : tie.InvT-loop
 Inv-loop network classes₀ sizes f₀ classes f = record { low : f ≤ sizes .flows; size : length classes ≡ length classes₀; holds : Holds classes f (networkOf network .class) }

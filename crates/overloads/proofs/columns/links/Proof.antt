@@ -7,15 +7,12 @@ use Rattle.lists.specs.declared.Network as counts
 use Rattle.lists.proofs.Held.{held-most}
 use Rattle.lists.proofs.Positions.{LinkPlace, link-place, limited, head-in, head-least}
 use Rattle.overloads.specs.Columns.{Holds, capacity, raised}
-use Rattle.overloads.proofs.Good.{times-fits, left-here, capacity-here, raised-here, capacity-fits, raised-fits}
+use Rattle.overloads.proofs.Good.{times-fits, left-here, capacity-here, raised-here, capacity-fits, raised-fits, cap-low}
 use Rattle.overloads.proofs.Laws.{holds-none, holds-more, holds-at}
 use native.Mathlib.Omega.{arith}
 use borrow.Author.Needs.{needs}
 use Rattle.overloads.proofs.columns.links.Statement.{statement}
 use Rattle.overloads.proofs.columns.links.Tie as tie
-use Rattle.lists.proofs.Network.held.Reads as held-reads
-use Rattle.lists.proofs.Network.link_at.Reads as link-at-reads
-use Rattle.lists.proofs.Network.of.Reads as of-reads
 
 abbrev Inv-loop : tie.InvT-loop
 Inv-loop network parts capacities₀ all₀ sizes times l₀ capacities all l = record {
@@ -50,11 +47,11 @@ loop-holds c = record { low = omega arith; size = (refl, refl); capacity = holds
 link-at-requires : tie.Need-link-at-requires Inv-loop μ-loop
 link-at-requires c κs = (limited _ (c .before .before .before .before .before .before .before .before .pre .0 .ranges .sized) _ (c .before .before .before .before .of .ensures), omega (arith, c .if1 .taken))
 
-mul-left : tie.Need-mul-left Inv-loop μ-loop
-mul-left c = record { fits = omega (arith, place c .few) }
+mul-cap : tie.Need-mul-cap Inv-loop μ-loop
+mul-cap c = record { fits = omega (arith, place c .few) }
 
-shared-slice-read-left : tie.Need-shared-slice-read-left Inv-loop μ-loop
-shared-slice-read-left c = omega (arith, place ((c .before)) .within)
+shared-slice-read-cap : tie.Need-shared-slice-read-cap Inv-loop μ-loop
+shared-slice-read-cap c = omega (arith, place ((c .before)) .within)
 
 held-requires : tie.Need-held-requires Inv-loop μ-loop
 held-requires c κs = (c .before .before .before .before .before .before .of .ensures, c .before .before .before .before .before .before .before .before .before .before .pre .0 .ranges, c .before .before .if1 .taken)
@@ -63,7 +60,7 @@ sub-left : tie.Need-sub-left Inv-loop μ-loop
 sub-left c = let p = place ((c .before .before)) in omega (arith, c .held .ensures, held-most _ _ (c .before .before .before .before .before .before .before .before .before .before .before .pre .0 .ranges) (p .there), ap (at (c .before .before .before .before .before .before .before .before .before .before .before .args .network .now)) (p .here))
 
 mul-capacity : tie.Need-mul-capacity Inv-loop μ-loop
-mul-capacity c = record { fits = capacity-fits _ (c .before .before .before .before .before .before .before .before .before .before .before .pre .0) _ _ _ (left c) (c .before .before .before .before .before .before .before .before .before .before .before .pre .1) (place ((c .before .before)) .there) }
+mul-capacity c = record { fits = capacity-fits _ (c .before .before .before .before .before .before .before .before .before .before .before .pre .0) _ _ (c .before .before .before .before .before .before .before .before .before .before .before .pre .1) (omega (arith, cap-low _ (c .before .before .before .before .before .before .before .before .before .before .before .pre .0) _ _ (place ((c .before .before))))) }
 
 mul-capacities : tie.Need-mul-capacities Inv-loop μ-loop
 mul-capacities c = let p = place ((c .before .before)) in record { fits = omega (arith, p .there, c .before .before .before .before .before .before .before .before .before .before .before .pre .0 .ranges .sized .counts) }
@@ -72,7 +69,7 @@ slice-write-capacities : tie.Need-slice-write-capacities Inv-loop μ-loop
 slice-write-capacities c = let p = place ((c .before .before)) in omega (arith, c .before .before .before .before .before .loop .inv .size, p .there, c .before .before .before .before .before .before .before .before .before .before .before .pre .0 .ranges .sized .counts, c .before .before .before .before .before .before .before .before .before .before .before .pre .2)
 
 mul-all : tie.Need-mul-all Inv-loop μ-loop
-mul-all c = record { fits = raised-fits _ (c .before .before .before .before .before .before .before .before .before .before .before .pre .0) _ _ _ (left c) (c .before .before .before .before .before .before .before .before .before .before .before .pre .1) (place ((c .before .before)) .there) }
+mul-all c = record { fits = raised-fits _ (c .before .before .before .before .before .before .before .before .before .before .before .pre .0) _ _ (c .before .before .before .before .before .before .before .before .before .before .before .pre .1) (omega (arith, cap-low _ (c .before .before .before .before .before .before .before .before .before .before .before .pre .0) _ _ (place ((c .before .before))))) }
 
 mul-all-2 : tie.Need-mul-all-2 Inv-loop μ-loop
 mul-all-2 c = let p = place ((c .before .before)) in record { fits = omega (arith, p .there, c .before .before .before .before .before .before .before .before .before .before .before .pre .0 .ranges .sized .counts) }
@@ -116,8 +113,8 @@ links-spec =
     add-times
     loop-holds
     link-at-requires
-    mul-left
-    shared-slice-read-left
+    mul-cap
+    shared-slice-read-cap
     held-requires
     sub-left
     mul-capacity

@@ -3,25 +3,20 @@ use Prim.Native.Nat.{_*_, _/_}
 use mathlib.Core.Path.{_≡_}
 use Rattle.lists.proofs.Positions.{head-in}
 use Rattle.loads.specs.Tables.{blockSteps}
-use Rattle.overloads.proofs.Blocks.{no-amounts, owners-within, flow-amounts, flows-gather}
+use Rattle.overloads.proofs.Blocks.{no-amounts, tunnel-flows-within, flow-amounts, flows-gather}
 use native.Mathlib.Omega.{arith}
 use borrow.Author.Needs.{needs}
 use Rattle.overloads.proofs.flows.flow_loads.Statement.{statement}
 use Rattle.overloads.proofs.flows.flow_loads.Tie as tie
-use Rattle.lists.proofs.Network.of.Reads as of-reads
-use Rattle.loads.proofs.flows.gather_flows.Reads as gather-flows-reads
-use Rattle.overloads.proofs.columns.flow_classes.Reads as flow-classes-reads
-use Rattle.overloads.proofs.columns.owners.Reads as owners-reads
-use Rattle.overloads.proofs.rows.row_amounts.Reads as row-amounts-reads
 
 of-requires : tie.Need-of-requires
 of-requires c κs = head-in _ (c .before .before .before .before .before .pre .0 .network .ranges .sized .size)
 
-slice-aggregate-owners : tie.Need-slice-aggregate-owners
-slice-aggregate-owners c = search needs
+slice-aggregate-tunnel-flows : tie.Need-slice-aggregate-tunnel-flows
+slice-aggregate-tunnel-flows c = search needs
 
-owners-requires : tie.Need-owners-requires
-owners-requires c κs = search needs
+tunnel-flows-requires : tie.Need-tunnel-flows-requires
+tunnel-flows-requires c κs = search needs
 
 slice-aggregate-flow-classes : tie.Need-slice-aggregate-flow-classes
 slice-aggregate-flow-classes c = search needs
@@ -48,8 +43,8 @@ gather-flows-requires : tie.Need-gather-flows-requires
 gather-flows-requires c κs = let m = c .before .before .before .before .before .before .before .before .before .before .before .before .before .before .before .before .before .before .before .before .before .before .before .pre .0 .network .ranges .sized .counts in
     rw (c .before .before .before .before .before .before .before .before .before .before .before .before .before .before .before .before .before .of .ensures) (
       flow-amounts _ _ _ _ _ (c .before .before .before .before .before .before .before .before .before .before .before .before .before .before .before .before .before .before .before .before .before .before .before .pre .0) (c .before .before .before .before .before .before .before .before .before .before .before .before .before .before .before .before .before .before .before .before .before .before .before .pre .4) (c .before .before .before .before .before .before .before .before .before .before .before .before .before .before .before .before .before .before .before .before .before .before .before .pre .5) (c .before .before .before .before .before .before .before .before .row-amounts .ensures .0 .table) (c .before .before .before .before .before .before .before .before .row-amounts .ensures .1 .table),
-      owners-within _ _ _ (c .before .before .before .before .before .before .before .before .before .before .before .before .before .before .before .before .before .before .before .before .before .before .before .pre .0) (c .before .before .before .before .before .before .before .before .before .before .before .before .before .before .before .owners2 .ensures),
-      omega (arith, m, c .before .before .before .before .before .before .before .before .before .before .before .before .before .before .before .owners2 .kept),
+      tunnel-flows-within _ _ _ (c .before .before .before .before .before .before .before .before .before .before .before .before .before .before .before .before .before .before .before .before .before .before .before .pre .0) (c .before .before .before .before .before .before .before .before .before .before .before .before .before .before .before .tunnel-flows .ensures),
+      omega (arith, m, c .before .before .before .before .before .before .before .before .before .before .before .before .before .before .before .tunnel-flows .kept),
       m .flows,
       omega (arith, m, c .before .before .before .before .before .before .before .before .before .before .before .before .flow-classes .kept),
       c .before .before .before .before .before .before .before .before .before .before .before .before .before .before .before .before .before .before .before .before .before .before .before .pre .7,
@@ -63,15 +58,15 @@ same-length-2 c = search needs
 
 returns : tie.Need-returns
 returns c = let e : c .before .before .before .before .before .before .before .before .before .before .before .before .before .before .before .before .before .before .before .before .before .before .before .before .before .before .args .i ≡ blockSteps * (c .before .before .before .before .before .before .before .before .before .before .before .before .before .before .before .before .before .before .before .before .before .before .before .before .before .before .args .i / blockSteps) = omega (arith, c .before .before .before .before .before .before .before .before .before .before .before .before .before .before .before .before .before .before .before .before .before .before .before .before .before .before .pre .3) in
-    (c .before .before .before .before .before .before .before .before .before .before .before .row-amounts .ensures .0 .table, flows-gather _ _ (c .before .before .before .before .before .before .before .before .before .before .before .before .before .before .before .before .before .before .before .before .before .before .before .before .before .before .pre .0) _ _ e (c .before .before .before .before .before .before .before .before .before .before .before .before .before .before .before .before .before .before .before .before .before .before .before .before .before .before .pre .1) _ _ _ (c .before .before .before .before .before .before .before .before .before .before .before .before .before .before .before .before .before .before .before .before .before .before .before .before .before .before .pre .5) (c .before .before .before .before .before .before .before .before .before .before .before .before .before .before .before .before .before .before .owners2 .ensures) (c .before .before .before .before .before .before .before .before .before .before .before .before .before .before .before .flow-classes .ensures) _ _ _ (flow-amounts _ _ _ _ _ (c .before .before .before .before .before .before .before .before .before .before .before .before .before .before .before .before .before .before .before .before .before .before .before .before .before .before .pre .0) (c .before .before .before .before .before .before .before .before .before .before .before .before .before .before .before .before .before .before .before .before .before .before .before .before .before .before .pre .4) (c .before .before .before .before .before .before .before .before .before .before .before .before .before .before .before .before .before .before .before .before .before .before .before .before .before .before .pre .5) (c .before .before .before .before .before .before .before .before .before .before .before .row-amounts .ensures .0 .table) (c .before .before .before .before .before .before .before .before .before .before .before .row-amounts .ensures .1 .table)) (c .before .before .before .before .before .before .before .before .before .before .before .row-amounts .ensures .0) (c .before .before .before .before .before .before .before .before .before .before .before .row-amounts .ensures .1) (rw (c .before .before .before .before .before .before .before .before .before .before .before .before .before .before .before .before .before .before .before .before .of .ensures) at (c .before .before .gather-flows .ensures)))
+    (c .before .before .before .before .before .before .before .before .before .before .before .row-amounts .ensures .0 .table, flows-gather _ _ (c .before .before .before .before .before .before .before .before .before .before .before .before .before .before .before .before .before .before .before .before .before .before .before .before .before .before .pre .0) _ _ e (c .before .before .before .before .before .before .before .before .before .before .before .before .before .before .before .before .before .before .before .before .before .before .before .before .before .before .pre .1) _ _ _ (c .before .before .before .before .before .before .before .before .before .before .before .before .before .before .before .before .before .before .before .before .before .before .before .before .before .before .pre .5) (c .before .before .before .before .before .before .before .before .before .before .before .before .before .before .before .before .before .before .tunnel-flows .ensures) (c .before .before .before .before .before .before .before .before .before .before .before .before .before .before .before .flow-classes .ensures) _ _ _ (flow-amounts _ _ _ _ _ (c .before .before .before .before .before .before .before .before .before .before .before .before .before .before .before .before .before .before .before .before .before .before .before .before .before .before .pre .0) (c .before .before .before .before .before .before .before .before .before .before .before .before .before .before .before .before .before .before .before .before .before .before .before .before .before .before .pre .4) (c .before .before .before .before .before .before .before .before .before .before .before .before .before .before .before .before .before .before .before .before .before .before .before .before .before .before .pre .5) (c .before .before .before .before .before .before .before .before .before .before .before .row-amounts .ensures .0 .table) (c .before .before .before .before .before .before .before .before .before .before .before .row-amounts .ensures .1 .table)) (c .before .before .before .before .before .before .before .before .before .before .before .row-amounts .ensures .0) (c .before .before .before .before .before .before .before .before .before .before .before .row-amounts .ensures .1) (rw (c .before .before .before .before .before .before .before .before .before .before .before .before .before .before .before .before .before .before .before .before .of .ensures) at (c .before .before .gather-flows .ensures)))
 
 pub flow-loads-spec : {M : Type 1} → statement M
 flow-loads-spec =
     tie.close
     (tie.spec
     of-requires
-    slice-aggregate-owners
-    owners-requires
+    slice-aggregate-tunnel-flows
+    tunnel-flows-requires
     slice-aggregate-flow-classes
     flow-classes-requires
     slice-aggregate-row-amounts

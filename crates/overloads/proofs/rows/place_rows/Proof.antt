@@ -12,10 +12,6 @@ use native.Mathlib.Omega.{arith}
 use borrow.Author.Needs.{needs}
 use Rattle.overloads.proofs.rows.place_rows.Statement.{statement}
 use Rattle.overloads.proofs.rows.place_rows.Tie as tie
-use Rattle.lists.proofs.Network.of.Reads as of-reads
-use Rattle.loads.proofs.gather.amount_at.Reads as amount-at-reads
-use Rattle.overloads.proofs.rows.after.Reads as after-reads
-use Rattle.overloads.proofs.rows.before.Reads as before-reads
 
 abbrev Inv-loop : tie.InvT-loop
 Inv-loop network plan i k earlier₀ later₀ n t₀ earlier later t = record {

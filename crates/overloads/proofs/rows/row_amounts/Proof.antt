@@ -12,8 +12,6 @@ use native.Mathlib.Omega.{arith}
 use borrow.Author.Needs.{needs}
 use Rattle.overloads.proofs.rows.row_amounts.Statement.{statement}
 use Rattle.overloads.proofs.rows.row_amounts.Tie as tie
-use Rattle.lists.proofs.PlanSizes.of.Reads as of-reads
-use Rattle.overloads.proofs.rows.place_rows.Reads as place-rows-reads
 
 abbrev Inv-loop : tie.InvT-loop
 Inv-loop network plan i earlier₀ later₀ steps k₀ earlier later k = record {

@@ -12,8 +12,6 @@ use native.Mathlib.Omega.{arith}
 use borrow.Author.Needs.{needs}
 use Rattle.overloads.proofs.rows.worst_amounts.Statement.{statement}
 use Rattle.overloads.proofs.rows.worst_amounts.Tie as tie
-use Rattle.lists.proofs.PlanSizes.of.Reads as of-reads
-use Rattle.overloads.proofs.rows.place.Reads as place-reads
 
 abbrev Inv-loop : tie.InvT-loop
 Inv-loop network plan i amounts₀ steps k₀ amounts k = record { low : k ≤ blockSteps; worst : StepAmounts (worstAmount (networkOf network) (planOf plan)) network plan i k amounts }

@@ -8,11 +8,6 @@ use native.Mathlib.Omega.{arith}
 use borrow.Author.Needs.{needs}
 use Rattle.overloads.proofs.steps.block_loads.Statement.{statement}
 use Rattle.overloads.proofs.steps.block_loads.Tie as tie
-use Rattle.lists.proofs.Network.by_flow.Reads as by-flow-reads
-use Rattle.lists.proofs.Network.of.Reads as of-reads
-use Rattle.loads.proofs.gather.gather.Reads as gather-reads
-use Rattle.overloads.proofs.flows.flow_loads.Reads as flow-loads-reads
-use Rattle.overloads.proofs.rows.worst_amounts.Reads as worst-amounts-reads
 
 returns : tie.Need-returns
 returns c = (c .before .before .before .before .before .before .before .pre .3, c .before .before .before .before .before .before .before .pre .4 .gathers (c .if1 .taken))

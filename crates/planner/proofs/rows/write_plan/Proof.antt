@@ -10,7 +10,7 @@ use Rattle.model.specs.Net.{Net}
 use Rattle.lists.specs.Lists.{networkOf}
 use Rattle.lists.specs.declared.PlanSizes.{PlanSizes}
 use Rattle.planner.specs.Planned.{evenList}
-use Rattle.planner.proofs.Good.{good-range}
+use Rattle.link_sums.proofs.Good.{good-range}
 use Rattle.planner.proofs.EvenLists.{list-length, head-stored, head-length, head-rest, Written, written-none, written-on, written-length, written-all}
 use native.Mathlib.Omega.{arith}
 use borrow.Author.Needs.{needs}

@@ -11,7 +11,7 @@ use Rattle.model.proofs.Evens.{even-accepted}
 use Rattle.lists.specs.Lists.{networkSizes, networkOf}
 use Rattle.lists.specs.declared.Network as counts
 use Rattle.lists.proofs.Positions.{head-in, head-least}
-use Rattle.planner.proofs.Tables.{end-room}
+use Rattle.planner.proofs.Figures.{end-room}
 use Rattle.planner.proofs.Searching.{AtLink, link-low, protected-room, all-room, overrun-most, cap-room, overrun-room, over-protected, over-total, kept-both}
 use native.Mathlib.Omega.{arith}
 use borrow.Author.Needs.{needs}

@@ -6,7 +6,7 @@ use Rattle.model.specs.Limits.{mostSteps}
 use Rattle.lists.specs.Lists.{at, networkSizes, networkOf}
 use Rattle.lists.specs.declared.Network as counts
 use Rattle.lists.proofs.Positions.{head-in, head-least}
-use Rattle.planner.proofs.Tables.{step-room}
+use Rattle.planner.proofs.Figures.{step-room}
 use Rattle.planner.proofs.Searching.{AtLink, link-low, protected-room, all-room, overrun-most, cap-room, overrun-room, is-over-first, is-over-second}
 use native.Mathlib.Omega.{arith}
 use Rattle.planner.proofs.steps.is_over.Statement.{statement}
