@@ -51,8 +51,8 @@ fn edition_2(rng: &mut Rng) -> Vec<u64> {
 /// all.
 pub fn edition_3(rng: &mut Rng) -> Vec<u64> {
     let mut list = match rng.below(50) {
-        0 => bundled(rng, 64, 32, 96),
-        1..=14 => {
+        0..=1 => bundled(rng, 64, 32, 96),
+        2..=14 => {
             let (links, flows, tunnels) = (rng.between(1, 8), rng.between(1, 6), 16);
             bundled(rng, links, flows, tunnels)
         }
@@ -95,7 +95,8 @@ pub fn tiny_bundled(rng: &mut Rng) -> Vec<u64> {
 
 /// A network of edition 3 whose flows have several tunnels over the same links, between which they
 /// shift their amounts, in up to so many tunnels. Most links have just what an even plan of some
-/// number of steps needs by the network's `unit`, or one less, or what it needs by the other `unit`.
+/// number of steps needs by the network's `unit`, or one less, or what it needs by the other `unit`;
+/// now and then one link alone, often the last, and the others have more.
 fn bundled(rng: &mut Rng, links: u64, flows: u64, tunnels: u64) -> Vec<u64> {
     let top = rng.pick(&[4, 20, 1000, AMOUNT / 100]);
     let overrun = rng.pick(&[0, 0, 20, 100, 500]);
@@ -140,9 +141,15 @@ fn bundled(rng: &mut Rng, links: u64, flows: u64, tunnels: u64) -> Vec<u64> {
     list.extend(lines.concat());
     let shape = Shape::of(&list);
     let steps = rng.pick(&[1, 1, 2, 2, 3, 4, 7, 50]);
+    let alone = match rng.below(6) {
+        0 => Some(shape.links - 1),
+        1 => Some(rng.below(links) as usize),
+        _ => None,
+    };
     for link in 0..shape.links {
         let of_unit = needed(&list, link, steps, unit == 1);
         let cap = match rng.below(12) {
+            _ if alone.is_some_and(|alone| alone != link) => 3 * of_unit,
             0..=6 => of_unit,
             7 => of_unit.saturating_sub(1),
             8..=9 => needed(&list, link, steps, unit == 0),
@@ -780,7 +787,7 @@ mod tests {
     fn kinds_of_held() {
         let mut rng = Rng::new(15);
         let mut seen = [[0; 6]; 2];
-        for _ in 0..2000 {
+        for _ in 0..4000 {
             let list = edition_3(&mut rng);
             let shape = Shape::of(&list);
             for link in 0..shape.links {
