@@ -16,7 +16,10 @@
  * has none.
  *
  * A network's first number, net, is its edition. In edition 1 a flow has two numbers, class and rate; in edition 2 a third,
- * next, the rate that it has after the move. Edition 1 is read as if next equalled rate, and its list has no number for it.
+ * next, the rate that it has after the move. In edition 3, beside that, overrun is followed by unit, 0 or 1, and each cap by
+ * held, 0 to cap: what is lent to a repair crew, so that the link has cap - held. With unit 1 the switches change all tunnels
+ * of a flow at once, with unit 0 each tunnel for itself. Edition 1 is read as if next equalled rate, and editions 1 and 2 as if
+ * unit and held were 0; their lists have no numbers for these.
  *
  * The answer is four numbers (the step bound and the desks have other values after PAVUNESHIL_DONE; see there):
  *   { PAVUNESHIL_DONE,    length, 0, 0 }              done; length items of the output were written
@@ -44,7 +47,8 @@
  *       demand out of range                     first such service           0
  *
  * A longer remark, a 33rd one, or one that the text's end cuts meets 1. In a text, lines count remarks; of a list, a number's
- * position stands for its line. A net other than 1 and 2 meets 2. A flow without tunnels whose rate or next is not 0 meets 4.
+ * position stands for its line. A net other than 1, 2 and 3 meets 2, and so does a held above its cap, on the line of held.
+ * A flow without tunnels whose rate or next is not 0 meets 4.
  * A row that a plan lists meets 6 where a flow's amounts add up to less than parts x the lesser of its two rates, or to more
  * than parts x the greater; in edition 1 the two are the same.
  * Lines, steps, stages and services count from 1, rows, links, switches, flows, tunnels and desks from 0. After a refusal
@@ -66,7 +70,7 @@ extern "C" {
 #define PAVUNESHIL_REFUSED 2
 
 /* No valid input needs more room than this. */
-#define PAVUNESHIL_NETWORK_NUMBERS 550 /* the list of a network */
+#define PAVUNESHIL_NETWORK_NUMBERS 615 /* the list of a network */
 #define PAVUNESHIL_PLAN_NUMBERS 4708   /* the list of a plan */
 #define PAVUNESHIL_RULES_NUMBERS 260   /* the list of rule tables */
 #define PAVUNESHIL_TEXT_BYTES 65536    /* any text, with its remarks */
@@ -101,20 +105,21 @@ void pavuneshil_write_plan(const uint64_t *list, size_t list_len, uint8_t *out, 
 
 /*
  * Plans. A plan: out begins with the list of the even plan of fewest steps, 1 to 50, in which no link is overloaded in
- * any step, whichever tunnels have moved and whichever have not. A network that keeps its scratch with overrun 0 gets
- * one, given the room, of at most as many steps as pavuneshil_step_bound says.
+ * any step, whichever tunnels, or with unit 1 whichever flows, have moved and whichever have not. A network that keeps its
+ * scratch with overrun 0 gets one, given the room, of at most as many steps as pavuneshil_step_bound says.
  * Refused: 2, 3 and 4 of the network's list; then 9; then 10.
  */
 void pavuneshil_make_plan(const uint64_t *network, size_t network_len, uint64_t *out, size_t out_len,
                           uint64_t answer[4]);
 
 /*
- * Checks anybody's plan, given as lists. Done: no link is overloaded in any step, whichever tunnels have moved and
- * whichever have not; marks begins with a 0 for each tunnel.
+ * Checks anybody's plan, given as lists. Done: no link is overloaded in any step, whichever tunnels, or with unit 1
+ * whichever flows, have moved and whichever have not; marks begins with a 0 for each tunnel.
  * Refused: 2, 3 and 4 of the network; 2 and 3 of the plan; 5; 6, the lowest row, then flow; 10, if marks has fewer
  * bytes than there are tunnels; then 7 or 8, the first overload by step, then link, 7 before 8. After 7 and 8 marks
- * begins with a byte for each tunnel, 1 exactly if it crosses the named link and its amount rises in the named step,
- * else 0: once the marked tunnels have moved in that step, and no others, the named link is overloaded.
+ * begins with a byte for each tunnel, 1 exactly if it crosses the named link and its amount rises in the named step, or
+ * with unit 1 the sum of its flow's amounts across that link, else 0: once the marked tunnels, or with unit 1 the flows of
+ * the marked tunnels, have moved in that step, and no others, the named link is overloaded.
  */
 void pavuneshil_check_plan(const uint64_t *network, size_t network_len, const uint64_t *plan, size_t plan_len,
                            uint8_t *marks, size_t marks_len, uint64_t answer[4]);

@@ -2,7 +2,8 @@
 //! the step bound; rule tables of the largest size; rates and demands to share; submissions for the
 //! desks.
 
-use second::gen::Rng;
+use crate::LANDED;
+use second::gen::{Rng, Shape};
 
 const ROOM: usize = usize::MAX;
 const LINKS: usize = 64;
@@ -10,6 +11,9 @@ const FLOWS: usize = 32;
 const TUNNELS: usize = 96;
 const STEPS: u64 = 50;
 const OVERRUN: u64 = 100;
+
+/// The most that a capacity, a rate or a demand may be.
+const AMOUNT: u64 = 10_000_000;
 
 /// A network with the plan that the planner makes for it, as lists and as texts.
 pub struct Input {
@@ -19,7 +23,7 @@ pub struct Input {
     /// The network's text with as many remarks as it may have, each as long as it may be.
     pub remarked_text: Vec<u8>,
     pub plan_text: Vec<u8>,
-    /// The network with link 63 (1 of the swap) cut down, so that no plan fits.
+    /// The network with link 63 (1 of the swap) cut down to nothing, so that no plan fits.
     pub stuck: Vec<u64>,
     /// The network with one Mbit/s less than the plan needs on a link, late in the plan if it can be.
     pub tight: Vec<u64>,
@@ -27,10 +31,13 @@ pub struct Input {
 
 impl Input {
     fn of(network: Vec<u64>, tight: Vec<u64>) -> Input {
-        let plan = second::make_plan(&network, ROOM).expect("a plan");
+        let plan = second::make_plan_by(&LANDED, &network, ROOM).expect("a plan");
         let mut stuck = network.clone();
-        stuck[6 + network[3] as usize - 1] = 0;
-        let network_text = second::write_network(&network, ROOM).expect("a valid network");
+        let shape = Shape::of(&network);
+        let last = shape.cap(shape.links - 1)..shape.cap(shape.links);
+        stuck[last].fill(0);
+        let text = second::write_network_by(&LANDED, &network, ROOM);
+        let network_text = text.expect("a valid network");
         Input {
             remarked_text: remarked(&network_text),
             network_text,
@@ -56,12 +63,13 @@ fn remarked(text: &[u8]) -> Vec<u8> {
 }
 
 /// So many networks of 64 links, 32 flows and 96 tunnels, each tunnel over so many links, for
-/// which the plan of fewest steps has 50.
-pub fn largest(count: usize, hops: u32, seed: u64) -> Vec<Input> {
+/// which the plan of fewest steps has 50: of edition 3 where a `unit` is given, else of edition 1. Of one
+/// seed they differ in that alone, and with `unit` 1 in the capacities.
+pub fn largest(count: usize, hops: u32, unit: Option<u64>, seed: u64) -> Vec<Input> {
     let mut rng = Rng::new(seed);
     let mut inputs = Vec::new();
     while inputs.len() < count {
-        let Some((network, tight)) = network(&mut rng, hops) else {
+        let Some((network, tight)) = network(&mut rng, hops, unit) else {
             continue;
         };
         let input = Input::of(network, tight);
@@ -101,7 +109,7 @@ fn via(rng: &mut Rng, hops: u32) -> u64 {
 
 /// A network in which every link has just what the even plan of 50 steps needs, and the same with
 /// one less on the link that needs its capacity latest. `None` where a capacity is out of range.
-fn network(rng: &mut Rng, hops: u32) -> Option<(Vec<u64>, Vec<u64>)> {
+fn network(rng: &mut Rng, hops: u32, unit: Option<u64>) -> Option<(Vec<u64>, Vec<u64>)> {
     // amounts of all lengths, and the capacities still in range
     let most = 28_000_000 / u64::from(hops) / 8;
     let mut flows = Vec::new();
@@ -119,20 +127,32 @@ fn network(rng: &mut Rng, hops: u32) -> Option<(Vec<u64>, Vec<u64>)> {
     for last in (1..tunnels.len()).rev() {
         tunnels.swap(last, rng.below(last as u64 + 1) as usize);
     }
-    let mut list = vec![1, 20, OVERRUN, LINKS as u64, FLOWS as u64, TUNNELS as u64];
+    let mut list = match unit {
+        None => vec![1, 20, OVERRUN],
+        Some(unit) => vec![3, 20, OVERRUN, unit],
+    };
+    list.extend([LINKS, FLOWS, TUNNELS].map(|count| count as u64));
     let mut latest = (0, 0);
     for link in 0..LINKS {
         let (mut cap, mut at) = (0, 0);
         for step in 1..=STEPS {
             let (mut protected, mut all) = (0, 0);
-            for &(flow, via, old, new) in &tunnels {
+            // of each tunnel, or with `unit` 1 of each flow: whether it is protected, and its two sums
+            let mut sums = [(false, [0; 2]); TUNNELS];
+            for (t, &(flow, via, old, new)) in tunnels.iter().enumerate() {
                 if (via >> link) & 1 == 1 {
                     let row = |a| (STEPS - a) * old + a * new;
-                    let worst = row(step - 1).max(row(step));
-                    all += worst;
-                    if flows[flow as usize].0 < 2 {
-                        protected += worst;
-                    }
+                    let sum = &mut sums[if unit == Some(1) { flow as usize } else { t }];
+                    sum.0 = flows[flow as usize].0 < 2;
+                    sum.1[0] += row(step - 1);
+                    sum.1[1] += row(step);
+                }
+            }
+            for (of_protected, [earlier, later]) in sums {
+                let worst = earlier.max(later);
+                all += worst;
+                if of_protected {
+                    protected += worst;
                 }
             }
             let needed = protected
@@ -142,22 +162,33 @@ fn network(rng: &mut Rng, hops: u32) -> Option<(Vec<u64>, Vec<u64>)> {
                 (cap, at) = (needed, step);
             }
         }
-        if cap == 0 || cap > 10_000_000 {
+        if cap == 0 || cap > AMOUNT {
             return None;
         }
         if at >= latest.0 {
             latest = (at, link);
         }
-        list.push(cap);
+        // of edition 3 some is held, and so much more is there
+        let held = (1000 * link as u64).min(AMOUNT - cap);
+        match unit {
+            None => list.push(cap),
+            Some(_) => list.extend([cap + held, held]),
+        }
     }
     for (class, rate) in flows {
         list.extend([class, rate]);
+        if unit.is_some() {
+            list.push(rate);
+        }
     }
     for (flow, via, old, new) in tunnels {
         list.extend([flow, via, old, new]);
     }
     let mut tight = list.clone();
-    tight[6 + latest.1] -= 1;
+    match unit {
+        None => tight[Shape::of(&list).cap(latest.1)] -= 1,
+        Some(_) => tight[Shape::of(&list).cap(latest.1) + 1] += 1,
+    }
     Some((list, tight))
 }
 
@@ -219,9 +250,6 @@ pub fn tables(count: usize, hops: u32, seed: u64) -> Vec<Tables> {
         .collect()
 }
 
-/// The most that a rate or a demand may be.
-const AMOUNT: u64 = 10_000_000;
-
 /// So many times 16 demands of any size, with a rate that meets all of them or part of them.
 pub fn demands(count: usize, met: bool, seed: u64) -> Vec<(u64, Vec<u64>)> {
     let mut rng = Rng::new(seed);
@@ -279,11 +307,24 @@ mod tests {
     #[test]
     fn of_the_largest_size() {
         for hops in [4, 32] {
-            for input in largest(2, hops, 1) {
-                // edition 1 has no `next` of a flow
-                assert_eq!(input.network.len() + FLOWS, pavuneshil::NETWORK_NUMBERS);
-                assert_eq!(input.plan.len(), pavuneshil::PLAN_NUMBERS);
+            for unit in [None, Some(0), Some(1)] {
+                for input in largest(2, hops, unit, 1) {
+                    // edition 1 has no `unit`, no `held` of a link and no `next` of a flow
+                    let more = if unit.is_none() { 1 + LINKS + FLOWS } else { 0 };
+                    assert_eq!(input.network.len() + more, pavuneshil::NETWORK_NUMBERS);
+                    assert_eq!(input.plan.len(), pavuneshil::PLAN_NUMBERS);
+                    let refused = second::check_plan_by(&LANDED, &input.tight, &input.plan, ROOM);
+                    assert!(matches!(refused, second::Checked::Refused { .. }));
+                }
             }
+            // of one seed the tunnels are the same
+            let tunnels = |unit| -> Vec<Vec<u64>> {
+                let inputs = largest(2, hops, unit, 1);
+                let last = |list: &Vec<u64>| list[list.len() - 4 * TUNNELS..].to_vec();
+                inputs.iter().map(|input| last(&input.network)).collect()
+            };
+            assert_eq!(tunnels(Some(0)), tunnels(None));
+            assert_eq!(tunnels(Some(1)), tunnels(None));
             for tables in tables(2, hops, 1) {
                 assert_eq!(tables.list.len(), pavuneshil::RULES_NUMBERS);
             }

@@ -7,11 +7,14 @@
 
 use bench::clock::medians;
 use bench::inputs::{self, Input, Tables};
+use bench::LANDED;
 use pavuneshil::{
     Answer, Desks, Refusal, StepBound, MARKS, PLAN_NUMBERS, RULES_BYTES, RULES_NUMBERS, SERVICES,
     STAGES, TEXT_BYTES,
 };
-use second::{Checked, Rules};
+use second::{
+    check_plan_by, make_plan_by, read_network_by, read_plan_by, write_network_by, Checked,
+};
 use std::hint::black_box;
 
 /// The networks of a size, and the seed of the inputs.
@@ -77,14 +80,11 @@ fn rows(inputs: &[Input], repeat: usize) {
     // an operation from one slice to another, over a field of the inputs
     macro_rules! convert {
         ($name:expr, $operation:ident, $field:ident, $out:ident, $room:expr) => {
-            convert!($name, $operation, second::$operation, $field, $out, $room)
-        };
-        ($name:expr, $operation:ident, $second:expr, $field:ident, $out:ident, $room:expr) => {
             let room: fn(&Input) -> usize = $room;
             for input in inputs {
                 let room = room(input);
                 let answer = pavuneshil::$operation(&input.$field, &mut $out[..room]);
-                agree(answer, &$out, $second(&input.$field, room));
+                agree(answer, &$out, $operation(&input.$field, room));
             }
             row(
                 $name,
@@ -99,7 +99,7 @@ fn rows(inputs: &[Input], repeat: usize) {
                 },
                 &mut || {
                     for input in (0..repeat).flat_map(|_| inputs) {
-                        black_box($second(black_box(&input.$field), room(input))).ok();
+                        black_box($operation(black_box(&input.$field), room(input))).ok();
                     }
                 },
             );
@@ -113,7 +113,7 @@ fn rows(inputs: &[Input], repeat: usize) {
                 agree_checked(
                     answer,
                     &marks,
-                    second::check_plan(&input.$network, &input.plan, $room),
+                    check_plan_by(&LANDED, &input.$network, &input.plan, $room),
                 );
             }
             row(
@@ -130,7 +130,8 @@ fn rows(inputs: &[Input], repeat: usize) {
                 },
                 &mut || {
                     for input in (0..repeat).flat_map(|_| inputs) {
-                        black_box(second::check_plan(
+                        black_box(check_plan_by(
+                            &LANDED,
                             black_box(&input.$network),
                             black_box(&input.plan),
                             $room,
@@ -140,13 +141,18 @@ fn rows(inputs: &[Input], repeat: usize) {
             );
         };
     }
+    // the second implementation's, by the rules that have landed
+    let read_network = |text: &[u8], room| read_network_by(&LANDED, text, room);
+    let read_plan = |text: &[u8], room| read_plan_by(&LANDED, text, room);
+    let write_network = |list: &[u64], room| write_network_by(&LANDED, list, room);
+    let make_plan = |list: &[u64], room| make_plan_by(&LANDED, list, room);
+    let write_plan = second::write_plan;
     convert!("read_network", read_network, network_text, numbers, |_| {
         PLAN_NUMBERS
     });
     convert!(
         "read_network, 32 remarks of 80 bytes",
         read_network,
-        |text: &[u8], room| second::read_network_by(&Rules::as_of(1), text, room),
         remarked_text,
         numbers,
         |_| PLAN_NUMBERS
@@ -313,7 +319,7 @@ fn desk_row<A, B>(
 
 /// Rows of the desks, with nothing waiting and with four jobs of each desk.
 fn desk_rows(rounds: &[Vec<(u64, u32)>]) {
-    let empty = (Desks::new(), second::Desks::new(&Rules::as_of(10)));
+    let empty = (Desks::new(), second::Desks::new(&LANDED));
     let empty = vec![empty; rounds.len()];
     let mut full = empty.clone();
     for (state, jobs) in full.iter_mut().zip(rounds) {
@@ -354,10 +360,16 @@ fn main() {
         "operation", "ours", "second", "second/ours"
     );
     for (name, hops) in [("sparse via, 4 links", 4), ("dense via, 32 links", 32)] {
-        println!(
-            "-- {COUNT} networks of 64 links, 32 flows, 96 tunnels; 50 steps; {name} a tunnel"
-        );
-        rows(&inputs::largest(COUNT, hops, SEED), 1);
+        for (edition, unit) in [
+            ("edition 1", None),
+            ("edition 3, unit 0", Some(0)),
+            ("edition 3, unit 1", Some(1)),
+        ] {
+            println!(
+                "-- {COUNT} networks of 64 links, 32 flows, 96 tunnels; 50 steps; {name} a tunnel; {edition}"
+            );
+            rows(&inputs::largest(COUNT, hops, unit, SEED), 1);
+        }
     }
     println!("-- the swap");
     rows(&[inputs::swap()], 500);

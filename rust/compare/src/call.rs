@@ -74,9 +74,9 @@ fn named(refusal: Refusal) -> String {
 }
 
 /// An answer with the edition by which its network was judged; by none, the answer itself.
-pub fn by_edition(answer: &str, edition: Option<u64>) -> String {
+pub fn by_edition(answer: &str, edition: Option<&str>) -> String {
     match edition {
-        Some(edition) => format!("{answer}, edition {edition}"),
+        Some(edition) => format!("{answer}, {edition}"),
         None => answer.to_string(),
     }
 }
@@ -122,7 +122,7 @@ fn lend<T: Copy + PartialEq + Debug>(
 fn convert<I: Copy + PartialEq + Debug, O: Copy + PartialEq + Debug>(
     rng: &mut Rng,
     name: &str,
-    edition: Option<u64>,
+    edition: Option<&str>,
     input: &[I],
     make: fn(u64) -> O,
     ours: impl Fn(&[I], &mut [O]) -> Answer,
@@ -234,7 +234,8 @@ pub fn make_plan(rng: &mut Rng) -> Outcome {
 
 pub fn check_plan(rng: &mut Rng) -> Outcome {
     let (network, plan) = inputs::pair(rng);
-    let needed = network.get(5).map_or(0, |&tunnels| tunnels.min(96)) as usize;
+    let tunnels = if network.first() == Some(&3) { 6 } else { 5 };
+    let needed = network.get(tunnels).map_or(0, |&count| count.min(96)) as usize;
     let room = room(rng, Some(needed), needed);
     let (expected, written) = match second::check_plan_by(&LANDED, &network, &plan, room) {
         Checked::Accepted { marks } => (Answer::Done(marks.len()), marks),

@@ -13,19 +13,21 @@ const AMOUNT: u64 = 10_000_000;
 const BYTES: &[u8] = b"0123456789=\nabcdefnetscrahvilowpkug \r#\0\xff";
 
 /// The keys of all texts.
-const KEYS: [&str; 24] = [
+const KEYS: [&str; 26] = [
     "net", "scratch", "overrun", "links", "flows", "tunnels", "cap", "class", "rate", "next",
     "flow", "via", "old", "new", "plan", "parts", "steps", "at", "", "rules", "slack", "switches",
-    "room", "kind",
+    "room", "kind", "unit", "held",
 ];
 
-/// A valid network of any size, of either edition.
+/// A valid network of any size, of any edition.
 pub fn network(rng: &mut Rng) -> Vec<u64> {
     match rng.below(20) {
-        0..=8 => edition_1(rng),
-        // one that says the same in edition 2
-        9..=10 => to_edition(&edition_1(rng), 2),
-        _ => edition_2(rng),
+        0..=4 => edition_1(rng),
+        // one that says the same in a later edition
+        5 => to_edition(&edition_1(rng), 2),
+        6 => to_edition(&edition_1(rng), 3),
+        7..=11 => edition_2(rng),
+        _ => edition_3(rng),
     }
 }
 
@@ -41,37 +43,196 @@ fn edition_1(rng: &mut Rng) -> Vec<u64> {
 /// One of edition 2, in the same sizes. Of its flows that have tunnels some grow, some shrink and
 /// some stay, and now and then one begins or ends: a rate of 0.
 fn edition_2(rng: &mut Rng) -> Vec<u64> {
+    of_edition(rng, 2)
+}
+
+/// One of edition 3, in the same sizes, and with `unit` 0 and 1: half of them with flows that have
+/// several tunnels over the same links. Of some links a crew holds nothing, of some a little, of some
+/// all.
+pub fn edition_3(rng: &mut Rng) -> Vec<u64> {
+    let mut list = match rng.below(50) {
+        0..=1 => bundled(rng, 64, 32, 96),
+        2..=14 => {
+            let (links, flows, tunnels) = (rng.between(1, 8), rng.between(1, 6), 16);
+            bundled(rng, links, flows, tunnels)
+        }
+        15..=25 => tiny_bundled(rng),
+        _ => of_edition(rng, 3),
+    };
+    if rng.percent(30) {
+        list[3] = 1;
+    }
+    if rng.percent(10) {
+        hold_all(rng, &mut list);
+    }
+    list
+}
+
+fn of_edition(rng: &mut Rng, edition: u64) -> Vec<u64> {
     let with_overrun = rng.percent(50);
     match rng.below(50) {
-        0 => maximal_of(rng, 2, 1),
-        1 => to_edition(&no_flows(rng), 2),
-        2..=6 => full_of(rng, 2),
-        7..=13 => keeping_scratch_of(rng, 2, with_overrun),
-        14..=22 => medium_of(rng, 2, 1),
-        _ => tiny_of(rng, 2, 1),
+        0 => maximal_of(rng, edition, 1),
+        1 => to_edition(&no_flows(rng), edition),
+        2..=6 => full_of(rng, edition),
+        7..=13 => keeping_scratch_of(rng, edition, with_overrun),
+        14..=22 => medium_of(rng, edition, 1),
+        _ => tiny_of(rng, edition, 1),
     }
 }
+
+/// A crew holds all of a link, whether it carries traffic or not.
+fn hold_all(rng: &mut Rng, list: &mut [u64]) {
+    let shape = Shape::of(list);
+    let cap = shape.cap(rng.below(shape.links as u64) as usize);
+    list[cap + 1] = list[cap];
+}
+
+/// Up to 3 links, 3 flows and 7 tunnels, of which every choice of flows can be tried.
+pub fn tiny_bundled(rng: &mut Rng) -> Vec<u64> {
+    let (links, flows, tunnels) = (rng.between(1, 3), rng.between(1, 3), rng.between(2, 7));
+    bundled(rng, links, flows, tunnels)
+}
+
+/// A network of edition 3 whose flows have several tunnels over the same links, between which they
+/// shift their amounts, in up to so many tunnels. Most links have just what an even plan of some
+/// number of steps needs by the network's `unit`, or one less, or what it needs by the other `unit`;
+/// now and then one link alone, often the last, and the others have more.
+fn bundled(rng: &mut Rng, links: u64, flows: u64, tunnels: u64) -> Vec<u64> {
+    let top = rng.pick(&[4, 20, 1000, AMOUNT / 100]);
+    let overrun = rng.pick(&[0, 0, 20, 100, 500]);
+    let unit = u64::from(rng.percent(70));
+    let all = u64::MAX >> (64 - links);
+    let mut list = vec![3, rng.between(20, 500), overrun, unit, links, flows, 0];
+    list.resize(list.len() + 2 * links as usize, 0);
+    let mut lines = Vec::new();
+    let classes: &[u64] = rng.pick(&[&[0, 1, 2], &[0, 2], &[0], &[2]]);
+    for flow in 0..flows {
+        let count = rng.between(0, (tunnels / flows + 1).min(tunnels - lines.len() as u64));
+        let rate = if count == 0 { 0 } else { rng.below(top + 1) };
+        let next = match rng.below(4) {
+            _ if count == 0 => 0,
+            0 => rng.below(top + 1),
+            1 => (rate + rng.below(3)).saturating_sub(1).min(top),
+            _ => rate,
+        };
+        list.extend([rng.pick(classes), rate, next]);
+        if count == 0 {
+            continue;
+        }
+        // all of the flow's tunnels cross one link, most of them others too
+        let common = 1 << rng.below(links);
+        let (old, new) = (
+            spread(rng, rate, count as usize),
+            spread(rng, next, count as usize),
+        );
+        for (old, new) in old.into_iter().zip(new) {
+            let via = match rng.below(5) {
+                0 => common,
+                1 => (rng.any() & all).max(1),
+                _ => common | (rng.any() & rng.any() & all),
+            };
+            lines.push([flow, via, old, new]);
+        }
+    }
+    for last in (1..lines.len()).rev() {
+        lines.swap(last, rng.below(last as u64 + 1) as usize);
+    }
+    list[6] = lines.len() as u64;
+    list.extend(lines.concat());
+    let shape = Shape::of(&list);
+    let steps = rng.pick(&[1, 1, 2, 2, 3, 4, 7, 50]);
+    let alone = match rng.below(6) {
+        0 => Some(shape.links - 1),
+        1 => Some(rng.below(links) as usize),
+        _ => None,
+    };
+    for link in 0..shape.links {
+        let of_unit = needed(&list, link, steps, unit == 1);
+        let cap = match rng.below(12) {
+            _ if alone.is_some_and(|alone| alone != link) => 3 * of_unit,
+            0..=6 => of_unit,
+            7 => of_unit.saturating_sub(1),
+            8..=9 => needed(&list, link, steps, unit == 0),
+            10 => of_unit + rng.below(3),
+            _ => rng.below(2 * top + 1),
+        };
+        let cap = cap.min(AMOUNT);
+        let held = match rng.below(6) {
+            0..=1 => 0,
+            2..=3 => rng.below(5),
+            4 => rng.below(top + 1),
+            _ => AMOUNT,
+        };
+        let held = held.min(AMOUNT - cap);
+        let at = shape.cap(link);
+        (list[at], list[at + 1]) = (cap + held, held);
+    }
+    list
+}
+
+/// The least capacity of a link that the even plan of so many steps needs, by choices of flows or of
+/// tunnels.
+fn needed(list: &[u64], link: usize, steps: u64, by_flows: bool) -> u64 {
+    let shape = Shape::of(list);
+    let movers = shape.flows.max(shape.tunnels);
+    let mut most = 0;
+    for step in 1..=steps {
+        let (mut protected, mut all) = (0, 0);
+        let mut sums = vec![[0; 2]; movers];
+        for (t, line) in list[shape.tunnel(0)..].chunks(4).enumerate() {
+            if (line[1] >> link) & 1 == 1 {
+                let mover = if by_flows { line[0] as usize } else { t };
+                for (later, sum) in sums[mover].iter_mut().enumerate() {
+                    let row = step - 1 + later as u64;
+                    *sum += (steps - row) * line[2] + row * line[3];
+                }
+            }
+        }
+        for (mover, sum) in sums.into_iter().enumerate() {
+            let worst = sum[0].max(sum[1]);
+            let flow = match by_flows {
+                true => mover,
+                false if mover < shape.tunnels => list[shape.tunnel(mover)] as usize,
+                false => continue,
+            };
+            all += worst;
+            if flow < shape.flows && list[shape.class(flow)] < 2 {
+                protected += worst;
+            }
+        }
+        let with_overrun = (1000 * all).div_ceil((1000 + list[2]) * steps);
+        most = most.max(protected.div_ceil(steps)).max(with_overrun);
+    }
+    most
+}
+
+/// What an answer is counted by: the edition of the network, and in edition 3 whether its `unit` is 1.
+pub const EDITIONS: [&str; 4] = ["edition 1", "edition 2", "edition 3", "edition 3, unit 1"];
 
 /// The edition that a list is judged by, if there is one.
-pub fn edition_of_list(list: &[u64]) -> Option<u64> {
-    list.first().copied().filter(|&net| is_edition(net))
+pub fn edition_of_list(list: &[u64]) -> Option<&'static str> {
+    edition(list.first().copied(), list.get(3).copied())
 }
 
-/// The edition that a text is judged by, if there is one: what its first line that is no remark says.
-pub fn edition_of_text(text: &[u8]) -> Option<u64> {
-    let first = text
+/// The edition that a text is judged by, if there is one: what its first line that is no remark says,
+/// and its fourth.
+pub fn edition_of_text(text: &[u8]) -> Option<&'static str> {
+    let mut lines = text
         .split_inclusive(|&byte| byte == b'\n')
-        .find(|line| line[0] != b'#')?;
-    match first {
-        [b'n', b'e', b't', b'=', digit @ b'0'..=b'9', b'\n'] => {
-            Some(u64::from(digit - b'0')).filter(|&net| is_edition(net))
-        }
+        .filter(|line| line[0] != b'#');
+    let net = match lines.next()? {
+        [b'n', b'e', b't', b'=', digit @ b'0'..=b'9', b'\n'] => Some(u64::from(digit - b'0')),
+        _ => None,
+    };
+    edition(net, (lines.nth(2) == Some(b"unit=1\n")).then_some(1))
+}
+
+fn edition(net: Option<u64>, unit: Option<u64>) -> Option<&'static str> {
+    match net? {
+        3 if unit == Some(1) => Some(EDITIONS[3]),
+        net @ 1..=3 => Some(EDITIONS[net as usize - 1]),
         _ => None,
     }
-}
-
-fn is_edition(net: u64) -> bool {
-    (1..=LANDED.newest_edition).contains(&net)
 }
 
 /// A valid plan list, for this network or for none.
@@ -153,7 +314,8 @@ pub fn any_network_list(rng: &mut Rng) -> Vec<u64> {
     let list = network(rng);
     match rng.below(20) {
         0..=7 => list,
-        8..=11 => off_rate(rng, list),
+        8..=10 => off_rate(rng, list),
+        11 => off_held(rng, list),
         12..=13 => off_edition(rng, list),
         _ => damaged(rng, &list),
     }
@@ -198,13 +360,37 @@ fn off_rate(rng: &mut Rng, mut list: Vec<u64>) -> Vec<u64> {
     list
 }
 
-/// A network with the `net` of the other edition or of none, the other numbers as they are: a flow
-/// then has a number too many or too few.
+/// A network with the `net` of another edition or of none, the other numbers as they are: there are
+/// then numbers too many or too few.
 fn off_edition(rng: &mut Rng, mut list: Vec<u64>) -> Vec<u64> {
     list[0] = match rng.below(3) {
-        0 => rng.pick(&[0, 3, 4, 10, (1 << 32) + 2, 9_999_999_999, 1 << 63, u64::MAX]),
-        _ => 3 - list[0],
+        0 => rng.pick(&[0, 4, 5, 10, (1 << 32) + 3, 9_999_999_999, 1 << 63, u64::MAX]),
+        _ => 1 + (list[0] + rng.below(2)) % 3,
     };
+    list
+}
+
+/// A network of edition 3 with a `held` above its `cap`, by one or by far, or just not above it, or with
+/// a `unit` that is none. Of another edition, as it is.
+fn off_held(rng: &mut Rng, mut list: Vec<u64>) -> Vec<u64> {
+    let shape = Shape::of(&list);
+    if shape.edition != 3 {
+        return list;
+    }
+    if rng.percent(20) {
+        list[3] = rng.pick(&[2, 3, 10, 1 << 32, (1 << 32) + 1, 1 << 63, u64::MAX]);
+        return list;
+    }
+    let cap = shape.cap(rng.below(shape.links as u64) as usize);
+    match rng.below(8) {
+        0..=2 => list[cap + 1] = list[cap] + 1,
+        3 => list[cap + 1] = list[cap],
+        4 => list[cap + 1] = list[cap] + rng.pick(&[2, 1000, 1 << 32, 1 << 63]),
+        5 => list[cap + 1] = rng.pick(&[AMOUNT, AMOUNT + 1, 9_999_999_999, u64::MAX]),
+        // of the link before it, or after it, all could be held
+        6 => list[cap + 1] = list[shape.cap(rng.below(shape.links as u64) as usize)],
+        _ => list[cap] = list[cap + 1].saturating_sub(1),
+    }
     list
 }
 
@@ -227,6 +413,7 @@ pub fn pair(rng: &mut Rng) -> (Vec<u64>, Vec<u64>) {
         6..=7 => (damaged(rng, &network), damaged(rng, &plan)),
         8..=9 => (off_rate(rng, network), plan),
         10 => (off_edition(rng, network), plan),
+        11 => (off_held(rng, network), plan),
         _ => (network, plan),
     }
 }
@@ -304,7 +491,8 @@ fn random_lines(rng: &mut Rng) -> Vec<u8> {
         text += "=";
         text += &match key {
             "via" => format!("{:016x}", rng.any() >> rng.below(64)),
-            "net" => rng.between(1, 2).to_string(),
+            "net" => rng.between(1, 3).to_string(),
+            "unit" => rng.below(2).to_string(),
             "plan" | "rules" => "1".to_string(),
             _ => (rng.any() >> rng.between(20, 63)).to_string(),
         };
@@ -319,9 +507,11 @@ pub fn network_text(rng: &mut Rng) -> Vec<u8> {
     let shape = Shape::of(&list);
     let plan = any_plan(rng, &list);
     let other = write_plan(&plan, ROOM).expect("a valid plan");
-    // now and then amounts that miss a rate, or another edition: lines that the writer refuses
+    // now and then amounts that miss a rate, more held than there is, or another edition: lines that the
+    // writer refuses
     let text = match rng.below(20) {
-        0..=2 => lines(&off_rate(rng, list), shape),
+        0..=1 => lines(&off_rate(rng, list), shape),
+        2 => lines(&off_held(rng, list), shape),
         3..=4 => lines(&off_edition(rng, list), shape),
         _ => written(&list),
     };
@@ -343,28 +533,30 @@ pub fn written(network: &[u64]) -> Vec<u8> {
 }
 
 /// The lines of a list that has this shape, whatever its numbers are.
-fn lines(list: &[u64], shape: Shape) -> Vec<u8> {
-    let head = ["net", "scratch", "overrun", "links", "flows", "tunnels"];
-    let flow = ["class", "rate", "next"];
-    let tunnel = ["flow", "via", "old", "new"];
-    let mut text = String::new();
-    for (i, number) in list.iter().enumerate() {
-        let key = if i < shape.cap(0) {
-            head[i]
-        } else if i < shape.class(0) {
-            "cap"
-        } else if i < shape.tunnel(0) {
-            let each = shape.class(1) - shape.class(0);
-            flow[(i - shape.class(0)) % each]
-        } else {
-            tunnel[(i - shape.tunnel(0)) % 4]
-        };
-        text += &match key {
-            "via" => format!("{key}={number:016x}\n"),
-            _ => format!("{key}={number}\n"),
-        };
+pub fn lines(list: &[u64], shape: Shape) -> Vec<u8> {
+    let mut keys = vec!["net", "scratch", "overrun"];
+    if shape.edition == 3 {
+        keys.push("unit");
     }
-    text.into_bytes()
+    keys.extend(["links", "flows", "tunnels"]);
+    let link: &[&str] = match shape.edition {
+        3 => &["cap", "held"],
+        _ => &["cap"],
+    };
+    let flow: &[&str] = match shape.edition {
+        1 => &["class", "rate"],
+        _ => &["class", "rate", "next"],
+    };
+    keys.extend(link.repeat(shape.links));
+    keys.extend(flow.repeat(shape.flows));
+    keys.extend(["flow", "via", "old", "new"].repeat(shape.tunnels));
+    assert_eq!(keys.len(), list.len());
+    let lines = keys.into_iter().zip(list);
+    let lines = lines.map(|(key, number)| match key {
+        "via" => format!("{key}={number:016x}\n"),
+        _ => format!("{key}={number}\n"),
+    });
+    lines.collect::<String>().into_bytes()
 }
 
 /// A number for the step bound: an end of a range, beside one, in it, or any.
@@ -553,47 +745,160 @@ mod tests {
     use super::*;
     use second::{check_plan_by, Checked};
 
-    /// Both editions come up, in all sizes; of the flows of edition 2 those that grow, shrink and
+    /// All editions come up, in all sizes; of the flows of editions 2 and 3 those that grow, shrink and
     /// stay, that begin and end, and that have no tunnels.
     #[test]
     fn kinds_of_networks() {
         let mut rng = Rng::new(10);
-        let mut seen = [0; 7];
-        let mut sizes = [0; 2];
-        for _ in 0..2000 {
+        let mut first = 0;
+        let mut seen = [[0; 6]; 3];
+        let mut sizes = [0; 4];
+        for _ in 0..4000 {
             let list = network(&mut rng);
             let shape = Shape::of(&list);
-            assert_eq!(edition_of_list(&list), Some(shape.edition));
-            assert_eq!(edition_of_text(&written(&list)), Some(shape.edition));
-            sizes[list[0] as usize - 1] += u64::from(shape.tunnels == 96);
+            let kind = shape.edition as usize - 1 + usize::from(shape.unit);
+            assert_eq!(edition_of_list(&list), Some(EDITIONS[kind]));
+            assert_eq!(edition_of_text(&written(&list)), Some(EDITIONS[kind]));
+            sizes[kind] += u64::from(shape.tunnels > 60 && shape.links == 64);
             if shape.edition == 1 {
-                seen[0] += 1;
+                first += 1;
                 continue;
             }
+            let seen = &mut seen[kind - 1];
             for f in 0..shape.flows {
                 match (list[shape.rate(f)], list[shape.next(f)]) {
-                    (0, 0) => seen[1] += 1,
-                    (0, _) => seen[2] += 1,
-                    (_, 0) => seen[3] += 1,
-                    (rate, next) if rate < next => seen[4] += 1,
-                    (rate, next) if rate > next => seen[5] += 1,
-                    _ => seen[6] += 1,
+                    (0, 0) => seen[0] += 1,
+                    (0, _) => seen[1] += 1,
+                    (_, 0) => seen[2] += 1,
+                    (rate, next) if rate < next => seen[3] += 1,
+                    (rate, next) if rate > next => seen[4] += 1,
+                    _ => seen[5] += 1,
                 }
             }
         }
-        assert!(seen.iter().all(|&count| count > 100), "{seen:?}");
+        assert!(first > 100);
+        assert!(seen.concat().iter().all(|&count| count > 50), "{seen:?}");
         assert!(sizes.iter().all(|&count| count > 0), "{sizes:?}");
+    }
+
+    /// Of a link nothing is held, a little, most, and all of it, where it carries traffic and where it
+    /// does not; with `unit` 0 and 1.
+    #[test]
+    fn kinds_of_held() {
+        let mut rng = Rng::new(15);
+        let mut seen = [[0; 6]; 2];
+        for _ in 0..4000 {
+            let list = edition_3(&mut rng);
+            let shape = Shape::of(&list);
+            for link in 0..shape.links {
+                let (cap, held) = (list[shape.cap(link)], list[shape.cap(link) + 1]);
+                assert!(held <= cap);
+                let carries = needed(&list, link, 1, shape.unit) > 0;
+                let kind = match (held, cap - held) {
+                    (0, 0) => 0,
+                    (0, _) => 1,
+                    (_, 0) if carries => 2,
+                    (_, 0) => 3,
+                    (_, left) if held < left => 4,
+                    _ => 5,
+                };
+                seen[usize::from(shape.unit)][kind] += 1;
+            }
+        }
+        assert!(seen.concat().iter().all(|&count| count > 50), "{seen:?}");
+    }
+
+    /// With `unit` 1 it is common that several tunnels of a flow cross the same link, and that one
+    /// rises while another falls; and that choices of flows and of tunnels get other verdicts, or other
+    /// marks after the same.
+    #[test]
+    fn flows_and_tunnels_differ() {
+        let mut rng = Rng::new(16);
+        let (mut several, mut against) = (0, 0);
+        let mut verdicts = [0; 4];
+        for _ in 0..2000 {
+            let network = with_unit(&edition_3(&mut rng), 1);
+            let shape = Shape::of(&network);
+            let mut common = [false; 2];
+            for (link, flow) in (0..shape.links).flat_map(|l| (0..shape.flows).map(move |f| (l, f)))
+            {
+                let lines = network[shape.tunnel(0)..].chunks(4);
+                let mine = lines.filter(|line| line[0] == flow as u64 && line[1] >> link & 1 == 1);
+                let mine: Vec<_> = mine.collect();
+                let rises = mine.iter().any(|line| line[2] < line[3]);
+                let falls = mine.iter().any(|line| line[2] > line[3]);
+                common[0] |= mine.len() > 1;
+                common[1] |= rises && falls;
+            }
+            several += u64::from(common[0]);
+            against += u64::from(common[1]);
+            let plan = any_plan(&mut rng, &network);
+            let by_flows = check_plan_by(&LANDED, &network, &plan, ROOM);
+            let by_tunnels = check_plan_by(&LANDED, &with_unit(&network, 0), &plan, ROOM);
+            verdicts[match (by_flows, by_tunnels) {
+                (Checked::Accepted { .. }, Checked::Accepted { .. }) => 0,
+                (Checked::Accepted { .. }, _) => 1,
+                (one, other) if one == other => 2,
+                _ => 3,
+            }] += 1;
+        }
+        assert!(several > 1000 && against > 800, "{several} {against}");
+        assert!(verdicts.iter().all(|&count| count > 100), "{verdicts:?}");
+    }
+
+    /// A link has just what the even plan needs: one less, and the plan is refused. By flows and by
+    /// tunnels.
+    #[test]
+    fn just_what_is_needed() {
+        let mut rng = Rng::new(17);
+        let mut seen = 0;
+        for i in 0..1000 {
+            let mut list = with_unit(&tiny_bundled(&mut rng), i % 2);
+            let shape = Shape::of(&list);
+            let steps = rng.between(1, 6);
+            for link in 0..shape.links {
+                list[shape.cap(link)] = needed(&list, link, steps, shape.unit);
+                list[shape.cap(link) + 1] = 0;
+            }
+            let plan = second::even_plan_by(&LANDED, &list, steps);
+            let passes = |list: &[u64]| {
+                let checked = check_plan_by(&LANDED, list, &plan, ROOM);
+                matches!(checked, Checked::Accepted { .. })
+            };
+            assert!(passes(&list), "{list:?}");
+            for cap in (0..shape.links).map(|link| shape.cap(link)) {
+                if list[cap] > 0 {
+                    seen += 1;
+                    let mut less = list.clone();
+                    less[cap] -= 1;
+                    assert!(!passes(&less), "{less:?}");
+                    // and so if a crew holds it
+                    let mut held = list.clone();
+                    held[cap + 1] = 1;
+                    assert!(!passes(&held), "{held:?}");
+                }
+            }
+        }
+        assert!(seen > 500);
     }
 
     /// What tells the edition of a text, and what does not.
     #[test]
     fn editions_of_texts() {
         for (text, edition) in [
-            (&b"net=1\n"[..], Some(1)),
-            (b"net=2\n", Some(2)),
-            (b"# net=1\n#\nnet=2\nscratch", Some(2)),
+            (&b"net=1\n"[..], Some("edition 1")),
+            (b"net=2\n", Some("edition 2")),
+            (b"# net=1\n#\nnet=2\nscratch", Some("edition 2")),
+            (b"net=3\n", Some("edition 3")),
+            (b"net=3\nscratch=20\noverrun=0\nunit=0\n", Some("edition 3")),
+            (b"net=3\nscratch=20\noverrun=0\nunit=1", Some("edition 3")),
+            (
+                b"net=3\n#\nscratch=20\noverrun=0\n#\nunit=1\n",
+                Some("edition 3, unit 1"),
+            ),
+            (b"net=2\nscratch=20\noverrun=0\nunit=1\n", Some("edition 2")),
             (b"net=0\n", None),
-            (b"net=3\n", None),
+            (b"net=4\n", None),
             (b"net=12\n", None),
             (b"net=2", None),
             (b"#\n", None),
@@ -603,6 +908,7 @@ mod tests {
         ] {
             assert_eq!(edition_of_text(text), edition);
         }
+        assert_eq!(LANDED.newest_edition, 3);
     }
 
     /// The lines are those of the writer.
@@ -621,65 +927,110 @@ mod tests {
         refused.map(|r| (r.number, r.place, r.second))
     }
 
-    /// Of both editions old and new amounts miss by one; in edition 2 also by `rate` alone, by `next`
-    /// alone, and with both changed over.
+    /// Of all editions old and new amounts miss by one; in editions 2 and 3 also by `rate` alone, by
+    /// `next` alone, and with both changed over.
     #[test]
     fn near_misses_of_networks() {
         let mut rng = Rng::new(12);
-        let mut seen = [0; 7];
-        for _ in 0..4000 {
+        let mut seen = [[0; 5]; 3];
+        for _ in 0..6000 {
             let list = network(&mut rng);
             let shape = Shape::of(&list);
             let off = off_rate(&mut rng, list.clone());
             let changed: Vec<usize> = (0..list.len()).filter(|&i| list[i] != off[i]).collect();
             let is_rate = |at| (0..shape.flows).any(|f| shape.rate(f) == at);
             let by_one = changed.iter().all(|&at| list[at].abs_diff(off[at]) == 1);
+            let seen = &mut seen[shape.edition as usize - 1];
             match (shape.edition, refusal(&off), &changed[..]) {
                 (1, Some((4, _, 0)), _) if by_one => seen[0] += 1,
                 (1, Some((4, _, 1)), _) if by_one => seen[1] += 1,
-                (2, Some((4, _, 0)), &[at]) if by_one && is_rate(at) => seen[2] += 1,
-                (2, Some((4, _, 0)), &[_]) if by_one => seen[3] += 1,
-                (2, Some((4, _, 1)), &[at]) if by_one && at < shape.tunnel(0) => seen[4] += 1,
-                (2, Some((4, _, 1)), &[_]) if by_one => seen[5] += 1,
-                (2, Some((4, _, 0)), &[_, _]) => seen[6] += 1,
+                (_, Some((4, _, 0)), &[at]) if by_one && is_rate(at) => seen[0] += 1,
+                (_, Some((4, _, 0)), &[_]) if by_one => seen[1] += 1,
+                (_, Some((4, _, 1)), &[at]) if by_one && at < shape.tunnel(0) => seen[2] += 1,
+                (_, Some((4, _, 1)), &[_]) if by_one => seen[3] += 1,
+                (_, Some((4, _, 0)), &[_, _]) => seen[4] += 1,
                 _ => {}
+            }
+        }
+        let counts = [&seen[0][..2], &seen[1], &seen[2]].concat();
+        assert!(counts.iter().all(|&count| count > 30), "{seen:?}");
+    }
+
+    /// In edition 3 `held` is above its `cap` by one and by far, and just not above it; and `unit` is none.
+    #[test]
+    fn near_misses_of_held() {
+        let mut rng = Rng::new(18);
+        let mut seen = [0; 4];
+        for _ in 0..3000 {
+            let list = network(&mut rng);
+            let shape = Shape::of(&list);
+            let off = off_held(&mut rng, list.clone());
+            if shape.edition < 3 {
+                assert_eq!(off, list);
+                continue;
+            }
+            let links = (0..shape.links).map(|link| shape.cap(link));
+            let above = links.clone().find(|&cap| off[cap] < off[cap + 1]);
+            let refused = |line: usize| assert_eq!(refusal(&off), Some((2, line as u64 + 1, 0)));
+            if off[3] > 1 {
+                seen[0] += 1;
+                refused(3);
+            } else if let Some(cap) = above {
+                seen[if off[cap] + 1 == off[cap + 1] { 1 } else { 2 }] += 1;
+                refused(cap + 1);
+            } else {
+                seen[3] += u64::from(off != list);
+                assert_eq!(refusal(&off), None);
             }
         }
         assert!(seen.iter().all(|&count| count > 30), "{seen:?}");
     }
 
-    /// Lists with two numbers a flow in edition 2 and three in edition 1, and with no edition.
+    /// Lists with the numbers of one edition and the `net` of another, and with no edition.
     #[test]
     fn other_editions() {
         let mut rng = Rng::new(13);
-        let mut seen = [0; 4];
-        for _ in 0..1000 {
+        let mut seen = [[0; 4]; 3];
+        let mut none = 0;
+        for _ in 0..2000 {
             let list = network(&mut rng);
             let off = off_edition(&mut rng, list.clone());
             assert_eq!(off[1..], list[1..]);
             let refusal = refusal(&off);
-            match (list[0], off[0]) {
-                (1, 2) => seen[0] += 1,
-                (2, 1) => seen[1] += 1,
-                (_, 0 | 3) => seen[2] += 1,
-                _ => seen[3] += 1,
+            match off[0] {
+                net @ 1..=3 => {
+                    assert_ne!(net, list[0]);
+                    seen[list[0] as usize - 1][net as usize] += 1;
+                }
+                0 | 4 => seen[list[0] as usize - 1][0] += 1,
+                _ => none += 1,
             }
             if edition_of_list(&off).is_none() {
                 assert_eq!(refusal, Some((2, 1, 0)));
-            } else if list[4] > 0 {
+            } else if off[0] < 3 && list[0] < 3 && list[4] > 0 {
                 assert!(matches!(refusal, Some((2 | 3, 8.., 0))), "{off:?}");
+            } else if off[0] == 3 {
+                // `links` is taken for `unit`
+                assert!(list[3] == 1 || refusal == Some((2, 4, 0)), "{off:?}");
+            } else if list[0] == 3 && list[3] == 0 {
+                // `unit` is taken for `links`
+                assert_eq!(refusal, Some((2, 4, 0)), "{off:?}");
             }
         }
-        assert!(seen.iter().all(|&count| count > 30), "{seen:?}");
+        for (edition, counts) in seen.iter().enumerate() {
+            let there = (0..4).filter(|&other| other != edition + 1);
+            assert!(there.clone().all(|other| counts[other] > 30), "{seen:?}");
+        }
+        assert!(none > 30);
     }
 
-    /// Sums in a listed row at either end of the two rates are taken, and beside it meet 6; of both
-    /// editions, and in edition 2 where the ends are apart.
+    /// Sums in a listed row at either end of the two rates are taken, and beside it meet 6; of all
+    /// editions, and in editions 2 and 3 where the ends are apart.
     #[test]
     fn rows_at_the_ends() {
         let mut rng = Rng::new(14);
-        let mut seen = [[0; 4]; 3];
-        for _ in 0..6000 {
+        let mut seen = [[0; 4]; 5];
+        for _ in 0..10_000 {
             let network = network(&mut rng);
             let shape = Shape::of(&network);
             let plan = at_an_end(&mut rng, &network);
@@ -695,8 +1046,10 @@ mod tests {
                 let (least, most) = (parts * rate.min(next), parts * rate.max(next));
                 let kind = match shape.edition {
                     1 => 0,
-                    _ if rate == next => 1,
-                    _ => 2,
+                    2 if rate == next => 1,
+                    2 => 2,
+                    _ if rate == next => 3,
+                    _ => 4,
                 };
                 if sum + 1 == least {
                     seen[kind][0] += 1;

@@ -2,7 +2,7 @@
 
 use crate::call::by_edition;
 use crate::{call, choices, desks, Outcome};
-use compare::LANDED;
+use compare::inputs::EDITIONS;
 use second::gen::Rng;
 use std::collections::{BTreeMap, BTreeSet};
 
@@ -16,7 +16,7 @@ pub struct Kind {
     /// By the papers the answers that the operation can give, all of them and no others. A refusal
     /// has its number and, where it has several causes, which of them.
     answers: &'static [&'static str],
-    /// Those that it gives of networks of every edition.
+    /// Those that it gives of networks of every edition, and of those of edition 3 also with `unit` 1.
     of_each_edition: &'static [&'static str],
 }
 
@@ -242,7 +242,7 @@ impl Kind {
     /// Its answers, those of each edition that has landed among them.
     fn all_answers(&self) -> Vec<String> {
         let mut answers: Vec<String> = self.answers.iter().map(|a| a.to_string()).collect();
-        for edition in 1..=LANDED.newest_edition {
+        for edition in EDITIONS {
             let of_it = self.of_each_edition.iter();
             answers.extend(of_it.map(|answer| by_edition(answer, Some(edition))));
         }
@@ -319,17 +319,19 @@ mod tests {
         }
     }
 
-    /// An answer that networks of one edition alone reach is missing for the other.
+    /// An answer that networks of one edition do not reach, or those with `unit` 1, is missing.
     #[test]
     fn each_edition_reaches_its_answers() {
         let kind = &KINDS[kind_of(0)];
-        assert!(kind.all_answers().contains(&"done, edition 2".to_string()));
         let answers = kind.all_answers();
-        let of_one = |answer: &&str| !answer.ends_with("edition 2");
-        let all = answers.iter().map(|answer| answer.as_str());
-        let faults = kind.faults(&tally(&all.filter(of_one).collect::<Vec<_>>(), 0), true);
-        assert_eq!(faults.len(), kind.of_each_edition.len());
-        assert!(faults[0].contains("done, edition 2"));
+        for edition in EDITIONS {
+            assert!(answers.contains(&format!("done, {edition}")));
+            let others = answers.iter().map(|answer| answer.as_str());
+            let others: Vec<_> = others.filter(|answer| !answer.ends_with(edition)).collect();
+            let faults = kind.faults(&tally(&others, 0), true);
+            assert_eq!(faults.len(), kind.of_each_edition.len());
+            assert!(faults[0].contains(&format!("done, {edition}")));
+        }
     }
 
     /// Tallies of two threads are added up.

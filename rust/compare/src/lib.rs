@@ -7,10 +7,10 @@ use second::Rules;
 pub mod inputs;
 
 /// The rules that the second implementation goes by: what has landed and changes an answer to the
-/// same call, remarks (i), edition 2 (v), turns (ix) and a desk's own numbers (x).
+/// same call, remarks (i), editions 2 (v) and 3 (vii), turns (ix) and a desk's own numbers (x).
 pub const LANDED: Rules = Rules {
     remarks: true,
-    newest_edition: 2,
+    newest_edition: 3,
     turns: true,
     own_numbers: true,
 };

@@ -1,102 +1,15 @@
 //! Rates that change on the way, edition 2: what the paper says of small cases, with the answers
 //! written down; and edition 1, read as if `next` equalled `rate`. Every answer is held against the
-//! second implementation's too.
+//! second implementation's too. Edition 3 is in `units.rs`.
 
+mod common;
+
+use common::{accepted, check, plan, read, refused, refused_at, sample_lists, write};
 use compare::{inputs, LANDED};
-use pavuneshil::{Answer, Refusal, StepBound, MARKS, NETWORK_NUMBERS, PLAN_NUMBERS, TEXT_BYTES};
+use pavuneshil::{Answer, StepBound, NETWORK_NUMBERS, TEXT_BYTES};
 use second::gen::{any_plan, broken_plan, to_edition, Rng};
-use second::Checked;
-use std::path::Path;
 
 const AMOUNT: u64 = 10_000_000;
-
-fn refused(number: u64, place: u64, second: u64) -> Refusal {
-    Refusal {
-        number,
-        place,
-        second,
-    }
-}
-
-fn told(refusal: second::Refusal) -> Refusal {
-    refused(refusal.number, refusal.place, refusal.second)
-}
-
-/// An answer as a result, which the second implementation must give too.
-fn same<T: Clone + PartialEq + std::fmt::Debug>(
-    answer: Answer,
-    out: &[T],
-    second: Result<Vec<T>, second::Refusal>,
-) -> Result<Vec<T>, Refusal> {
-    let ours = match answer {
-        Answer::Done(length) | Answer::Plan(length) => Ok(out[..length].to_vec()),
-        Answer::Refused(refusal) => Err(refusal),
-    };
-    assert_eq!(ours, second.map_err(told));
-    ours
-}
-
-fn read(text: &[u8]) -> Result<Vec<u64>, Refusal> {
-    let mut out = [0; NETWORK_NUMBERS];
-    let answer = pavuneshil::read_network(text, &mut out);
-    assert!(!matches!(answer, Answer::Plan(_)));
-    same(
-        answer,
-        &out,
-        second::read_network_by(&LANDED, text, NETWORK_NUMBERS),
-    )
-}
-
-fn write(list: &[u64]) -> Result<Vec<u8>, Refusal> {
-    let mut out = vec![0; TEXT_BYTES];
-    let answer = pavuneshil::write_network(list, &mut out);
-    assert!(!matches!(answer, Answer::Plan(_)));
-    same(
-        answer,
-        &out,
-        second::write_network_by(&LANDED, list, TEXT_BYTES),
-    )
-}
-
-fn plan(network: &[u64]) -> Result<Vec<u64>, Refusal> {
-    let mut out = [0; PLAN_NUMBERS];
-    let answer = pavuneshil::make_plan(network, &mut out);
-    assert!(!matches!(answer, Answer::Done(_)));
-    same(
-        answer,
-        &out,
-        second::make_plan_by(&LANDED, network, PLAN_NUMBERS),
-    )
-}
-
-/// The checker's verdict: none, or a refusal; and the marks that it put.
-fn check(network: &[u64], plan: &[u64]) -> (Option<Refusal>, Vec<u8>) {
-    let mut lent = [7; MARKS];
-    let verdict = match pavuneshil::check_plan(network, plan, &mut lent) {
-        Answer::Done(_) => None,
-        Answer::Refused(refusal) => Some(refusal),
-        Answer::Plan(_) => panic!("no plan is made"),
-    };
-    let theirs = match second::check_plan_by(&LANDED, network, plan, MARKS) {
-        Checked::Accepted { marks } => (None, marks),
-        Checked::Refused { refusal, marks } => (Some(told(refusal)), marks.unwrap_or_default()),
-    };
-    let put = lent.iter().take_while(|&&mark| mark != 7).count();
-    let ours = (verdict, lent[..put].to_vec());
-    assert_eq!(ours, theirs, "{network:?} {plan:?}");
-    assert!(lent[put..].iter().all(|&mark| mark == 7));
-    ours
-}
-
-/// A verdict that puts no marks.
-fn refused_at(number: u64, place: u64, second: u64) -> (Option<Refusal>, Vec<u8>) {
-    (Some(refused(number, place, second)), Vec::new())
-}
-
-/// An accepted plan: a 0 for each tunnel.
-fn accepted(tunnels: usize) -> (Option<Refusal>, Vec<u8>) {
-    (None, vec![0; tunnels])
-}
 
 /// One link, over which flow 0 grows from 10 to 20 while flow 1 shrinks from 20 to 10.
 fn exchange(cap: u64, class: u64, overrun: u64) -> Vec<u64> {
@@ -545,23 +458,24 @@ fn every_value_of_next() {
     assert_eq!(read(twice.as_bytes()), Err(refused(1, 11, 0)));
 }
 
-/// `net` other than 1 and 2: 2 at line 1, before all else.
+/// `net` other than 1, 2 and 3: 2 at line 1, before all else.
 #[test]
 fn no_other_edition() {
     let refusal = refused(2, 1, 0);
     let good = exchange(35, 0, 0);
     let of_edition_3 = vec![3, 250, 0, 0, 1, 0, 0, 35, 0];
-    for net in [0, 3, 4, 10, 255, 9_999_999_999u64] {
+    for net in [0, 4, 5, 10, 255, 9_999_999_999u64] {
         let text = EXCHANGE.replace("net=2", &format!("net={net}"));
         assert_eq!(read(text.as_bytes()), Err(refusal), "{net}");
         assert_eq!(read(format!("net={net}\n").as_bytes()), Err(refusal));
     }
     for net in [
         0,
-        3,
         4,
+        5,
         1 << 32,
         (1 << 32) + 2,
+        (1 << 32) + 3,
         10_000_000_000,
         1 << 63,
         u64::MAX,
@@ -583,7 +497,7 @@ fn no_other_edition() {
     assert_eq!(read(b"net=2\n"), Err(refused(3, 2, 0)));
     assert_eq!(plan(&[2]), Err(refused(3, 2, 0)));
     // a remark before it counts as a line
-    assert_eq!(read(b"# why\nnet=3\n"), Err(refused(2, 2, 0)));
+    assert_eq!(read(b"# why\nnet=4\n"), Err(refused(2, 2, 0)));
 }
 
 /// A flow has two lines in edition 1 and three in edition 2.
@@ -665,7 +579,8 @@ fn every_truncation() {
     }
 }
 
-/// The largest network: its list has 550 numbers, and no list of edition 1 has more than 518.
+/// The largest network: its list has 550 numbers, and no list of edition 1 has more than 518; one of
+/// edition 3 may have more.
 #[test]
 fn the_longest_list() {
     let mut list = vec![2, 500, 500, 64, 32, 96];
@@ -677,7 +592,7 @@ fn the_longest_list() {
         list.extend([flow, u64::MAX, 0, 0]);
     }
     assert_eq!(list.len(), 550);
-    assert_eq!(NETWORK_NUMBERS, 550);
+    assert_eq!(NETWORK_NUMBERS, 550 + 1 + 64);
     let text = write(&list).expect("a text");
     assert_eq!(read(&text), Ok(list.clone()));
     // with its remarks too
@@ -800,23 +715,10 @@ fn a_flow_that_stays_beside_one_that_grows() {
 
 // ------------------------------------------------------------------ the sample
 
-fn sample(name: &str) -> Vec<u8> {
-    let path = format!("../../samples/broker/{name}.txt");
-    std::fs::read(Path::new(env!("CARGO_MANIFEST_DIR")).join(path)).expect("a sample")
-}
-
 /// As its description says: rates of 4, 6, 8 and 10 Gbit/s, and of 9, 8, 7 and 6, in three steps.
 #[test]
 fn of_the_sample() {
-    let text = sample("network");
-    let network = read(&text).expect("a good text");
-    let mut plain = Vec::new();
-    for line in text.split_inclusive(|&byte| byte == b'\n') {
-        if line[0] != b'#' {
-            plain.extend(line);
-        }
-    }
-    assert_eq!(write(&network), Ok(plain));
+    let (network, stored) = sample_lists("broker");
     let made = plan(&network).expect("a plan");
     assert_eq!(
         made,
@@ -832,10 +734,7 @@ fn of_the_sample() {
         assert_eq!(sums, rates.map(|rate| 3 * rate));
     }
     assert_eq!(check(&network, &made), accepted(5));
-    let mut stored = [0; PLAN_NUMBERS];
-    let answer = pavuneshil::read_plan(&sample("plan"), &mut stored);
-    assert_eq!(answer, Answer::Done(made.len()));
-    assert_eq!(stored[..made.len()], made);
+    assert_eq!(stored, made);
     // in two steps link 0 would carry 23,000 halves, of 22,400
     let two = [1, 2, 2, 5, 11_000, 3000, 9000, 6000, 4000];
     let marks = vec![1, 0, 0, 0, 0];

@@ -12,8 +12,11 @@
 //! rules texts have none.
 //!
 //! A network's first number is its edition. In edition 1 a flow has a class and a rate; in edition 2
-//! also the rate that it has after the move, `next`. Edition 1 is read as if `next` equalled `rate`,
-//! and its list has no number for it.
+//! also the rate that it has after the move, `next`. In edition 3, beside that, `unit` follows
+//! `overrun`, and each `cap` is followed by `held`, what is lent to a repair crew: a link has
+//! `cap` - `held`. With `unit` 1 the switches change all tunnels of a flow at once, so that choices are
+//! of flows; with `unit` 0 each tunnel for itself. Edition 1 is read as if `next` equalled `rate`, and
+//! editions 1 and 2 as if `unit` and `held` were 0; their lists have no numbers for these.
 //!
 //! ```
 //! use pavuneshil::{make_plan, Answer};
@@ -30,8 +33,8 @@ mod desks;
 
 pub use desks::{Accepted, Desks, Handed};
 
-/// No valid network's list, of either edition, has more numbers.
-pub const NETWORK_NUMBERS: usize = 6 + 64 + 3 * 32 + 4 * 96;
+/// No valid network's list, of any edition, has more numbers.
+pub const NETWORK_NUMBERS: usize = 7 + 2 * 64 + 3 * 32 + 4 * 96;
 
 /// No valid plan's list has more numbers.
 pub const PLAN_NUMBERS: usize = 4 + 49 * 96;
@@ -268,10 +271,25 @@ pub fn make_plan(network: &[u64], out: &mut [u64]) -> Answer {
     convert!(pavuneshil_make_plan, network, out)
 }
 
-/// Checks anybody's plan against a network. Done: no choice of tunnels in any step overloads a
-/// link, and the marks, one for each tunnel, are 0. Refusals 2 to 8 and 10; after 7 and 8 the
-/// marked tunnels, showing the later row while all others show the earlier, overload the link
-/// named.
+/// Checks anybody's plan against a network. Done: no choice of tunnels, or with `unit` 1 of flows, in
+/// any step overloads a link, and the marks, one for each tunnel, are 0. Refusals 2 to 8 and 10;
+/// after 7 and 8 the marked tunnels, with `unit` 1 the flows of the marked tunnels, showing the later
+/// row while all others show the earlier, overload the link named. A mark is 1 where a tunnel crosses
+/// that link and its amount rises in that step, with `unit` 1 the sum of its flow's amounts across
+/// that link.
+///
+/// ```
+/// use pavuneshil::{check_plan, Answer};
+/// // a flow of 10 moves from a tunnel over link 0 to one over links 0 and 1, of 15 each, at once
+/// let mut network = [3, 333, 0, 0, 2, 1, 2, 15, 0, 15, 0, 0, 10, 10, 0, 1, 10, 0, 0, 3, 0, 10];
+/// let mut marks = [0; 2];
+/// let answer = check_plan(&network, &[1, 1, 1, 2], &mut marks);
+/// assert!(matches!(answer, Answer::Refused(refusal) if refusal.number == 7));
+/// assert_eq!(marks, [0, 1]);
+/// // with unit 1 both tunnels change at once
+/// network[3] = 1;
+/// assert_eq!(check_plan(&network, &[1, 1, 1, 2], &mut marks), Answer::Done(2));
+/// ```
 pub fn check_plan(network: &[u64], plan: &[u64], marks: &mut [u8]) -> Answer {
     let mut four = UNWRITTEN;
     // Sound: as in `convert`.

@@ -84,11 +84,55 @@ fn rates_that_change() {
         assert_eq!(check_plan(network, &plan, &mut marks), refusal);
     }
     assert_eq!(marks, [7, 7]);
-    // flow 1 misses its next rate, and there is no edition 3
+    // flow 1 misses its next rate, and there is no edition 4
     network[12] = 11;
     assert_eq!(make_plan(network, &mut plan), refused(4, 1, 1));
-    network[0] = 3;
+    network[0] = 4;
     assert_eq!(make_plan(network, &mut plan), refused(2, 1, 0));
+}
+
+/// Edition 3: a flow moves from a tunnel over link 0 to one over links 0 and 1; a crew holds 5 of the
+/// 20 of link 0.
+#[test]
+fn whole_flows_and_held_capacity() {
+    let text = b"net=3\nscratch=333\noverrun=0\nunit=1\nlinks=2\nflows=1\ntunnels=2\n\
+        cap=20\nheld=5\ncap=15\nheld=0\n\
+        class=0\nrate=10\nnext=10\n\
+        flow=0\nvia=0000000000000001\nold=10\nnew=0\n\
+        flow=0\nvia=0000000000000003\nold=0\nnew=10\n";
+    let mut network = [0; NETWORK_NUMBERS];
+    assert_eq!(read_network(text, &mut network), Answer::Done(22));
+    let network = &mut network[..22];
+    let list = [
+        3, 333, 0, 1, 2, 1, 2, 20, 5, 15, 0, 0, 10, 10, 0, 1, 10, 0, 0, 3, 0, 10,
+    ];
+    assert_eq!(network, list);
+    let mut printed = [0; TEXT_BYTES];
+    assert_eq!(
+        write_network(network, &mut printed),
+        Answer::Done(text.len())
+    );
+    assert_eq!(printed[..text.len()], text[..]);
+    let mut plan = [0; PLAN_NUMBERS];
+    assert_eq!(make_plan(network, &mut plan), Answer::Plan(4));
+    assert_eq!(plan[..4], [1, 1, 1, 2]);
+    let mut marks = [7; 3];
+    let at_once = [1, 1, 1, 2];
+    assert_eq!(check_plan(network, &at_once, &mut marks), Answer::Done(2));
+    assert_eq!(marks, [0, 0, 7]);
+    // each tunnel for itself: 20 on link 0, of which a crew holds 5
+    network[3] = 0;
+    assert_eq!(make_plan(network, &mut plan), Answer::Plan(6));
+    assert_eq!(plan[..6], [1, 2, 2, 2, 10, 10]);
+    assert_eq!(check_plan(network, &at_once, &mut marks), refused(7, 1, 0));
+    assert_eq!(marks, [0, 1, 7]);
+    // all that link 0 has, and more than it has
+    network[8] = 20;
+    assert_eq!(make_plan(network, &mut plan), refused(9, 1, 0));
+    network[8] = 21;
+    assert_eq!(make_plan(network, &mut plan), refused(2, 9, 0));
+    network[3] = 2;
+    assert_eq!(make_plan(network, &mut plan), refused(2, 4, 0));
 }
 
 #[test]

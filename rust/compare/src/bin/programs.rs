@@ -24,9 +24,9 @@ use std::process::{Command, Output, Stdio};
 const INPUTS: u64 = 150;
 const SEED: u64 = 20_131_009;
 
-/// What the second implementation's programs are told: the fifth request, edition 2, has landed, and
+/// What the second implementation's programs are told: the seventh request, edition 3, has landed, and
 /// none after it that changes what the programs print.
-const REQUESTS: &str = "5";
+const REQUESTS: &str = "7";
 
 fn argument(name: &str) -> Option<&str> {
     name.starts_with("second-").then_some(REQUESTS)
