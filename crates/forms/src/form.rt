@@ -1,9 +1,10 @@
 // The forms: which line stands at a position, given the numbers before it.
 ghost use mathlib.Core.Path.{_≡_};
-ghost use lib.ListN.{getD};
-ghost use Prim.Native.Nat.{_≤_};
+ghost use lib.Dec.{ltb};
+ghost use lib.ListN.{length, getD};
+ghost use Prim.Native.Nat.{_≤_, _<_};
 ghost use Rattle.model.specs.Limits.{mostSwitches, mostTunnels};
-ghost use Rattle.lists.specs.Lists.{linkAt};
+ghost use Rattle.lists.specs.Lists.{at, linkAt};
 ghost use Rattle.lists.specs.Good.{Limited};
 ghost use Rattle.forms.specs.Keys.{prefixOf};
 ghost use Rattle.forms.specs.Slots.{keyBytes};
@@ -229,19 +230,36 @@ fn network_body(sizes: Network, before: u64, i: usize) -> Field
     }
 }
 
-// What stands after some numbers of a network, each of which its own field allows.
-pub fn network_field(done: &[u64]) -> Field
-    requires { ⌜ Sound Form.Network (now done) ⌝ }
+// Is what stands after some numbers of a network a line of its head? This and the two functions below are apart, each of them small
+// enough for the compiler to put it into the loops that ask for line after line.
+pub fn in_network_head(done: &[u64]) -> bool
+    ensures { λ r. ⌜ r ≡ ltb (length (now (done .entry))) (length (networkLines (at (now (done .entry)) 0))) ⌝ }
+{
+    let i = done.len();
+    if i == 0 {
+        return true;
+    }
+    i < Network::head(done[0])
+}
+
+// The line of the head after some numbers of a network.
+pub fn network_head_field(done: &[u64]) -> Field
+    requires { ⌜ length (now done) < length (networkLines (at (now done) 0)) ⌝ }
     ensures { λ r. ⌜ r ≡ fieldOf Form.Network (now (done .entry)) ⌝ }
 {
     let i = done.len();
     if i == 0 {
         return network_head(0, i);
     }
-    let edition = done[0];
-    if i < Network::head(edition) {
-        return network_head(edition, i);
-    }
+    network_head(done[0], i)
+}
+
+// What stands after a network's head and some more numbers, each of which its own field allows.
+pub fn network_body_field(done: &[u64]) -> Field
+    requires { ⌜ Sound Form.Network (now done) × (length (networkLines (at (now done) 0)) ≤ length (now done)) ⌝ }
+    ensures { λ r. ⌜ r ≡ fieldOf Form.Network (now (done .entry)) ⌝ }
+{
+    let i = done.len();
     network_body(Network::of(done), done[i - 1], i)
 }
 

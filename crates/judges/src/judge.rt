@@ -12,6 +12,7 @@ use forms::form;
 use forms::form::Field;
 use forms::form::Form;
 use lists::Answer;
+use lists::Network;
 
 // The refusal of the number at i, whose line is i + 1.
 fn refusal(number: u64, i: usize, form: Form) -> Answer
@@ -31,7 +32,13 @@ fn field_after(form: Form, done: &[u64]) -> Field
     ensures { λ r. ⌜ r ≡ fieldOf form (now (done .entry)) ⌝ }
 {
     match form {
-        Form::Network => form::network_field(done),
+        Form::Network => {
+            if form::in_network_head(done) {
+                form::network_head_field(done)
+            } else {
+                form::network_body_field(done)
+            }
+        }
         Form::Plan => form::plan_field(done),
         Form::Rules => form::rules_field(done),
     }
@@ -66,7 +73,7 @@ pub fn judge_network(list: &[u64]) -> Answer
     ensures { λ r. ⌜ r ≡ done (judgeNetwork (now (list .entry))) ⌝ }
 {
     if ranges::is_network(list) {
-        sums::add_up(list)
+        sums::add_up(list, Network::of(list))
     } else {
         judge_numbers(Form::Network, list)
     }

@@ -46,37 +46,35 @@ fn first_missed(list: &[u64], sizes: Network, last: usize, old: &[u64], new: &[u
     requires { ⌜ Gathered (networkOf (now list)) (networkOf (now list) .new) (networkOf (now list) .tunnels) (now new) ⌝ }
     ensures { λ r. ⌜ r ≡ done (addUp Form.Network (now (list .entry))) ⌝ }
 {
+    let mut second: u64 = 0;
     let mut f: usize = 0;
     while f < sizes.flows {
         let at = sizes.flow_at(f);
-        let rate = list[at + Network::RATE];
-        let next = list[at + last];
-        if old[f] != rate {
-            return Answer::Refused {
-                number: 4,
-                place: f as u64,
-                second: 0,
-            };
+        if old[f] != list[at + Network::RATE] {
+            break;
         }
-        if new[f] != next {
-            return Answer::Refused {
-                number: 4,
-                place: f as u64,
-                second: 1,
-            };
+        if new[f] != list[at + last] {
+            second = 1;
+            break;
         }
         f += 1;
     }
-    Answer::Done(list.len())
+    if f == sizes.flows {
+        return Answer::Done(list.len());
+    }
+    Answer::Refused {
+        number: 4,
+        place: f as u64,
+        second,
+    }
 }
 
-// Judges the sums of a network's list whose numbers are judged already. The edition is looked at once, here: so the function stays small
-// enough for the compiler to put it into its callers.
-pub fn add_up(list: &[u64]) -> Answer
-    requires { ⌜ NetworkRanges (now list) ⌝ }
+// Judges the sums of a network's list whose numbers are judged already. The sizes are handed over, and the edition is looked at once,
+// here: so the function stays small enough for the compiler to put it into its callers.
+pub fn add_up(list: &[u64], sizes: Network) -> Answer
+    requires { ⌜ NetworkRanges (now list) × (sizes ≡ networkSizes (now list)) ⌝ }
     ensures { λ r. ⌜ r ≡ done (addUp Form.Network (now (list .entry))) ⌝ }
 {
-    let sizes = Network::of(list);
     let mut old = [0u64; FLOWS];
     let mut new = [0u64; FLOWS];
     let last = sizes.per_flow() - 1;

@@ -96,7 +96,13 @@ fn field_after(form: Form, done: &[u64]) -> Field
     ensures { λ r. ⌜ r ≡ fieldOf form (now (done .entry)) ⌝ }
 {
     match form {
-        Form::Network => form::network_field(done),
+        Form::Network => {
+            if form::in_network_head(done) {
+                form::network_head_field(done)
+            } else {
+                form::network_body_field(done)
+            }
+        }
         Form::Plan => form::plan_field(done),
         Form::Rules => form::rules_field(done),
     }
@@ -210,11 +216,12 @@ pub fn read_network(text: &[u8], out: &mut [u64]) -> Answer
     let Answer::Done(n) = lines else {
         return lines;
     };
-    let answer = sums::add_up(&vals[..n]);
+    let list = &vals[..n];
+    let answer = sums::add_up(list, Network::of(list));
     let Answer::Done(_) = answer else {
         return answer;
     };
-    give(&vals[..n], out)
+    give(list, out)
 }
 
 // Reads a plan text into a list of numbers, one for each line.

@@ -1,25 +1,21 @@
 -- `judges::sums::add_up` meets its contract.
 use Prim.Native.Nat.{ℕ, _-_}
-use mathlib.Core.Path.{refl, ap}
+use mathlib.Core.Path.{ap}
 use Rattle.lists.specs.Lists.{nextIn}
-use Rattle.lists.proofs.Positions.{flow-some, head-in}
+use Rattle.lists.proofs.Positions.{flow-some}
 use native.Mathlib.Omega.{arith}
 use borrow.Author.Needs.{needs}
 use Rattle.judges.proofs.sums.add_up.Statement.{statement}
 use Rattle.judges.proofs.sums.add_up.Tie as tie
 use Rattle.judges.proofs.sums.first_missed.Reads as first-missed-reads
 use Rattle.judges.proofs.sums.gather.Reads as gather-reads
-use Rattle.lists.proofs.Network.of.Reads as of-reads
 use Rattle.lists.proofs.Network.per_flow.Reads as per-flow-reads
-
-of-requires : tie.Need-of-requires
-of-requires c κs = head-in _ (c .before .pre .sized .size)
 
 per-flow-requires : tie.Need-per-flow-requires
 per-flow-requires c κs = search needs
 
 sub-last : tie.Need-sub-last
-sub-last c = omega (arith, c .per-flow .ensures, flow-some (c .before .of .result .edition))
+sub-last c = omega (arith, c .per-flow .ensures, flow-some (c .before .before .args .sizes .edition))
 
 slice-aggregate-gather : tie.Need-slice-aggregate-gather
 slice-aggregate-gather c = search needs
@@ -38,7 +34,7 @@ slice-aggregate-first-missed-2 c = search needs
 
 first-missed-requires : tie.Need-first-missed-requires
 unfolding nextIn
-first-missed-requires c κs = ((c .before .before .before .before .before .before .before .before .before .before .pre, c .before .before .before .before .before .before .before .before .of .ensures, ap (λ (p : ℕ). p - 1) (c .before .before .before .before .before .before .before .per-flow .ensures)), (c .before .before .before .before .gather .ensures .0, c .before .before .before .before .gather .ensures .1))
+first-missed-requires c κs = ((c .before .before .before .before .before .before .before .before .before .pre .0, c .before .before .before .before .before .before .before .before .before .pre .1, ap (λ (p : ℕ). p - 1) (c .before .before .before .before .before .before .before .per-flow .ensures)), (c .before .before .before .before .gather .ensures .0, c .before .before .before .before .gather .ensures .1))
 
 returns : tie.Need-returns
 returns c = search needs
@@ -47,7 +43,6 @@ pub add-up-spec : {M : Type 1} → statement M
 add-up-spec =
     tie.close
     (tie.spec
-    of-requires
     per-flow-requires
     sub-last
     slice-aggregate-gather

@@ -1,6 +1,7 @@
 -- `judges::sums::first_missed` meets its contract.
 use Prim.Native.Nat.{ℕ, _≤_, _<_, _-_, _+_}
-use mathlib.Core.Path.{_≡_, sym, ap, ap₂, _∙_}
+use mathlib.Core.Path.{_≡_, refl, sym, ap, ap₂, _∙_}
+use mathlib.Core.Logic.{⊎-elim}
 use mathlib.Core.List.{List}
 use mathlib.Core.Option.{none}
 use lib.ListN.{getD}
@@ -11,6 +12,7 @@ use Rattle.model.specs.Rule.{flowSum, missedBy}
 use Rattle.model.proofs.Searches.{first-zero, first-on}
 use Rattle.lists.specs.Lists.{at, nextIn, networkSizes, networkOf}
 use Rattle.lists.specs.declared.Network as counts
+use Rattle.lists.specs.declared.Answer.the-variants.{Refused}
 use Rattle.lists.proofs.Positions.{FlowPlace, NextPlace, flow-place, next-place, limited}
 use Rattle.judges.proofs.Gathering.{gathered-all, miss-old, miss-new, miss-none, missed-at, missed-none}
 use native.Mathlib.Omega.{arith}
@@ -20,10 +22,10 @@ use Rattle.judges.proofs.sums.first_missed.Tie as tie
 use Rattle.lists.proofs.Network.flow_at.Reads as flow-at-reads
 
 abbrev Inv-loop : tie.InvT-loop
-Inv-loop list sizes last old new f₀ f = (f ≤ sizes .flows) × (first f (missedBy (networkOf list)) ≡ none)
+Inv-loop list sizes last old new second₀ f₀ second f = (f ≤ sizes .flows) × (first f (missedBy (networkOf list)) ≡ none) × (second ≡ 0)
 
 abbrev μ-loop : tie.MeasureT-loop
-μ-loop list sizes last old new f₀ f = sizes .flows - f
+μ-loop list sizes last old new second₀ f₀ second f = sizes .flows - f
 
 -- in a turn: the flow's place, its rate, its next and its sums
 module _ (c : tie.After-flow-at Inv-loop μ-loop) where
@@ -69,49 +71,44 @@ module _ (c : tie.After-flow-at Inv-loop μ-loop) where
   new-sum : getD (begin .args .new .now) f 0 ≡ flowSum N (N .new) f
   new-sum = gathered-all _ _ _ f (begin .pre .1 .1) low
 
+flows-same : (s : tie.Start Inv-loop μ-loop) → s .args .sizes .flows ≡ networkSizes (s .args .list .now) .flows
+flows-same s = ap (λ (n : counts.Network). n .flows) (s .pre .0 .1)
+
 loop-holds : tie.Need-loop-holds Inv-loop μ-loop
-loop-holds c = (omega arith, first-zero _)
+loop-holds c = (omega arith, first-zero _, refl)
 
 flow-at-requires : tie.Need-flow-at-requires Inv-loop μ-loop
 flow-at-requires c κs = (limited _ (c .before .before .before .before .before .before .pre .0 .0 .sized) _ (c .before .before .before .before .before .before .pre .0 .1), omega (arith, c .if1 .taken))
 
-add-rate : tie.Need-add-rate Inv-loop μ-loop
-add-rate c = record { fits = omega (arith, place c .few) }
-
-mul-rate : tie.Need-mul-rate Inv-loop μ-loop
-mul-rate c = record { fits = omega (arith, place c .few) }
-
-shared-slice-read-rate : tie.Need-shared-slice-read-rate Inv-loop μ-loop
-shared-slice-read-rate c = omega (arith, place (c .before) .within)
-
-add-next : tie.Need-add-next Inv-loop μ-loop
-add-next c = record { fits = omega (arith, next-in (c .before), further (c .before) .few) }
-
-mul-next : tie.Need-mul-next Inv-loop μ-loop
-mul-next c = record { fits = omega (arith, next-in (c .before), further (c .before) .few) }
-
-shared-slice-read-next : tie.Need-shared-slice-read-next Inv-loop μ-loop
-shared-slice-read-next c = omega (arith, next-in (c .before .before), further (c .before .before) .within)
-
 mul-if2 : tie.Need-mul-if2 Inv-loop μ-loop
-mul-if2 c = record { fits = omega (arith, low (c .before .before)) }
+mul-if2 c = record { fits = omega (arith, low ((c))) }
 
 shared-slice-read-if2 : tie.Need-shared-slice-read-if2 Inv-loop μ-loop
-shared-slice-read-if2 c = rw (c .before .before .before .before .before .before .before .before .before .before .pre .1 .0 .size) (low (c .before .before .before))
+shared-slice-read-if2 c = rw (c .before .before .before .before .before .before .before .before .pre .1 .0 .size) (low ((c .before)))
 
-returns : tie.Need-returns Inv-loop μ-loop
-returns c = let t = (c .before .before .before .before) in
-    sym (missed-at (list t) (f t) _ (c .before .before .before .before .before .before .before .loop .inv .1) (miss-old (N t) (f t) (λ e. c .if2 .taken (old-sum t ∙ e ∙ sym (rate-at t)))) (there t))
+add-if2 : tie.Need-add-if2 Inv-loop μ-loop
+add-if2 c = record { fits = omega (arith, place ((c .before)) .few) }
+
+mul-if2-2 : tie.Need-mul-if2-2 Inv-loop μ-loop
+mul-if2-2 c = record { fits = omega (arith, place ((c .before)) .few) }
+
+shared-slice-read-if2-2 : tie.Need-shared-slice-read-if2-2 Inv-loop μ-loop
+shared-slice-read-if2-2 c = omega (arith, place ((c .before .before)) .within)
 
 mul-if3 : tie.Need-mul-if3 Inv-loop μ-loop
-mul-if3 c = record { fits = omega (arith, low (c .before .before .before .before)) }
+mul-if3 c = record { fits = omega (arith, low ((c .before .before .before))) }
 
 shared-slice-read-if3 : tie.Need-shared-slice-read-if3 Inv-loop μ-loop
-shared-slice-read-if3 c = rw (c .before .before .before .before .before .before .before .before .before .before .before .before .pre .1 .1 .size) (low (c .before .before .before .before .before))
+shared-slice-read-if3 c = rw (c .before .before .before .before .before .before .before .before .before .before .before .pre .1 .1 .size) (low ((c .before .before .before .before)))
 
-returns-2 : tie.Need-returns-2 Inv-loop μ-loop
-returns-2 c = let t = (c .before .before .before .before .before .before) in
-    sym (missed-at (list t) (f t) _ (c .before .before .before .before .before .before .before .before .before .loop .inv .1) (miss-new (N t) (f t) (sym (old-sum t) ∙ c .before .before .if2 .left ∙ rate-at t) (λ e. c .if3 .taken (new-sum t ∙ e ∙ sym (next-at t)))) (there t))
+add-if3 : tie.Need-add-if3 Inv-loop μ-loop
+add-if3 c = record { fits = omega (arith, next-in ((c .before .before .before .before)), further ((c .before .before .before .before)) .few) }
+
+mul-if3-2 : tie.Need-mul-if3-2 Inv-loop μ-loop
+mul-if3-2 c = record { fits = omega (arith, next-in ((c .before .before .before .before)), further ((c .before .before .before .before)) .few) }
+
+shared-slice-read-if3-2 : tie.Need-shared-slice-read-if3-2 Inv-loop μ-loop
+shared-slice-read-if3-2 c = omega (arith, next-in ((c .before .before .before .before .before)), further ((c .before .before .before .before .before)) .within)
 
 add-f : tie.Need-add-f Inv-loop μ-loop
 add-f c = search needs
@@ -122,14 +119,26 @@ loop-less c = search needs
 loop-again : tie.Need-loop-again Inv-loop μ-loop
 loop-again c = let t = (c .before .before .before .before .before .before) in (
   omega (arith, c .before .before .before .before .before .before .before .if1 .taken),
-  first-on _ (f t) (c .before .before .before .before .before .before .before .before .before .loop .inv .1) (miss-none (N t) (f t) (sym (old-sum t) ∙ c .before .before .if2 .left ∙ rate-at t) (sym (new-sum t) ∙ c .if3 .left ∙ next-at t)),
+  first-on _ (f t) (c .before .before .before .before .before .before .before .before .before .loop .inv .1) (miss-none (N t) (f t) (sym (old-sum t) ∙ c .before .before .before .if2 .left ∙ rate-at t) (sym (new-sum t) ∙ c .if3 .left ∙ next-at t)),
+  c .before .before .before .before .before .before .before .before .before .loop .inv .2,
 )
 
-returns-3 : tie.Need-returns-3 Inv-loop μ-loop
+returns : tie.Need-returns Inv-loop μ-loop
 unfolding networkOf
-returns-3 c = let l = c .before .before .before .before .before .before .args .list .now in
-    let e : c .before .before .loop .f ≡ networkSizes l .flows = omega (arith, c .before .before .loop .inv .0, ap (λ (n : counts.Network). n .flows) (c .before .before .before .before .before .before .pre .0 .1)) in
-    sym (missed-none l (rw e at (c .before .before .loop .inv .1)))
+returns c = let s = (c .before .before .before .before .before .before .before .before) in
+    let e : c .before .before .before .before .loop .f ≡ networkSizes (s .args .list .now) .flows = omega (arith, c .if4 .taken, flows-same s) in
+    sym (missed-none (s .args .list .now) (rw e at (c .before .before .before .before .loop .inv .1)))
+
+returns-2 : tie.Need-returns-2 Inv-loop μ-loop
+returns-2 c = let j = (c .before .before) in
+    let s = (c .before .before .before .before .before .before .before .before) in
+    ⊎-elim (λ x. absurd (c .if4 .left (omega (arith, c .before .before .before .before .loop .inv .0, x .0 .left))))
+    (⊎-elim
+    (λ x. let t : tie.After-flow-at Inv-loop μ-loop = record { before = record { before = j .before; if1 = x .0 }; flow-at = x .1 } in
+    ap (Refused 4 (f t)) (x .5 ∙ c .before .before .before .before .loop .inv .2) ∙ sym (missed-at (list t) (f t) _ (c .before .before .before .before .loop .inv .1) (miss-old (N t) (f t) (λ e. x .4 .taken (old-sum t ∙ e ∙ sym (rate-at t)))) (there t)))
+    (λ x. let t : tie.After-flow-at Inv-loop μ-loop = record { before = record { before = j .before; if1 = x .0 }; flow-at = x .1 } in
+    ap (Refused 4 (f t)) (x .8) ∙ sym (missed-at (list t) (f t) _ (c .before .before .before .before .loop .inv .1) (miss-new (N t) (f t) (sym (old-sum t) ∙ x .4 .left ∙ rate-at t) (λ e. x .7 .taken (new-sum t ∙ e ∙ sym (next-at t)))) (there t))))
+    (j .if1 .came)
 
 pub first-missed-spec : {M : Type 1} → statement M
 first-missed-spec =
@@ -139,19 +148,18 @@ first-missed-spec =
     μ-loop
     loop-holds
     flow-at-requires
-    add-rate
-    mul-rate
-    shared-slice-read-rate
-    add-next
-    mul-next
-    shared-slice-read-next
     mul-if2
     shared-slice-read-if2
-    returns
+    add-if2
+    mul-if2-2
+    shared-slice-read-if2-2
     mul-if3
     shared-slice-read-if3
-    returns-2
+    add-if3
+    mul-if3-2
+    shared-slice-read-if3-2
     add-f
     loop-less
     loop-again
-    returns-3)
+    returns
+    returns-2)
