@@ -50,10 +50,12 @@ fn first_missed(list: &[u64], sizes: Network, last: usize, old: &[u64], new: &[u
     let mut f: usize = 0;
     while f < sizes.flows {
         let at = sizes.flow_at(f);
-        if old[f] != list[at + Network::RATE] {
+        let rate = list[at + Network::RATE];
+        let next = list[at + last];
+        if old[f] != rate {
             break;
         }
-        if new[f] != list[at + last] {
+        if new[f] != next {
             second = 1;
             break;
         }

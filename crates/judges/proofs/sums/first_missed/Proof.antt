@@ -80,35 +80,35 @@ loop-holds c = (omega arith, first-zero _, refl)
 flow-at-requires : tie.Need-flow-at-requires Inv-loop μ-loop
 flow-at-requires c κs = (limited _ (c .before .before .before .before .before .before .pre .0 .0 .sized) _ (c .before .before .before .before .before .before .pre .0 .1), omega (arith, c .if1 .taken))
 
+add-rate : tie.Need-add-rate Inv-loop μ-loop
+add-rate c = record { fits = omega (arith, place ((c)) .few) }
+
+mul-rate : tie.Need-mul-rate Inv-loop μ-loop
+mul-rate c = record { fits = omega (arith, place ((c)) .few) }
+
+shared-slice-read-rate : tie.Need-shared-slice-read-rate Inv-loop μ-loop
+shared-slice-read-rate c = omega (arith, place ((c .before)) .within)
+
+add-next : tie.Need-add-next Inv-loop μ-loop
+add-next c = record { fits = omega (arith, next-in ((c .before)), further ((c .before)) .few) }
+
+mul-next : tie.Need-mul-next Inv-loop μ-loop
+mul-next c = record { fits = omega (arith, next-in ((c .before)), further ((c .before)) .few) }
+
+shared-slice-read-next : tie.Need-shared-slice-read-next Inv-loop μ-loop
+shared-slice-read-next c = omega (arith, next-in ((c .before .before)), further ((c .before .before)) .within)
+
 mul-if2 : tie.Need-mul-if2 Inv-loop μ-loop
-mul-if2 c = record { fits = omega (arith, low ((c))) }
+mul-if2 c = record { fits = omega (arith, low ((c .before .before))) }
 
 shared-slice-read-if2 : tie.Need-shared-slice-read-if2 Inv-loop μ-loop
-shared-slice-read-if2 c = rw (c .before .before .before .before .before .before .before .before .pre .1 .0 .size) (low ((c .before)))
-
-add-if2 : tie.Need-add-if2 Inv-loop μ-loop
-add-if2 c = record { fits = omega (arith, place ((c .before)) .few) }
-
-mul-if2-2 : tie.Need-mul-if2-2 Inv-loop μ-loop
-mul-if2-2 c = record { fits = omega (arith, place ((c .before)) .few) }
-
-shared-slice-read-if2-2 : tie.Need-shared-slice-read-if2-2 Inv-loop μ-loop
-shared-slice-read-if2-2 c = omega (arith, place ((c .before .before)) .within)
+shared-slice-read-if2 c = rw (c .before .before .before .before .before .before .before .before .before .before .pre .1 .0 .size) (low ((c .before .before .before)))
 
 mul-if3 : tie.Need-mul-if3 Inv-loop μ-loop
-mul-if3 c = record { fits = omega (arith, low ((c .before .before .before))) }
+mul-if3 c = record { fits = omega (arith, low ((c .before .before .before .before))) }
 
 shared-slice-read-if3 : tie.Need-shared-slice-read-if3 Inv-loop μ-loop
-shared-slice-read-if3 c = rw (c .before .before .before .before .before .before .before .before .before .before .before .pre .1 .1 .size) (low ((c .before .before .before .before)))
-
-add-if3 : tie.Need-add-if3 Inv-loop μ-loop
-add-if3 c = record { fits = omega (arith, next-in ((c .before .before .before .before)), further ((c .before .before .before .before)) .few) }
-
-mul-if3-2 : tie.Need-mul-if3-2 Inv-loop μ-loop
-mul-if3-2 c = record { fits = omega (arith, next-in ((c .before .before .before .before)), further ((c .before .before .before .before)) .few) }
-
-shared-slice-read-if3-2 : tie.Need-shared-slice-read-if3-2 Inv-loop μ-loop
-shared-slice-read-if3-2 c = omega (arith, next-in ((c .before .before .before .before .before)), further ((c .before .before .before .before .before)) .within)
+shared-slice-read-if3 c = rw (c .before .before .before .before .before .before .before .before .before .before .before .before .pre .1 .1 .size) (low ((c .before .before .before .before .before)))
 
 add-f : tie.Need-add-f Inv-loop μ-loop
 add-f c = search needs
@@ -119,7 +119,7 @@ loop-less c = search needs
 loop-again : tie.Need-loop-again Inv-loop μ-loop
 loop-again c = let t = (c .before .before .before .before .before .before) in (
   omega (arith, c .before .before .before .before .before .before .before .if1 .taken),
-  first-on _ (f t) (c .before .before .before .before .before .before .before .before .before .loop .inv .1) (miss-none (N t) (f t) (sym (old-sum t) ∙ c .before .before .before .if2 .left ∙ rate-at t) (sym (new-sum t) ∙ c .if3 .left ∙ next-at t)),
+  first-on _ (f t) (c .before .before .before .before .before .before .before .before .before .loop .inv .1) (miss-none (N t) (f t) (sym (old-sum t) ∙ c .before .before .if2 .left ∙ rate-at t) (sym (new-sum t) ∙ c .if3 .left ∙ next-at t)),
   c .before .before .before .before .before .before .before .before .before .loop .inv .2,
 )
 
@@ -135,9 +135,9 @@ returns-2 c = let j = (c .before .before) in
     ⊎-elim (λ x. absurd (c .if4 .left (omega (arith, c .before .before .before .before .loop .inv .0, x .0 .left))))
     (⊎-elim
     (λ x. let t : tie.After-flow-at Inv-loop μ-loop = record { before = record { before = j .before; if1 = x .0 }; flow-at = x .1 } in
-    ap (Refused 4 (f t)) (x .5 ∙ c .before .before .before .before .loop .inv .2) ∙ sym (missed-at (list t) (f t) _ (c .before .before .before .before .loop .inv .1) (miss-old (N t) (f t) (λ e. x .4 .taken (old-sum t ∙ e ∙ sym (rate-at t)))) (there t)))
+    ap (Refused 4 (f t)) (x .6 ∙ c .before .before .before .before .loop .inv .2) ∙ sym (missed-at (list t) (f t) _ (c .before .before .before .before .loop .inv .1) (miss-old (N t) (f t) (λ e. x .5 .taken (old-sum t ∙ e ∙ sym (rate-at t)))) (there t)))
     (λ x. let t : tie.After-flow-at Inv-loop μ-loop = record { before = record { before = j .before; if1 = x .0 }; flow-at = x .1 } in
-    ap (Refused 4 (f t)) (x .8) ∙ sym (missed-at (list t) (f t) _ (c .before .before .before .before .loop .inv .1) (miss-new (N t) (f t) (sym (old-sum t) ∙ x .4 .left ∙ rate-at t) (λ e. x .7 .taken (new-sum t ∙ e ∙ sym (next-at t)))) (there t))))
+    ap (Refused 4 (f t)) (x .8) ∙ sym (missed-at (list t) (f t) _ (c .before .before .before .before .loop .inv .1) (miss-new (N t) (f t) (sym (old-sum t) ∙ x .5 .left ∙ rate-at t) (λ e. x .7 .taken (new-sum t ∙ e ∙ sym (next-at t)))) (there t))))
     (j .if1 .came)
 
 pub first-missed-spec : {M : Type 1} → statement M
@@ -148,16 +148,16 @@ first-missed-spec =
     μ-loop
     loop-holds
     flow-at-requires
+    add-rate
+    mul-rate
+    shared-slice-read-rate
+    add-next
+    mul-next
+    shared-slice-read-next
     mul-if2
     shared-slice-read-if2
-    add-if2
-    mul-if2-2
-    shared-slice-read-if2-2
     mul-if3
     shared-slice-read-if3
-    add-if3
-    mul-if3-2
-    shared-slice-read-if3-2
     add-f
     loop-less
     loop-again
