@@ -21,7 +21,7 @@ use Rattle.lists.specs.declared.Position.the-variants as position
 use Rattle.lists.specs.declared.Network as counts
 use Rattle.lists.specs.declared.PlanSizes.{PlanSizes}
 use Rattle.lists.specs.declared.RuleTables.{RuleTables}
-use Rattle.lists.proofs.Positions.{grouped, before-end, in-group, with-unit, without-unit, head-low, head-high, link-some, link-most, flow-pos, link-at, flow-at, tunnel-at, flows-start, tunnels-start, head-size, head-most, most-network, most-in-all}
+use Rattle.lists.proofs.Positions.{grouped, before-end, in-group, with-unit, without-unit, head-low, link-some, link-most, flow-pos, link-at, flow-at, tunnel-at, flows-start, tunnels-start, head-size, head-most, most-network, most-in-all}
 use Rattle.forms.specs.Form.{line, planBody, isHex, admitsOf, Sound, allows, fieldOf, countLines, networkLines, linkLines, flowLines, tunnelLines, planLines, rulesLines, ruleLines, networkBody, rulesBody, mostOf}
 use Rattle.forms.specs.declared.form.Form.{Form}
 use Rattle.forms.specs.declared.form.Form.the-variants.{Network, Plan, Rules}

@@ -17,7 +17,7 @@ use Rattle.forms.proofs.Answers.{done-good}
 use Rattle.forms.proofs.Walks.{judged-good}
 use Rattle.lines.specs.Puts.{Puts}
 use Rattle.lines.proofs.Writing.{placed-front}
-use Rattle.writers.specs.Write.{Needed}
+use Rattle.lengths.specs.Lines.{Needed}
 
 -- ---- a text that is put at the front, as it is said of an operation
 

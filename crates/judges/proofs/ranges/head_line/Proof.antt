@@ -1,6 +1,5 @@
 -- `judges::ranges::head_line` meets its contract.
 use mathlib.Core.Path.{ap, sym, _∙_}
-use mathlib.Core.List.{List}
 use lib.ListN.{getD}
 use Rattle.forms.specs.declared.form.Form.{Form}
 use Rattle.forms.specs.declared.form.Field.the-variants.{End}

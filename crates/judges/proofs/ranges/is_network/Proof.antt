@@ -1,5 +1,4 @@
 -- `judges::ranges::is_network` meets its contract.
-use Prim.Native.Nat.{_≤_}
 use mathlib.Core.Path.{_≡_, _∙_}
 use lib.ListN.{length}
 use Rattle.lists.specs.Lists.{at, networkSizes}

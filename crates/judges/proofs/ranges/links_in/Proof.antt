@@ -2,7 +2,7 @@
 use Prim.Native.Nat.{ℕ, _≤_, _+_, _-_}
 use mathlib.Core.Path.{_≡_, ap}
 use mathlib.Core.List.{List}
-use Rattle.lists.specs.Lists.{at, perLink, networkSizes, linkAt, heldOf}
+use Rattle.lists.specs.Lists.{at, perLink, networkSizes, linkAt}
 use Rattle.lists.specs.declared.Network.{Network}
 use Rattle.lists.proofs.Positions.{link-some, LinkPlace, link-place, limited}
 use Rattle.lists.proofs.Held.{last-held, held-last}

@@ -4,7 +4,7 @@ use mathlib.Core.Path.{_≡_, sym, ap, _∙_}
 use mathlib.Core.Bool.{true}
 use lib.ListN.{length}
 use Rattle.lists.specs.declared.Network.{Network}
-use Rattle.lists.specs.Lists.{at, hasHeld, networkSizes, heldOf, linkAt}
+use Rattle.lists.specs.Lists.{at, hasHeld, networkSizes}
 use Rattle.lists.proofs.Positions.{link-place, LinkPlace, limited}
 use Rattle.lists.proofs.Held.{with-held, without-held, held-in}
 use native.Mathlib.Omega.{arith}

@@ -4,7 +4,7 @@ use mathlib.Core.Bool.{true, false}
 use Rattle.forms.specs.Write.{lineOf}
 use Rattle.lines.specs.Puts.{decimalLine, hexLine}
 use Rattle.lines.proofs.Writing.{puts-none}
-use Rattle.writers.proofs.Runs.{set-line, number-line}
+use Rattle.lengths.proofs.Runs.{set-line, number-line}
 use borrow.Author.Needs.{needs}
 use Rattle.writers.proofs.write.put_field.Statement.{statement}
 use Rattle.writers.proofs.write.put_field.Tie as tie

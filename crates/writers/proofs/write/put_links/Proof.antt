@@ -11,8 +11,8 @@ use Rattle.forms.proofs.Good.{network-ranges}
 use Rattle.forms.specs.declared.form.Form.the-variants.{Network}
 use Rattle.lines.specs.Puts.{Puts}
 use Rattle.lines.proofs.Writing.{puts-length}
-use Rattle.writers.specs.Write.{linesFrom}
-use Rattle.writers.proofs.Runs.{no-lines, run-within, run-fits, run-put}
+use Rattle.lengths.specs.Lines.{linesFrom}
+use Rattle.lengths.proofs.Runs.{no-lines, run-within, run-fits, run-put}
 use native.Mathlib.Omega.{arith}
 use borrow.Author.Needs.{needs}
 use Rattle.writers.proofs.write.put_links.Statement.{statement}

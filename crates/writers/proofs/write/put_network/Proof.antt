@@ -10,8 +10,8 @@ use Rattle.forms.specs.Form.{tunnelLines}
 use Rattle.forms.specs.declared.form.Form.the-variants.{Network}
 use Rattle.forms.proofs.Good.{network-size}
 use Rattle.lines.specs.Puts.{Puts}
-use Rattle.writers.specs.Write.{linesFrom}
-use Rattle.writers.proofs.Runs.{long, all-lines, front-fits, rest-fits, rest-put}
+use Rattle.lengths.specs.Lines.{linesFrom}
+use Rattle.lengths.proofs.Runs.{long, all-lines, front-fits, rest-fits, rest-put}
 use native.Mathlib.Omega.{arith}
 use borrow.Author.Needs.{needs}
 use Rattle.writers.proofs.write.put_network.Statement.{statement}

@@ -1,20 +1,16 @@
 -- `writers::write::put_network_head` meets its contract.
 use Prim.Native.Nat.{ℕ, _+_, _≤_, _<_}
 use mathlib.Core.Path.{_≡_, refl}
-use mathlib.Core.Bool.{true}
 use mathlib.Core.List.{List}
 use lib.ListN.{length, getD}
 use borrow.Author.Tests.{le-leb, lt-leb}
 use Rattle.lists.specs.Lists.{headSize}
 use Rattle.lists.proofs.Positions.{head-low, with-unit, without-unit}
-use Rattle.forms.specs.Keys.{prefixOf}
 use Rattle.forms.specs.Bytes.{bytes}
-use Rattle.forms.specs.Form.{isHex, networkLines}
 use Rattle.forms.specs.declared.form.Form.the-variants.{Network}
-use Rattle.forms.specs.declared.form.Field.the-variants.{Line, End}
 use Rattle.lines.specs.Puts.{Puts}
-use Rattle.writers.specs.Write.{linesFrom}
-use Rattle.writers.proofs.Runs.{DecimalAt, network-head-line, unit-line, no-lines, head-fits, head-next, run-fits, run-put}
+use Rattle.lengths.specs.Lines.{linesFrom}
+use Rattle.lengths.proofs.Runs.{DecimalAt, network-head-line, unit-line, no-lines, head-fits, head-next, run-fits, run-put}
 use native.Mathlib.Omega.{arith}
 use borrow.Author.Needs.{needs}
 use Rattle.writers.proofs.write.put_network_head.Statement.{statement}

@@ -6,7 +6,7 @@ use lib.ListN.{length}
 use Rattle.forms.specs.Form.{planLines}
 use Rattle.forms.specs.declared.form.Form.the-variants.{Plan}
 use Rattle.forms.proofs.Good.{plan-size}
-use Rattle.writers.proofs.Runs.{all-lines, front-fits, rest-fits, rest-put}
+use Rattle.lengths.proofs.Runs.{all-lines, front-fits, rest-fits, rest-put}
 use borrow.Author.Needs.{needs}
 use Rattle.writers.proofs.write.put_plan.Statement.{statement}
 use Rattle.writers.proofs.write.put_plan.Tie as tie

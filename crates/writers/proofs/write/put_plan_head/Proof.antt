@@ -11,8 +11,8 @@ use Rattle.forms.specs.declared.form.Form.the-variants.{Plan}
 use Rattle.forms.specs.declared.form.Range.{Range}
 use Rattle.forms.specs.declared.form.Field.the-variants.{Line, End}
 use Rattle.lines.specs.Puts.{Puts}
-use Rattle.writers.specs.Write.{linesFrom}
-use Rattle.writers.proofs.Runs.{DecimalAt, plan-head-line, no-lines, head-fits, head-next}
+use Rattle.lengths.specs.Lines.{linesFrom}
+use Rattle.lengths.proofs.Runs.{DecimalAt, plan-head-line, no-lines, head-fits, head-next}
 use borrow.Author.Needs.{needs}
 use Rattle.writers.proofs.write.put_plan_head.Statement.{statement}
 use Rattle.writers.proofs.write.put_plan_head.Tie as tie

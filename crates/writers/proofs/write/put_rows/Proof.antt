@@ -9,9 +9,9 @@ use Rattle.forms.specs.Form.{planLines}
 use Rattle.forms.specs.declared.form.Form.the-variants.{Plan}
 use Rattle.forms.proofs.Good.{plan-size}
 use Rattle.lines.specs.Puts.{Puts, decimalValue, decimalLine}
-use Rattle.writers.specs.Write.{linesFrom}
+use Rattle.lengths.specs.Lines.{linesFrom}
 use Rattle.lines.proofs.Writing.{puts-length, then-fits, then-puts}
-use Rattle.writers.proofs.Runs.{DecimalAt, at-line, no-lines, run-within, next-fits, next-put}
+use Rattle.lengths.proofs.Runs.{DecimalAt, at-line, no-lines, run-within, next-fits, next-put}
 use borrow.Author.Needs.{needs}
 use Rattle.writers.proofs.write.put_rows.Statement.{statement}
 use Rattle.writers.proofs.write.put_rows.Tie as tie

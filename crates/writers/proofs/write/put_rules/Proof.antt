@@ -10,9 +10,9 @@ use Rattle.forms.specs.declared.form.Form.the-variants.{Rules}
 use Rattle.forms.proofs.Forms.{sound-take}
 use Rattle.forms.proofs.Rendering.{at-most}
 use Rattle.lines.specs.Puts.{Puts}
-use Rattle.writers.specs.Write.{Writable, linesFrom, lineAt}
+use Rattle.lengths.specs.Lines.{Writable, linesFrom, lineAt}
 use Rattle.lines.proofs.Writing.{puts-length}
-use Rattle.writers.proofs.Runs.{all-lines, no-lines, run-within, next-fits, next-put, writable, line-here}
+use Rattle.lengths.proofs.Runs.{all-lines, no-lines, run-within, next-fits, next-put, writable, line-here}
 use borrow.Author.Needs.{needs}
 use Rattle.writers.proofs.write.put_rules.Statement.{statement}
 use Rattle.writers.proofs.write.put_rules.Tie as tie

@@ -12,9 +12,9 @@ use Rattle.forms.specs.Bytes.{bytes}
 use Rattle.forms.specs.Form.{tunnelLines}
 use Rattle.forms.specs.declared.form.Form.the-variants.{Network}
 use Rattle.lines.specs.Puts.{Puts, hexLine}
-use Rattle.writers.specs.Write.{lineAt, linesFrom}
+use Rattle.lengths.specs.Lines.{lineAt, linesFrom}
 use Rattle.lines.proofs.Writing.{puts-length}
-use Rattle.writers.proofs.Runs.{DecimalAt, flow-line, via-line, old-line, new-line, no-lines, run-within, next-fits, next-put}
+use Rattle.lengths.proofs.Runs.{DecimalAt, flow-line, via-line, old-line, new-line, no-lines, run-within, next-fits, next-put}
 use native.Mathlib.Omega.{arith}
 use borrow.Author.Needs.{needs}
 use Rattle.writers.proofs.write.put_tunnels.Statement.{statement}

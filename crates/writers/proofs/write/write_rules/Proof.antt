@@ -8,7 +8,7 @@ use Rattle.forms.specs.Read.{judgeList}
 use Rattle.forms.specs.Write.{render, writeText}
 use Rattle.forms.specs.declared.form.Form.the-variants.{Rules}
 use Rattle.forms.proofs.Answers.{refused-then, refused-room}
-use Rattle.writers.specs.Write.{Needed}
+use Rattle.lengths.specs.Lines.{Needed}
 use Rattle.writers.proofs.Answered.{judged-done, too-long, written}
 use borrow.Author.Needs.{needs}
 use Rattle.writers.proofs.write.write_rules.Statement.{statement}
