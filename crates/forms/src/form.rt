@@ -236,10 +236,13 @@ pub fn in_network_head(done: &[u64]) -> bool
     ensures { λ r. ⌜ r ≡ ltb (length (now (done .entry))) (length (networkLines (at (now (done .entry)) 0))) ⌝ }
 {
     let i = done.len();
-    if i == 0 {
+    if i < Network::HEAD - 1 {
         return true;
     }
-    i < Network::head(done[0])
+    if Network::HEAD <= i {
+        return false;
+    }
+    Network::HELD_SINCE <= done[0]
 }
 
 // The line of the head after some numbers of a network.

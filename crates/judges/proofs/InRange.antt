@@ -17,7 +17,7 @@ use Rattle.lists.proofs.Positions.{link-most, second, flow-most, third, next-th
 use Rattle.lists.proofs.Held.{with-held}
 use Rattle.forms.specs.Form.{line, Sound, Whole, allows, admitsOf, fieldOf, networkLines, networkBody, linkLines, flowLines, tunnelLines}
 use Rattle.lists.specs.Good.{LinksIn, FlowsIn, TunnelsIn}
-use Rattle.judges.specs.Ranges.{Decides, headLines, HeadIn}
+use Rattle.judges.specs.Ranges.{Decides, headLines, HeadIn, NetworkHead}
 use Rattle.forms.specs.declared.form.Form.{Form}
 use Rattle.forms.specs.declared.form.Form.the-variants.{Network}
 use Rattle.forms.specs.declared.form.Range.the-variants.{Between, Set}
@@ -190,3 +190,13 @@ whole-in-range l w =
       flows = r .flows;
       tunnels = r .tunnels;
     }
+
+-- its head among them
+pub whole-head : (l : List ℕ) → Whole Network l → NetworkHead l
+whole-head l w =
+    let r = whole-in-range l w in
+    record { long = omega (arith, r .size, head-there l, tunnel-after (networkSizes l) (networkSizes l .tunnels)); head = r .head }
+
+-- the lines of a head by whether there is a unit
+pub same-lines : (e f : ℕ) → hasHeld e ≡ hasHeld f → networkLines e ≡ networkLines f
+same-lines e f h = rw h refl

@@ -31,6 +31,11 @@ headLines Rules edition = rulesLines
 pub record HeadIn (form : Form) (l : List ℕ) (n : ℕ) : Type 0 where
   pub each : (i : ℕ) → i < n → T (allows (getD (headLines form (at l 0)) i End) (at l i))
 
+-- a list that has a network's head
+pub record NetworkHead (l : List ℕ) : Type 0 where
+  pub long : length (networkLines (at l 0)) ≤ length l
+  pub head : HeadIn Network l (length (networkLines (at l 0)))
+
 -- ---- a plan
 
 -- the amounts before a position are in their range

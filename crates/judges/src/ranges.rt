@@ -6,7 +6,7 @@ ghost use lib.ListN.{length, getD};
 ghost use Rattle.lists.specs.Lists.{at, networkSizes, tableSizes};
 ghost use Rattle.lists.specs.Good.{Sized, LinksIn, FlowsIn, TunnelsIn};
 ghost use Rattle.forms.specs.Form.{Whole};
-ghost use Rattle.judges.specs.Ranges.{Decides, headLines, HeadIn, AmountsIn, TablesSized, RoomsIn, RulesIn};
+ghost use Rattle.judges.specs.Ranges.{Decides, headLines, HeadIn, NetworkHead, AmountsIn, TablesSized, RoomsIn, RulesIn};
 use forms::form;
 use forms::form::Field;
 use forms::form::Form;
@@ -25,14 +25,14 @@ fn head_line(form: Form, edition: u64, n: usize) -> Field
     }
 }
 
-// Are the first numbers those of the form's head?
-fn head_in(form: Form, list: &[u64], count: usize) -> bool
-    requires { ⌜ count ≤ length (now list) ⌝ }
+// Are the first numbers those of the form's head, in an edition that has the same lines as the list's?
+fn head_in(form: Form, edition: u64, list: &[u64], count: usize) -> bool
+    requires { ⌜ (count ≤ length (now list)) × (headLines form edition ≡ headLines form (at (now list) 0)) ⌝ }
     ensures { λ r. ⌜ Decides r (HeadIn form (now (list .entry)) count) ⌝ }
 {
     let mut i: usize = 0;
     while i < count {
-        let Field::Line(_, range) = head_line(form, list[0], i) else {
+        let Field::Line(_, range) = head_line(form, edition, i) else {
             return false;
         };
         if form::admits(range, list[i]) {
@@ -42,6 +42,22 @@ fn head_in(form: Form, list: &[u64], count: usize) -> bool
         }
     }
     true
+}
+
+// Has the list a network's head, in its edition? The compiler has an edition and a length at hand in either call, and no loop is left.
+fn network_head_in(list: &[u64]) -> bool
+    ensures { λ r. ⌜ Decides r (NetworkHead (now (list .entry))) ⌝ }
+{
+    if list.len() < Network::HEAD - 1 {
+        return false;
+    }
+    if list[0] < Network::HELD_SINCE {
+        return head_in(Form::Network, 0, list, Network::HEAD - 1);
+    }
+    if list.len() < Network::HEAD {
+        return false;
+    }
+    head_in(Form::Network, Network::HELD_SINCE, list, Network::HEAD)
 }
 
 // Are the numbers of each link in their ranges? The last says what is held, or is the capacity itself.
@@ -116,7 +132,7 @@ fn tunnels_in(list: &[u64], sizes: Network) -> bool
 
 // Is the list long enough for its links, flows and tunnels, and no longer, and is each of their numbers in its range?
 fn body_in(list: &[u64]) -> bool
-    requires { ⌜ (length (headLines Form.Network (at (now list) 0)) ≤ length (now list)) × HeadIn Form.Network (now list) (length (headLines Form.Network (at (now list) 0))) ⌝ }
+    requires { ⌜ NetworkHead (now list) ⌝ }
     ensures { λ r. ⌜ Decides r (Whole Form.Network (now (list .entry))) ⌝ }
 {
     let sizes = Network::of(list);
@@ -135,14 +151,7 @@ fn body_in(list: &[u64]) -> bool
 pub(crate) fn is_network(list: &[u64]) -> bool
     ensures { λ r. ⌜ Decides r (Whole Form.Network (now (list .entry))) ⌝ }
 {
-    if list.len() == 0 {
-        return false;
-    }
-    let head = Network::head(list[0]);
-    if list.len() < head {
-        return false;
-    }
-    if head_in(Form::Network, list, head) {
+    if network_head_in(list) {
         body_in(list)
     } else {
         false
@@ -181,7 +190,7 @@ pub(crate) fn is_plan(list: &[u64]) -> bool
     if list.len() < PlanSizes::HEAD {
         return false;
     }
-    if head_in(Form::Plan, list, PlanSizes::HEAD) {
+    if head_in(Form::Plan, 0, list, PlanSizes::HEAD) {
         rows_in(list)
     } else {
         false
@@ -249,7 +258,7 @@ pub(crate) fn is_rules(list: &[u64]) -> bool
     if list.len() < RuleTables::HEAD {
         return false;
     }
-    if head_in(Form::Rules, list, RuleTables::HEAD) {
+    if head_in(Form::Rules, 0, list, RuleTables::HEAD) {
         tables_in(list)
     } else {
         false

@@ -18,7 +18,7 @@ use Rattle.lists.proofs.Network.of.Reads as of-reads
 use Rattle.lists.proofs.Network.tunnel_at.Reads as tunnel-at-reads
 
 counts-in : (s : tie.Start) → Limited (networkSizes (s .args .list .now))
-counts-in s = limited _ (s .pre .1 .each) .1
+counts-in s = limited _ (s .pre .head .each) .1
 
 -- the list's length is what its sizes say
 sized : (c : tie.Else1) → Sized (c .before .before .before .before .args .list .now)
@@ -27,7 +27,7 @@ sized c =
     record { counts = counts-in (o .before .before); size = omega (arith, c .if1 .left, c .before .tunnel-at .ensures, ap (λ (n : counts.Network). networkSize n) (o .of .ensures)) }
 
 of-requires : tie.Need-of-requires
-of-requires c κs = omega (arith, head-there (c .before .args .list .now), c .before .pre .0)
+of-requires c κs = omega (arith, head-there (c .before .args .list .now), c .before .pre .long)
 
 tunnel-at-requires : tie.Need-tunnel-at-requires
 tunnel-at-requires c κs = (subst⁻¹ Limited (c .of .ensures) (counts-in (c .before .before)), omega arith)
@@ -53,7 +53,7 @@ tunnels-in-requires c κs = (sized (c .before .before .before .before), c .befor
 returns-4 : tie.Need-returns-4
 returns-4 c = decides-same _
     (λ t. in-range-whole (c .before .before .before .before .before .before .before .before .before .args .list .now) (record {
-      head = c .before .before .before .before .before .before .before .before .before .pre .1;
+      head = c .before .before .before .before .before .before .before .before .before .pre .head;
       size = sized (c .before .before .before .before .before) .size;
       links = subst (λ (n : counts.Network). LinksIn (c .before .before .before .before .before .before .before .before .before .args .list .now) (n .links)) (c .before .before .before .before .before .before .before .of .ensures) (c .before .before .before .before .links-in .ensures .yes (not-false _ (c .before .before .before .if2 .left)));
       flows = subst (λ (n : counts.Network). FlowsIn (c .before .before .before .before .before .before .before .before .before .args .list .now) (n .flows)) (c .before .before .before .before .before .before .before .of .ensures) (c .before .before .flows-in .ensures .yes (not-false _ (c .before .if3 .left)));

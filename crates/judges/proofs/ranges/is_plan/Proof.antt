@@ -1,10 +1,13 @@
 -- `judges::ranges::is_plan` meets its contract.
+use mathlib.Core.Path.{refl}
 use Rattle.judges.proofs.InRange.{decides-no}
 use Rattle.judges.proofs.PlanInRange.{whole-rows}
 use native.Mathlib.Omega.{arith}
 use borrow.Author.Needs.{needs}
 use Rattle.judges.proofs.ranges.is_plan.Statement.{statement}
 use Rattle.judges.proofs.ranges.is_plan.Tie as tie
+use Rattle.judges.proofs.ranges.head_in.Reads as head-in-reads
+use Rattle.judges.proofs.ranges.rows_in.Reads as rows-in-reads
 
 returns : tie.Need-returns
 returns c = decides-no (λ w. absurd (omega (arith, whole-rows _ w .size, c .if1 .taken)))

@@ -1,10 +1,13 @@
 -- `judges::ranges::is_rules` meets its contract.
+use mathlib.Core.Path.{refl}
 use Rattle.judges.proofs.InRange.{decides-no}
 use Rattle.judges.proofs.RulesInRange.{whole-tables}
 use native.Mathlib.Omega.{arith}
 use borrow.Author.Needs.{needs}
 use Rattle.judges.proofs.ranges.is_rules.Statement.{statement}
 use Rattle.judges.proofs.ranges.is_rules.Tie as tie
+use Rattle.judges.proofs.ranges.head_in.Reads as head-in-reads
+use Rattle.judges.proofs.ranges.tables_in.Reads as tables-in-reads
 
 returns : tie.Need-returns
 returns c = decides-no (λ w. absurd (omega (arith, whole-tables _ w .size, c .if1 .taken)))
