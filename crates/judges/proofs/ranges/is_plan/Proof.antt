@@ -1,5 +1,4 @@
 -- `judges::ranges::is_plan` meets its contract.
-use mathlib.Core.Path.{refl}
 use Rattle.judges.proofs.InRange.{decides-no}
 use Rattle.judges.proofs.PlanInRange.{whole-rows}
 use native.Mathlib.Omega.{arith}
