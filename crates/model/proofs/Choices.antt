@@ -1,18 +1,21 @@
 -- The worst amounts stand for every choice: no choice shows more on a link, and the marked choice shows exactly as much.
-use Prim.Native.Nat.{ℕ, suc, _+_, _*_, _≤_, _<_, max}
-use mathlib.Core.Path.{_≡_, sym, ap, ap₂, _∙_, subst}
+use Prim.Native.Nat.{ℕ, _+_, _*_, _≤_, _<_, min}
+use mathlib.Core.Path.{_≡_, sym, ap, ap₂, _∙_, subst, fun-ext}
 use mathlib.Core.Logic.{⊎-elim}
 use mathlib.Core.Bool.{Bool, true, false, cond, _&&_, true≢false}
 use mathlib.Core.Option.{none, some}
 use native.Mathlib.Omega.{arith}
-use native.Mathlib.Nat.{mul-le-mul-left}
+use native.Mathlib.Nat.{add-zero, le-antisymm, min-le-right, mul-le-mul-left}
 use borrow.Author.Tests.{ltb-true, ltb-false, lt-ltb, le-ltb}
 use lib.Dec.{ltb}
+use Rattle.model.specs.Largest.{largest, peakAt}
 use Rattle.model.specs.Net.{Net, Plan, row}
 use Rattle.model.specs.Scan.{Bound, Overload}
-use Rattle.model.specs.Rule.{crosses, movers, moverOf, onLink, load, exceeds, stepCount, worst, Choice, shown, overloads, worstOver, firstOverload, mark, moversOf, marked}
-use Rattle.model.proofs.Searches.{bool-cases, option-cases, and-true}
-use Rattle.model.proofs.Movers.{mover-crosses, picked-mover, mover-picked, load-mono, load-cong}
+use Rattle.model.specs.Rule.{movers, onLink, load, exceeds, stepCount, reach, worst, rowIn, Choice, shown, overloads, worstOver, firstOverload, mark, moversOf, atLargest, marked}
+use Rattle.model.proofs.Searches.{bool-cases, option-cases}
+use Rattle.model.proofs.Largests.{largest-ge, peak-in, peak-largest}
+use Rattle.model.proofs.Windows.{row-in}
+use Rattle.model.proofs.Movers.{mover-crosses, picked-mover, movers-same, load-mono, load-cong}
 use Rattle.model.proofs.Scans.{scan-none, scan-some, none-scan}
 
 ltb-mono : (a b c : ℕ) → b ≤ c → ltb a b ≡ true → ltb a c ≡ true
@@ -51,83 +54,84 @@ le-kept N Bound.total parts l w h = le-ltb ((1000 + N .overrun) * (parts * N .ca
 
 -- ---- what is shown, and the worst amounts
 
-shown-either : (f : ℕ → ℕ) (i : ℕ) (later : Bool) → f (cond later (suc i) i) ≤ max (f i) (f (suc i))
-shown-either f i true = omega arith
-shown-either f i false = omega arith
+pub shown-worst : (w : ℕ) (N : Net) (P : Plan) (i l : ℕ) (c : Choice w N P i) (m : ℕ) → shown w N P i l c m ≤ worst w N P i l m
+unfolding shown rowIn worst
+shown-worst w N P i l c m =
+    largest-ge (reach w P i) (λ k. onLink N l (row N P (i + k)) m) (min (c m) (reach w P i)) (min-le-right (c m) (reach w P i))
 
-pub shown-worst : (N : Net) (P : Plan) (i l : ℕ) (c : Choice N P i) (t : ℕ) → shown N P i l c t ≤ worst N P i l t
-unfolding shown worst
-shown-worst N P i l c t = shown-either (λ a. onLink N l (row N P a) t) i (c t)
-
--- a mover whose amount rises on the named link has a marked tunnel, and only such a mover has one
-module _ (N : Net) (P : Plan) (o : Overload) (m : ℕ) where
-  abbrev shows : ℕ → ℕ → ℕ
-  shows a k = onLink N (o .link) (row N P a) k
+-- a mover whose largest amount on the named link exceeds that of the first row has a marked tunnel
+module _ (w : ℕ) (N : Net) (P : Plan) (o : Overload) (m : ℕ) (h : m < movers N) where
+  abbrev amount : ℕ → ℕ
+  amount k = onLink N (o .link) (row N P (o .from + k)) m
 
   abbrev rises : ℕ → Bool
-  rises k = ltb (shows (o .from) k) (shows (suc (o .from)) k)
+  rises k = ltb (onLink N (o .link) (row N P (o .from)) k) (worst w N P (o .from) (o .link) k)
 
-  rises-marked : m < movers N → rises m ≡ true → marked N P o m ≡ true
-  unfolding marked mark
-  rises-marked h r =
-      let s = mover-crosses N (o .link) (row N P (suc (o .from))) m h (omega (arith, ltb-true (shows (o .from) m) (shows (suc (o .from)) m) r)) in
-      subst (λ (k : ℕ). moversOf N (mark N P o) k ≡ true) (s .3)
-      (picked-mover N (mark N P o) (s .0) (s .1) (ap₂ _&&_ (s .2) (ap rises (s .3) ∙ r)))
+  rises-marked : rises m ≡ true → moversOf N (mark w N P o) m ≡ true
+  unfolding mark worst
+  rises-marked r =
+      let n : ℕ = reach w P (o .from) in
+      let pos : 0 < amount (peakAt n amount) = omega (arith, peak-largest n amount, ltb-true (onLink N (o .link) (row N P (o .from)) m) (largest n amount) r) in
+      let s = mover-crosses N (o .link) (row N P (o .from + peakAt n amount)) m h pos in
+      subst (λ (k : ℕ). moversOf N (mark w N P o) k ≡ true) (s .3)
+      (picked-mover N (mark w N P o) (s .0) (s .1) (ap₂ _&&_ (s .2) (ap rises (s .3) ∙ r)))
 
-  marked-rises : marked N P o m ≡ true → rises m ≡ true
-  unfolding marked mark
-  marked-rises e =
-      let s = mover-picked N (mark N P o) m e in sym (ap rises (s .3)) ∙ and-true (crosses N (o .link) (s .0)) (rises (moverOf N (s .0))) (s .2) .1
+  pub marked-worst : shown w N P (o .from) (o .link) (marked w N P o) m ≡ worst w N P (o .from) (o .link) m
+  unfolding shown marked atLargest worst
+  marked-worst =
+      let n : ℕ = reach w P (o .from) in
+      let at : ℕ → ℕ = λ a. onLink N (o .link) (row N P a) m in
+      let chosen : Bool → ℕ = λ b. at (rowIn w P (o .from) (cond b (peakAt n amount) 0)) in
+      ⊎-elim
+      (λ e. ap chosen e ∙ ap at (row-in w P (o .from) _ (peak-in n amount)) ∙ peak-largest n amount)
+      (λ e.
+      ap chosen e
+      ∙ ap at (row-in w P (o .from) 0 (omega arith))
+      ∙ le-antisymm (largest-ge n amount 0 (omega arith)) (omega (arith, ap at (add-zero (o .from)), ltb-false (at (o .from)) (largest n amount) (not-rises e))))
+      (bool-cases (moversOf N (mark w N P o) m))
+    where
+      not-rises : moversOf N (mark w N P o) m ≡ false → rises m ≡ false
+      not-rises e = ⊎-elim (λ r. absurd (true≢false (sym (rises-marked r) ∙ e))) (λ r. r) (bool-cases (rises m))
 
-pub marked-worst : (N : Net) (P : Plan) (o : Overload) (m : ℕ) → m < movers N
-    → shown N P (o .from) (o .link) (marked N P o) m ≡ worst N P (o .from) (o .link) m
-unfolding shown worst
-marked-worst N P o m h =
-    let f : ℕ → ℕ = λ a. shows N P o m a m in
-    let i : ℕ = o .from in
-    ⊎-elim
-    (λ e. ap (λ (c : Bool). f (cond c (suc i) i)) e ∙ omega (arith, ltb-true (f i) (f (suc i)) (marked-rises N P o m e)))
-    (λ e. ap (λ (c : Bool). f (cond c (suc i) i)) e ∙ omega (arith, ltb-false (f i) (f (suc i)) (not-rises e)))
-    (bool-cases (marked N P o m))
-  where
-    not-rises : marked N P o m ≡ false → rises N P o m m ≡ false
-    not-rises e =
-        ⊎-elim (λ r. absurd (true≢false (sym (rises-marked N P o m h r) ∙ e))) (λ r. r) (bool-cases (rises N P o m m))
+-- a choice by marks depends on those of the tunnels that there are
+pub at-same : (w : ℕ) (N : Net) (P : Plan) (i l : ℕ) (s r : ℕ → Bool) → ((t : ℕ) → t < N .tunnels → s t ≡ r t) → atLargest w N P i l s ≡ atLargest w N P i l r
+unfolding atLargest
+at-same w N P i l s r h = fun-ext (λ m. ap (λ (b : Bool). cond b (peakAt (reach w P i) (λ k. onLink N l (row N P (i + k)) m)) 0) (movers-same N s r h m))
 
 -- no choice shows more on a link than the worst load, and the marked choice shows exactly it
-pub shown-load : (N : Net) (P : Plan) (i l : ℕ) (c : Choice N P i) (b : Bound) → load N b (shown N P i l c) ≤ load N b (worst N P i l)
-shown-load N P i l c b = load-mono N b (shown-worst N P i l c)
+pub shown-load : (w : ℕ) (N : Net) (P : Plan) (i l : ℕ) (c : Choice w N P i) (b : Bound) → load N b (shown w N P i l c) ≤ load N b (worst w N P i l)
+shown-load w N P i l c b = load-mono N b (shown-worst w N P i l c)
 
-pub marked-load : (N : Net) (P : Plan) (o : Overload) (b : Bound)
-    → load N b (shown N P (o .from) (o .link) (marked N P o)) ≡ load N b (worst N P (o .from) (o .link))
-marked-load N P o b = load-cong N b (marked-worst N P o)
+pub marked-load : (w : ℕ) (N : Net) (P : Plan) (o : Overload) (b : Bound)
+    → load N b (shown w N P (o .from) (o .link) (marked w N P o)) ≡ load N b (worst w N P (o .from) (o .link))
+marked-load w N P o b = load-cong N b (marked-worst w N P o)
 
 -- ---- no overload is found exactly if the worst amounts keep both bounds on each link in each step
 
-pub none-kept : (N : Net) (P : Plan) → firstOverload N P ≡ none
-    → (i l : ℕ) → i < stepCount N P → l < N .links → (b : Bound) → worstOver N P i l b ≡ false
+pub none-kept : (w : ℕ) (N : Net) (P : Plan) → firstOverload w N P ≡ none
+    → (i l : ℕ) → i < stepCount w N P → l < N .links → (b : Bound) → worstOver w N P i l b ≡ false
 unfolding firstOverload
-none-kept N P e = scan-none (stepCount N P) (N .links) (worstOver N P) e
+none-kept w N P e = scan-none (stepCount w N P) (N .links) (worstOver w N P) e
 
-pub kept-none : (N : Net) (P : Plan)
-    → ((i l : ℕ) → i < stepCount N P → l < N .links → (b : Bound) → worstOver N P i l b ≡ false) → firstOverload N P ≡ none
+pub kept-none : (w : ℕ) (N : Net) (P : Plan)
+    → ((i l : ℕ) → i < stepCount w N P → l < N .links → (b : Bound) → worstOver w N P i l b ≡ false) → firstOverload w N P ≡ none
 unfolding firstOverload
-kept-none N P h = none-scan (stepCount N P) (N .links) (worstOver N P) h
+kept-none w N P h = none-scan (stepCount w N P) (N .links) (worstOver w N P) h
 
 -- ---- the claim, but for its last part
 
-pub safe : (N : Net) (P : Plan) → firstOverload N P ≡ none
-    → (i l : ℕ) → i < stepCount N P → l < N .links → (c : Choice N P i) (b : Bound) → overloads N P i l c b ≡ false
+pub safe : (w : ℕ) (N : Net) (P : Plan) → firstOverload w N P ≡ none
+    → (i l : ℕ) → i < stepCount w N P → l < N .links → (c : Choice w N P i) (b : Bound) → overloads w N P i l c b ≡ false
 unfolding overloads worstOver
-safe N P e i l hi hl c b = kept-mono N b _ l (shown-load N P i l c b) (none-kept N P e i l hi hl b)
+safe w N P e i l hi hl c b = kept-mono N b _ l (shown-load w N P i l c b) (none-kept w N P e i l hi hl b)
 
-pub marked-overloads : (N : Net) (P : Plan) (o : Overload) → firstOverload N P ≡ some o
-    → (o .from < stepCount N P) × (o .link < N .links) × (overloads N P (o .from) (o .link) (marked N P o) (o .bound) ≡ true)
+pub marked-overloads : (w : ℕ) (N : Net) (P : Plan) (o : Overload) → firstOverload w N P ≡ some o
+    → (o .from < stepCount w N P) × (o .link < N .links) × (overloads w N P (o .from) (o .link) (marked w N P o) (o .bound) ≡ true)
 unfolding overloads worstOver firstOverload
-marked-overloads N P o e =
-    let s = scan-some (stepCount N P) (N .links) (worstOver N P) o e in (s .0, s .1, rw marked-load (s .2))
+marked-overloads w N P o e =
+    let s = scan-some (stepCount w N P) (N .links) (worstOver w N P) o e in (s .0, s .1, rw (marked-load w N P o (o .bound)) (s .2))
 
-pub found : (N : Net) (P : Plan) (i l : ℕ) → i < stepCount N P → l < N .links
-    → (c : Choice N P i) (b : Bound) → overloads N P i l c b ≡ true → (o : Overload) × (firstOverload N P ≡ some o)
-found N P i l hi hl c b w =
-    ⊎-elim (λ e. absurd (true≢false (sym w ∙ safe N P e i l hi hl c b))) (λ r. r) (option-cases (firstOverload N P))
+pub found : (w : ℕ) (N : Net) (P : Plan) (i l : ℕ) → i < stepCount w N P → l < N .links
+    → (c : Choice w N P i) (b : Bound) → overloads w N P i l c b ≡ true → (o : Overload) × (firstOverload w N P ≡ some o)
+found w N P i l hi hl c b h =
+    ⊎-elim (λ e. absurd (true≢false (sym h ∙ safe w N P e i l hi hl c b))) (λ r. r) (option-cases (firstOverload w N P))

@@ -1,21 +1,28 @@
 -- The loads and the marks of a step as code gathers them: tunnel by tunnel, or with `unit=1` flow by flow.
-use Prim.Native.Nat.{ℕ, suc, max}
+use Prim.Native.Nat.{ℕ, _+_, _≤_, max}
 use mathlib.Core.Path.{_≡_, refl, ap, ap₂, _∙_}
 use mathlib.Core.Bool.{Bool, true, false, cond, _&&_}
 use lib.Dec.{leb, ltb}
+use native.Mathlib.Omega.{arith}
 use Rattle.model.specs.Sum.{sumOver}
+use Rattle.model.specs.Largest.{largest}
 use Rattle.model.specs.Net.{Net, Plan, row}
 use Rattle.model.specs.Scan.{Bound, Overload}
 use Rattle.model.specs.ThreeSums.{oldLoad, newLoad, peakLoad}
-use Rattle.model.specs.Rule.{crosses, across, flowSum, byFlow, moverOf, onLink, counts, load, worst, mark}
+use Rattle.model.specs.Rule.{crosses, across, flowSum, byFlow, moverOf, onLink, counts, load, reach, worst, mark}
+use Rattle.model.proofs.Largests.{largest-le, largest-cong}
 use Rattle.model.proofs.Movers.{load-cong, flow-mover, movers-tunnels, mover-tunnel, flow-tunnel, on-tunnel, movers-flows, mover-flow, flow-flow, on-flow}
 
--- the larger of what a tunnel puts on a link is the larger amount, if it crosses the link
+-- the larger or the largest of what a tunnel puts on a link is the larger or the largest amount, if it crosses the link
 larger-across : (b : Bool) (u v : ℕ) → max (cond b u 0) (cond b v 0) ≡ cond b (max u v) 0
 larger-across true u v = refl
 larger-across false u v = refl
 
-rises-across : (b : Bool) (u v : ℕ) → (b && ltb (cond b u 0) (cond b v 0)) ≡ (b && ltb u v)
+largest-across : (b : Bool) (n : ℕ) (f : ℕ → ℕ) → largest n (λ k. cond b (f k) 0) ≡ cond b (largest n f) 0
+largest-across true n f = refl
+largest-across false n f = let z : largest n (λ k. 0) ≤ 0 = largest-le n (λ k. 0) 0 (λ k h. omega arith) in omega arith
+
+pub rises-across : (b : Bool) (u v : ℕ) → (b && ltb (cond b u 0) (cond b v 0)) ≡ (b && ltb u v)
 rises-across true u v = refl
 rises-across false u v = refl
 
@@ -33,19 +40,22 @@ module _ (N : Net) (e : byFlow N ≡ false) where
   unfolding across
   larger-by-tunnel l x y t = ap₂ max (on-tunnel N e l x t) (on-tunnel N e l y t) ∙ larger-across (crosses N l t) (x t) (y t)
 
-  pub worst-by-tunnel : (P : Plan) (i l t : ℕ) → worst N P i l t ≡ across N l (λ u. max (row N P i u) (row N P (suc i) u)) t
-  unfolding worst
-  worst-by-tunnel P i l t = larger-by-tunnel l (row N P i) (row N P (suc i)) t
+  pub worst-by-tunnel : (w : ℕ) (P : Plan) (i l t : ℕ) → worst w N P i l t ≡ across N l (λ u. largest (reach w P i) (λ k. row N P (i + k) u)) t
+  unfolding worst across
+  worst-by-tunnel w P i l t =
+      largest-cong (reach w P i) _ _ (λ k _. on-tunnel N e l (row N P (i + k)) t) ∙ largest-across (crosses N l t) (reach w P i) (λ k. row N P (i + k) t)
 
   pub counts-by-tunnel : (t : ℕ) → counts N Bound.protected t ≡ leb (N .class (N .flow t)) 1
   unfolding counts
   counts-by-tunnel t = simp (flow-tunnel N e)
 
-  -- a mark says that the tunnel's own amount rises
-  pub mark-by-tunnel : (P : Plan) (o : Overload) (t : ℕ) → mark N P o t ≡ (crosses N (o .link) t && ltb (row N P (o .from) t) (row N P (suc (o .from)) t))
+  -- a mark says that the tunnel's own largest amount exceeds that of the first row
+  pub mark-by-tunnel : (w : ℕ) (P : Plan) (o : Overload) (t : ℕ)
+      → mark w N P o t ≡ (crosses N (o .link) t && ltb (row N P (o .from) t) (largest (reach w P (o .from)) (λ k. row N P (o .from + k) t)))
   unfolding mark across
-  mark-by-tunnel P o t =
-      simp (mover-tunnel N e, on-tunnel N e) (rises-across (crosses N (o .link) t) (row N P (o .from) t) (row N P (suc (o .from)) t))
+  mark-by-tunnel w P o t =
+      simp (mover-tunnel N e, on-tunnel N e, worst-by-tunnel w P)
+      (rises-across (crosses N (o .link) t) (row N P (o .from) t) (largest (reach w P (o .from)) (λ k. row N P (o .from + k) t)))
 
   -- the three sums of an even plan
   pub sums-by-tunnel : (b : Bound) (l : ℕ)
@@ -67,20 +77,20 @@ module _ (N : Net) (e : byFlow N ≡ true) where
   pub larger-by-flow : (l : ℕ) (x y : ℕ → ℕ) (f : ℕ) → max (onLink N l x f) (onLink N l y f) ≡ max (flowSum N (across N l x) f) (flowSum N (across N l y) f)
   larger-by-flow l x y f = ap₂ max (on-flow N e l x f) (on-flow N e l y f)
 
-  pub worst-by-flow : (P : Plan) (i l f : ℕ) → worst N P i l f ≡ max (flowSum N (across N l (row N P i)) f) (flowSum N (across N l (row N P (suc i))) f)
+  pub worst-by-flow : (w : ℕ) (P : Plan) (i l f : ℕ) → worst w N P i l f ≡ largest (reach w P i) (λ k. flowSum N (across N l (row N P (i + k))) f)
   unfolding worst
-  worst-by-flow P i l f = larger-by-flow l (row N P i) (row N P (suc i)) f
+  worst-by-flow w P i l f = largest-cong (reach w P i) _ _ (λ k _. on-flow N e l (row N P (i + k)) f)
 
   pub counts-by-flow : (f : ℕ) → counts N Bound.protected f ≡ leb (N .class f) 1
   unfolding counts
   counts-by-flow f = simp (flow-flow N e)
 
-  -- a mark says that the sum of the tunnel's flow rises
-  pub mark-by-flow : (P : Plan) (o : Overload) (t : ℕ)
-      → mark N P o t
-      ≡ (crosses N (o .link) t && ltb (flowSum N (across N (o .link) (row N P (o .from))) (N .flow t)) (flowSum N (across N (o .link) (row N P (suc (o .from)))) (N .flow t)))
+  -- a mark says that the largest sum of the tunnel's flow exceeds that of the first row
+  pub mark-by-flow : (w : ℕ) (P : Plan) (o : Overload) (t : ℕ)
+      → mark w N P o t
+      ≡ (crosses N (o .link) t && ltb (flowSum N (across N (o .link) (row N P (o .from))) (N .flow t)) (largest (reach w P (o .from)) (λ k. flowSum N (across N (o .link) (row N P (o .from + k))) (N .flow t))))
   unfolding mark
-  mark-by-flow P o t = simp (mover-flow N e, on-flow N e)
+  mark-by-flow w P o t = simp (mover-flow N e, on-flow N e, worst-by-flow w P)
 
   -- the three sums of an even plan; those of old and of new are also the tunnels' (`load-tunnels` of Movers.antt)
   pub sums-by-flow : (b : Bound) (l : ℕ)

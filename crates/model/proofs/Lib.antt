@@ -1,5 +1,6 @@
 pub mod Sums
 pub mod Searches
+pub mod Largests
 pub mod Table
 pub mod Listed
 pub mod Sets
@@ -7,10 +8,12 @@ pub mod Outcomes
 pub mod Scans
 pub mod Movers
 pub mod Gathered
+pub mod Windows
 pub mod Choices
 pub mod Rows
 pub mod Evens
 pub mod Bounded
 pub mod Weaker
+pub mod Today
 pub mod Main
 pub mod Cases

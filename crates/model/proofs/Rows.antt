@@ -9,14 +9,16 @@ use native.Mathlib.Nat.{eq-or-lt-of-le, le-of-suc-le-suc, le-max-left, le-max-ri
 use borrow.Author.Tests.{eqb-true, eq-eqb, ne-eqb, le-leb, lt-leb}
 use lib.Dec.{leb, eqb}
 use Rattle.model.specs.Sum.{sumOver}
+use Rattle.model.specs.Largest.{largest}
 use Rattle.model.specs.Search.{onlyIf, isNone, first}
 use Rattle.model.specs.Net.{Net, Plan, row}
 use Rattle.model.specs.Scan.{scan}
-use Rattle.model.specs.Rule.{exceeds, flowSum, missedBy, between, missedRate, missedIn, missedRow, stepCount, worst, worstOver, firstOverload, accepted}
+use Rattle.model.specs.Rule.{onLink, exceeds, flowSum, missedBy, between, missedRate, missedIn, missedRow, stepCount, reach, worst, worstOver, firstOverload, accepted}
 use Rattle.model.specs.Even.{evenRow, even}
 use Rattle.model.specs.OneRate.{OneRate}
 use Rattle.model.proofs.Sums.{sum-cong, sum-line}
 use Rattle.model.proofs.Searches.{order, only-none, only-false, or-none, first-none, none-first, first-cong, none-true, true-none, not-false, and-true}
+use Rattle.model.proofs.Largests.{largest-cong}
 use Rattle.model.proofs.Scans.{scan-cong}
 use Rattle.model.proofs.Movers.{on-same, load-cong}
 
@@ -64,13 +66,15 @@ module _ (N : Net) (P Q : Plan) (s : Same N P Q) where
       (s .parts) (sum-cong (N .tunnels) _ (λ t k _. row-same a t (le-of-suc-le-suc ha) k))))
       ∙ ap (λ (n : ℕ). first (suc n) (λ a. first (N .flows) (missedIn N Q a))) (s .steps)
 
-  pub overload-same : firstOverload N P ≡ firstOverload N Q
-  unfolding firstOverload stepCount worstOver worst
-  overload-same =
-      scan-cong (P .steps) (N .links) (worstOver N P) (worstOver N Q) (λ i l hi hl b.
-      ap₂ (λ (parts w : ℕ). exceeds N b parts l w) (s .parts)
-      (load-cong N b (λ m k. ap₂ max (on-same N l (λ t. row-same i t (omega arith)) m k) (on-same N l (λ t. row-same (suc i) t hi) m k))))
-      ∙ ap (λ (n : ℕ). scan n (N .links) (worstOver N Q)) (s .steps)
+  pub overload-same : (w : ℕ) → firstOverload w N P ≡ firstOverload w N Q
+  unfolding firstOverload stepCount worstOver worst reach
+  overload-same w =
+      scan-cong (suc (P .steps - w)) (N .links) (worstOver w N P) (worstOver w N Q) (λ i l hi hl b.
+      ap₂ (λ (parts v : ℕ). exceeds N b parts l v) (s .parts)
+      (load-cong N b (λ m h.
+      largest-cong (min (i + w) (P .steps) - i) _ _ (λ k g. on-same N l (λ t. row-same (i + k) t (omega arith)) m h)
+      ∙ ap (λ (n : ℕ). largest (min (i + w) n - i) (λ k. onLink N l (row N Q (i + k)) m)) (s .steps))))
+      ∙ ap (λ (n : ℕ). scan (suc (n - w)) (N .links) (worstOver w N Q)) (s .steps)
 
 -- ---- sums that lie between the rates
 
@@ -116,10 +120,10 @@ next-between N parts f = lies-between N parts f _ (mul-le-mul-left parts (min-le
 
 -- ---- accepted: rows that add up, and no overload
 
-pub accepted-both : (N : Net) (P : Plan) → (accepted N P ≡ true) ↔ ((missedRow N P ≡ none) × (firstOverload N P ≡ none))
+pub accepted-both : (w : ℕ) (N : Net) (P : Plan) → (accepted w N P ≡ true) ↔ ((missedRow N P ≡ none) × (firstOverload w N P ≡ none))
 unfolding accepted
-accepted-both N P = (
-  λ e. let s = and-true (isNone (missedRow N P)) (isNone (firstOverload N P)) e in (none-true _ (s .0), none-true _ (s .1)),
+accepted-both w N P = (
+  λ e. let s = and-true (isNone (missedRow N P)) (isNone (firstOverload w N P)) e in (none-true _ (s .0), none-true _ (s .1)),
   λ h. ap₂ _&&_ (true-none _ (h .0)) (true-none _ (h .1)),
 )
 

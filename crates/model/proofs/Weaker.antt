@@ -1,74 +1,104 @@
 -- Rules that ask less: the loads that they weigh are no larger.
-use Prim.Native.Nat.{ℕ, suc, _≤_, _<_, max}
+use Prim.Native.Nat.{ℕ, _+_, _-_, _≤_, _<_, min}
 use mathlib.Core.Path.{_≡_, refl, sym, ap, ap₂, _∙_, fun-ext}
 use mathlib.Core.Bool.{Bool, true, false, not, _&&_}
 use mathlib.Core.Option.{some}
 use native.Mathlib.Omega.{arith}
-use native.Mathlib.Nat.{le-of-eq, le-trans, le-max-left, le-max-right, max-le}
+use native.Mathlib.Nat.{le-of-eq, le-trans}
 use lib.Dec.{leb}
 use Rattle.model.specs.Sum.{sumOver}
+use Rattle.model.specs.Largest.{largest}
 use Rattle.model.specs.Net.{Net, Plan, row, withUnit}
 use Rattle.model.specs.Scan.{Bound}
 use Rattle.model.specs.Search.{onlyIf, isNone}
 use Rattle.model.specs.Even.{evenRow, even, fewest, leavesScratch, keepsScratch}
-use Rattle.model.specs.Rule.{crosses, across, flowSum, byFlow, movers, moverOf, flowOf, onLink, counts, load, exceeds, missedBy, missedRate, missedRow, missedIn, between, stepCount, worst, worstOver, accepted}
+use Rattle.model.specs.Rule.{crosses, across, flowSum, byFlow, movers, moverOf, flowOf, onLink, counts, load, exceeds, missedBy, missedRate, missedRow, missedIn, between, stepCount, reach, worst, worstOver, accepted}
 use Rattle.model.specs.Weaker.{InFlows, Weaker, AnyUnit}
 use Rattle.model.proofs.Sums.{sum-mono, sum-groups}
 use Rattle.model.proofs.Searches.{first-cong}
-use Rattle.model.proofs.Movers.{flow-mover, load-tunnels}
+use Rattle.model.proofs.Largests.{largest-ge, largest-le}
+use Rattle.model.proofs.Movers.{flow-mover, load-mono, load-tunnels}
+use Rattle.model.proofs.Windows.{window-end}
 use Rattle.model.proofs.Bounded.{fewest-some, fewest-least}
 use Rattle.model.proofs.Choices.{kept-mono, none-kept, kept-none}
 use Rattle.model.proofs.Rows.{accepted-both}
 
--- a plan passes for another network that has the same sums and no larger worst loads
-module _ (N M : Net) (P : Plan) (rows : missedRow N P ≡ missedRow M P) where
-  passes : ((i l : ℕ) → i < stepCount M P → l < M .links → (b : Bound) → worstOver N P i l b ≡ false → worstOver M P i l b ≡ false)
-      → stepCount M P ≡ stepCount N P → M .links ≡ N .links → accepted N P ≡ true → accepted M P ≡ true
-  passes h hs hl e =
-      let a = accepted-both N P .0 e in
-      accepted-both M P .1
-      (sym rows ∙ a .0, kept-none M P (λ i l ki kl b. h i l ki kl b (none-kept N P (a .1) i l (omega (arith, hs)) (omega (arith, hl)) b)))
+-- a plan passes by a second rule, where each of its steps weighs no more than some step of the first, on the same links and by the same bounds
+module _ (w v : ℕ) (N M : Net) (P : Plan) (rows : missedRow N P ≡ missedRow M P) (links : M .links ≡ N .links) where
+  passes : ((i l : ℕ) → i < stepCount v M P → (b : Bound) → (j : ℕ) × (j < stepCount w N P) × (worstOver w N P j l b ≡ false → worstOver v M P i l b ≡ false))
+      → accepted w N P ≡ true → accepted v M P ≡ true
+  passes h e =
+      let a = accepted-both w N P .0 e in
+      accepted-both v M P .1
+      (sym rows ∙ a .0, kept-none v M P (λ i l hi hl b. let s = h i l hi b in s .2 (none-kept w N P (a .1) (s .0) l (s .1) (omega (arith, links)) b)))
 
 -- ---- flow by flow
 
-module _ (N : Net) (P : Plan) (i l : ℕ) (valid : InFlows N) where
+module _ (N : Net) (P : Plan) (i n l : ℕ) (valid : InFlows N) where
   abbrev at : ℕ → ℕ → ℕ
-  at a = across N l (row N P a)
+  at k = across N l (row N P (i + k))
 
-  -- the larger of a flow's sums is at most the sum of the larger amounts, whatever test of flows picks the traffic
-  by-flow : (c : ℕ → Bool)
-      → sumOver (N .flows) c (λ f. max (flowSum N (at i) f) (flowSum N (at (suc i)) f)) ≤ sumOver (N .tunnels) (λ t. c (N .flow t)) (λ t. max (at i t) (at (suc i) t))
+  abbrev most : ℕ → ℕ
+  most t = largest n (λ k. at k t)
+
+  -- the largest of a flow's sums is at most the sum of the largest amounts, whatever test of flows picks the traffic
+  by-flow : (c : ℕ → Bool) → sumOver (N .flows) c (λ f. largest n (λ k. flowSum N (at k) f)) ≤ sumOver (N .tunnels) (λ t. c (N .flow t)) most
   unfolding flowSum
   by-flow c =
       le-trans
-      (sum-mono (N .flows) c (λ f _ _. max-le (sum-mono (N .tunnels) _ (λ t _ _. le-max-left (at i t) (at (suc i) t))) (sum-mono (N .tunnels) _ (λ t _ _. le-max-right (at i t) (at (suc i) t)))))
-      (le-of-eq (sum-groups (N .flows) (N .tunnels) c (N .flow) (λ t. max (at i t) (at (suc i) t)) valid))
+      (sum-mono (N .flows) c (λ f _ _. largest-le n _ _ (λ k h. sum-mono (N .tunnels) _ (λ t _ _. largest-ge n (λ j. at j t) k h))))
+      (le-of-eq (sum-groups (N .flows) (N .tunnels) c (N .flow) most valid))
 
-  unit-load : (b : Bound) → load (withUnit 1 N) b (worst (withUnit 1 N) P i l) ≤ load (withUnit 0 N) b (worst (withUnit 0 N) P i l)
-  unfolding load worst onLink movers counts flowOf byFlow withUnit flowSum across crosses row
-  unit-load Bound.protected = by-flow (λ f. leb (N .class f) 1)
-  unit-load Bound.total = by-flow (λ f. true)
+unit-load : (w : ℕ) (N : Net) (P : Plan) (i l : ℕ) → InFlows N → (b : Bound)
+    → load (withUnit 1 N) b (worst w (withUnit 1 N) P i l) ≤ load (withUnit 0 N) b (worst w (withUnit 0 N) P i l)
+unfolding load worst onLink movers counts flowOf byFlow withUnit flowSum across crosses row
+unit-load w N P i l valid Bound.protected = by-flow N P i (reach w P i) l valid (λ f. leb (N .class f) 1)
+unit-load w N P i l valid Bound.total = by-flow N P i (reach w P i) l valid (λ f. true)
 
 -- the bounds do not read the unit
-same-bound : (N : Net) (u v : ℕ) (b : Bound) (parts l w : ℕ) → exceeds (withUnit u N) b parts l w ≡ exceeds (withUnit v N) b parts l w
+same-bound : (N : Net) (u v : ℕ) (b : Bound) (parts l x : ℕ) → exceeds (withUnit u N) b parts l x ≡ exceeds (withUnit v N) b parts l x
 unfolding exceeds withUnit
-same-bound N u v Bound.protected parts l w = refl
-same-bound N u v Bound.total parts l w = refl
+same-bound N u v Bound.protected parts l x = refl
+same-bound N u v Bound.total parts l x = refl
 
-pub unit-weaker : (N : Net) (P : Plan) → InFlows N → accepted (withUnit 0 N) P ≡ true → accepted (withUnit 1 N) P ≡ true
+pub unit-weaker : (w : ℕ) (N : Net) (P : Plan) → InFlows N → accepted w (withUnit 0 N) P ≡ true → accepted w (withUnit 1 N) P ≡ true
 unfolding missedRow missedIn between flowSum row stepCount worstOver withUnit
-unit-weaker N P valid =
-    passes (withUnit 0 N) (withUnit 1 N) P refl
-    (λ i l _ _ b e. kept-mono (withUnit 1 N) b (P .parts) l (unit-load N P i l valid b) (same-bound N 1 0 b (P .parts) l _ ∙ e)) refl refl
+unit-weaker w N P valid =
+    passes w w (withUnit 0 N) (withUnit 1 N) P refl refl
+    (λ i l h b. (i, h, λ e. kept-mono (withUnit 1 N) b (P .parts) l (unit-load w N P i l valid b) (same-bound N 1 0 b (P .parts) l _ ∙ e)))
 
-unit-steps : (N : Net) (q : ℕ) → InFlows N → fewest (withUnit 0 N) ≡ some q → (p : ℕ) × (fewest (withUnit 1 N) ≡ some p) × (p ≤ q)
+unit-steps : (w : ℕ) (N : Net) (q : ℕ) → InFlows N → fewest w (withUnit 0 N) ≡ some q → (p : ℕ) × (fewest w (withUnit 1 N) ≡ some p) × (p ≤ q)
 unfolding even evenRow withUnit
-unit-steps N q valid e =
-    let s = fewest-some (withUnit 0 N) q e in
-    fewest-least (withUnit 1 N) q (s .0) (s .1) (unit-weaker N (even N q) valid (s .2))
+unit-steps w N q valid e =
+    let s = fewest-some w (withUnit 0 N) q e in
+    fewest-least w (withUnit 1 N) q (s .0) (s .1) (unit-weaker w N (even N q) valid (s .2))
+
+-- ---- with a lesser lag: each window lies within one of the greater
+
+inside : (w v : ℕ) (N : Net) (P : Plan) (i : ℕ) → v ≤ w → i < stepCount v N P
+    → (j : ℕ) × (j < stepCount w N P) × (j ≤ i) × (i + reach v P i ≤ j + reach w P j)
+unfolding stepCount
+inside w v N P i h k =
+    let j : ℕ = min i (P .steps - w) in
+    let ends : min (i + v) (P .steps) ≤ min (j + w) (P .steps) = omega arith in
+    (j, omega arith, omega arith, omega (arith, window-end v P i (omega arith), window-end w P j (omega arith)))
+
+lag-load : (w v : ℕ) (N : Net) (P : Plan) (i j l : ℕ) (b : Bound) → j ≤ i → i + reach v P i ≤ j + reach w P j → load N b (worst v N P i l) ≤ load N b (worst w N P j l)
+unfolding worst
+lag-load w v N P i j l b low high =
+    load-mono N b (λ m. largest-le (reach v P i) _ _ (λ k h.
+    let e : j + (i + k - j) ≡ i + k = omega arith in
+    let in-window : i + k - j ≤ reach w P j = omega arith in
+    rw (← e) (largest-ge (reach w P j) (λ n. onLink N l (row N P (j + n)) m) (i + k - j) in-window)))
+
+pub lag-weaker : (w v : ℕ) (N : Net) (P : Plan) → v ≤ w → accepted w N P ≡ true → accepted v N P ≡ true
+unfolding worstOver
+lag-weaker w v N P h =
+    passes w v N N P refl refl
+    (λ i l k b. let s = inside w v N P i h k in (s .0, s .1, λ e. kept-mono N b (P .parts) l (lag-load w v N P i (s .0) l b (s .2) (s .3)) e))
 
 pub weaker : Weaker
-weaker = record { unit = unit-weaker; unit-steps = unit-steps }
+weaker = record { unit = unit-weaker; unit-steps = unit-steps; lag = lag-weaker }
 
 -- ---- what does not read the unit
 

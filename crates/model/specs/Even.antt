@@ -17,9 +17,9 @@ evenRow N q a t = q * N .old t + a * N .new t - a * N .old t
 unfoldable pub even : Net → ℕ → Plan
 even N q = record { parts = q; steps = q; at = evenRow N q }
 
--- the fewest even steps: the least number from 1 to 50 whose even plan is accepted
-unfoldable pub fewest : Net → Option ℕ
-fewest N = first mostSteps (λ i. onlyIf (accepted N (even N (suc i))) (suc i))
+-- the fewest even steps at a lag of w: the least number from 1 to 50 whose even plan is accepted
+unfoldable pub fewest : ℕ → Net → Option ℕ
+fewest w N = first mostSteps (λ i. onlyIf (accepted w N (even N (suc i))) (suc i))
 
 -- ---- the step bound
 
@@ -30,6 +30,11 @@ ceilDiv a b = (a + (b - 1)) / b
 unfoldable pub stepBound : ℕ → ℕ → ℕ
 stepBound scratch zero = ceilDiv 1000 scratch - 1
 stepBound scratch (suc o) = max (ceilDiv 1000 scratch - 1) (ceilDiv 1000 (suc o))
+
+-- at a lag of w, "ceil(w × (1000 - scratch)/scratch) steps, or, with overrun, ceil(1000 × w/overrun) if larger"
+unfoldable pub lagBound : ℕ → ℕ → ℕ → ℕ
+lagBound w scratch zero = ceilDiv (w * (1000 - scratch)) scratch
+lagBound w scratch (suc o) = max (ceilDiv (w * (1000 - scratch)) scratch) (ceilDiv (1000 * w) (suc o))
 
 -- "1000 × protected load is at most (1000 - scratch) × cap, and the load of all classes meets the same bound if overrun is 0, else is at most cap"
 unfoldable pub leavesScratch : Net → (ℕ → ℕ) → ℕ → Bool

@@ -1,5 +1,6 @@
 pub mod Limits
 pub mod Sum
+pub mod Largest
 pub mod Search
 pub mod Listed
 pub mod Sets
@@ -10,5 +11,7 @@ pub mod Rule
 pub mod Even
 pub mod OneRate
 pub mod ThreeSums
+pub mod Window
 pub mod Weaker
+pub mod Today
 pub mod Claim

@@ -27,6 +27,10 @@ leastShare = 20
 abbrev pub mostShare : ℕ
 mostShare = 500
 
+-- "a lag w of 1 to 4"
+abbrev pub mostLag : ℕ
+mostLag = 4
+
 -- of rule tables, by the second paper: "`switches` 1..64"; "`room` 0..65,535"; `slack` is a share, and tunnels are as many as in a network
 abbrev pub mostSwitches : ℕ
 mostSwitches = 64

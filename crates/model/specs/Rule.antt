@@ -1,9 +1,11 @@
--- The rule for a step. The step from row i to row i + 1, which the paper numbers i + 1, is named here by i.
-use Prim.Native.Nat.{ℕ, suc, _+_, _*_, min, max}
+-- The rule for a step, at a lag of w. The step that leads from row i, which the paper numbers i + 1, is named here by i: with a lag it is the window of rows
+-- that begins with row i.
+use Prim.Native.Nat.{ℕ, suc, _+_, _-_, _*_, min, max}
 use mathlib.Core.Bool.{Bool, true, cond, not, _&&_}
 use mathlib.Core.Option.{Option, orElse}
 use lib.Dec.{leb, ltb, eqb}
 use Rattle.model.specs.Sum.{sumOver}
+use Rattle.model.specs.Largest.{largest, peakAt}
 use Rattle.model.specs.Sets.{inSet}
 use Rattle.model.specs.Search.{onlyIf, isNone, first}
 use Rattle.model.specs.Outcome.{Place}
@@ -52,8 +54,8 @@ load N b y = sumOver (movers N) (counts N b) y
 
 -- protected amounts "add up to at most parts × cap"; "1000 times the worst amounts of all classes is at most (1000 + overrun) × parts × cap"
 unfoldable pub exceeds : Net → Bound → ℕ → ℕ → ℕ → Bool
-exceeds N protected parts l w = ltb (parts * N .cap l) w
-exceeds N total parts l w = ltb ((1000 + N .overrun) * (parts * N .cap l)) (1000 * w)
+exceeds N protected parts l x = ltb (parts * N .cap l) x
+exceeds N total parts l x = ltb ((1000 + N .overrun) * (parts * N .cap l)) (1000 * x)
 
 -- ---- the sums of the flows
 
@@ -79,51 +81,61 @@ missedRow N P = first (suc (P .steps)) (λ a. first (N .flows) (missedIn N P a))
 
 -- ---- what the movers show in a step
 
--- the steps that are looked at: all that the plan has
-unfoldable pub stepCount : Net → Plan → ℕ
-stepCount N P = P .steps
+-- the steps that are looked at: "for a from 0 up to the greater of steps - w and 0"
+unfoldable pub stepCount : ℕ → Net → Plan → ℕ
+stepCount w N P = suc (P .steps - w)
 
--- "A tunnel's worst amount in the step is the larger of its two"; of a flow's sums "the larger sum counts"
-unfoldable pub worst : Net → Plan → ℕ → ℕ → ℕ → ℕ
-worst N P i l m = max (onLink N l (row N P i) m) (onLink N l (row N P (suc i)) m)
+-- how many rows follow row i in its window: "from row a to the lesser of a + w and `steps`"
+unfoldable pub reach : ℕ → Plan → ℕ → ℕ
+reach w P i = min (i + w) (P .steps) - i
 
--- "A choice in step a has each tunnel show its amount in row a-1 or its amount in row a, each tunnel for itself", with `unit=1` "choices of flows
--- instead of tunnels": the movers that show the later row
-abbrev pub Choice : Net → Plan → ℕ → Type 0
-Choice N P i = ℕ → Bool
+-- "The worst amount is the largest in the window"; "Under `unit=1` flow sums take the place of amounts"
+unfoldable pub worst : ℕ → Net → Plan → ℕ → ℕ → ℕ → ℕ
+worst w N P i l m = largest (reach w P i) (λ k. onLink N l (row N P (i + k)) m)
+
+-- the row of the window that is n rows after row i; a number beyond the window stands for its last row
+unfoldable pub rowIn : ℕ → Plan → ℕ → ℕ → ℕ
+rowIn w P i n = i + min n (reach w P i)
+
+-- "Our guarantee then lets each tunnel, or with `unit=1` each flow, show any row of the window": how many rows after row i
+abbrev pub Choice : ℕ → Net → Plan → ℕ → Type 0
+Choice w N P i = ℕ → ℕ
 
 -- the amounts that a choice shows on link l
-unfoldable pub shown : (N : Net) (P : Plan) (i l : ℕ) → Choice N P i → ℕ → ℕ
-shown N P i l c m = onLink N l (row N P (cond (c m) (suc i) i)) m
+unfoldable pub shown : (w : ℕ) (N : Net) (P : Plan) (i l : ℕ) → Choice w N P i → ℕ → ℕ
+shown w N P i l c m = onLink N l (row N P (rowIn w P i (c m))) m
 
 -- "It overloads a link when the amounts shown, taken in place of the worst amounts, break one of the two bounds."
-unfoldable pub overloads : (N : Net) (P : Plan) (i l : ℕ) → Choice N P i → Bound → Bool
-overloads N P i l c b = exceeds N b (P .parts) l (load N b (shown N P i l c))
+unfoldable pub overloads : (w : ℕ) (N : Net) (P : Plan) (i l : ℕ) → Choice w N P i → Bound → Bool
+overloads w N P i l c b = exceeds N b (P .parts) l (load N b (shown w N P i l c))
 
 -- ---- the worst-load rule, its first breach, and the marks
 
 -- the worst amounts break the bound
-unfoldable pub worstOver : Net → Plan → ℕ → ℕ → Bound → Bool
-worstOver N P i l b = exceeds N b (P .parts) l (load N b (worst N P i l))
+unfoldable pub worstOver : ℕ → Net → Plan → ℕ → ℕ → Bound → Bool
+worstOver w N P i l b = exceeds N b (P .parts) l (load N b (worst w N P i l))
 
-unfoldable pub firstOverload : Net → Plan → Option Overload
-firstOverload N P = scan (stepCount N P) (N .links) (worstOver N P)
+unfoldable pub firstOverload : ℕ → Net → Plan → Option Overload
+firstOverload w N P = scan (stepCount w N P) (N .links) (worstOver w N P)
 
 -- "A plan is accepted exactly when its rows add up and every step meets the worst-load rule on every link."
-unfoldable pub accepted : Net → Plan → Bool
-accepted N P = isNone (missedRow N P) && isNone (firstOverload N P)
+unfoldable pub accepted : ℕ → Net → Plan → Bool
+accepted w N P = isNone (missedRow N P) && isNone (firstOverload w N P)
 
--- "a tunnel is 1 exactly if it crosses the named link and its amount rises in the named step"; "the mark falls on a flow's tunnels across the link if that
--- sum rises"
-unfoldable pub mark : Net → Plan → Overload → ℕ → Bool
-mark N P o t =
+-- "a tunnel is 1 exactly if it crosses the named link" and "the largest exceeds that of row a"; "the mark falls on a flow's tunnels across the link"
+unfoldable pub mark : ℕ → Net → Plan → Overload → ℕ → Bool
+mark w N P o t =
     crosses N (o .link) t
-    && ltb (onLink N (o .link) (row N P (o .from)) (moverOf N t)) (onLink N (o .link) (row N P (suc (o .from))) (moverOf N t))
+    && ltb (onLink N (o .link) (row N P (o .from)) (moverOf N t)) (worst w N P (o .from) (o .link) (moverOf N t))
 
 -- the movers of the tunnels that s picks
 unfoldable pub moversOf : Net → (ℕ → Bool) → ℕ → Bool
 moversOf N s m = not (isNone (first (N .tunnels) (λ t. onlyIf (s t && eqb (moverOf N t) m) t)))
 
--- "the choice in the named step in which the marked tunnels show the later row and all others the earlier"; with `unit=1` "the flows of the marked tunnels"
-unfoldable pub marked : (N : Net) (P : Plan) (o : Overload) → Choice N P (o .from)
-marked N P o = moversOf N (mark N P o)
+-- the choice in which those movers show a row where they put the most on link l, "the rest at row a"
+unfoldable pub atLargest : (w : ℕ) (N : Net) (P : Plan) (i l : ℕ) → (ℕ → Bool) → Choice w N P i
+atLargest w N P i l s m = cond (moversOf N s m) (peakAt (reach w P i) (λ k. onLink N l (row N P (i + k)) m)) 0
+
+-- "the marked ones overload the named link at their largest, the rest at row a"
+unfoldable pub marked : (w : ℕ) (N : Net) (P : Plan) (o : Overload) → Choice w N P (o .from)
+marked w N P o = atLargest w N P (o .from) (o .link) (mark w N P o)

@@ -1,5 +1,5 @@
 -- The even plan's loads by three sums for each link, and the law that they decide when it is accepted and where it overloads first.
-use Prim.Native.Nat.{ℕ, suc, _+_, _-_, _*_, _≤_, _<_, max}
+use Prim.Native.Nat.{ℕ, suc, _+_, _-_, _*_, _≤_, _<_, min, max}
 use mathlib.Core.Path.{_≡_}
 use mathlib.Core.Logic.{_↔_}
 use mathlib.Core.Bool.{true}
@@ -10,7 +10,7 @@ use Rattle.model.specs.Rule
 use Rattle.model.specs.Rule.{onLink, load, exceeds, missedRate, firstOverload}
 use Rattle.model.specs.Even.{even}
 
--- over the tunnels across link l that a bound counts: the sums of old, of new, and of the larger of the two
+-- over the movers that a bound counts, on link l: the sums of old, of new, and of the larger of the two
 unfoldable pub oldLoad : Net → Bound → ℕ → ℕ
 oldLoad N b l = load N b (onLink N l (N .old))
 
@@ -20,15 +20,15 @@ newLoad N b l = load N b (onLink N l (N .new))
 unfoldable pub peakLoad : Net → Bound → ℕ → ℕ
 peakLoad N b l = load N b (λ t. max (onLink N l (N .old) t) (onLink N l (N .new) t))
 
--- the worst load in the step from row i of q steps, and the larger of those in the first step and in the last
-unfoldable pub stepLoad : Net → Bound → ℕ → ℕ → ℕ → ℕ
-stepLoad N b q i l = (q - suc i) * oldLoad N b l + i * newLoad N b l + peakLoad N b l
+-- the worst load in the step from row i of q steps, where a window has m = min w q more rows, and the larger of those in the first step and in the last
+unfoldable pub stepLoad : ℕ → Net → Bound → ℕ → ℕ → ℕ → ℕ
+stepLoad w N b q i l = (q - (i + min w q)) * oldLoad N b l + i * newLoad N b l + min w q * peakLoad N b l
 
-unfoldable pub endLoad : Net → Bound → ℕ → ℕ → ℕ
-endLoad N b q l = (q - 1) * max (oldLoad N b l) (newLoad N b l) + peakLoad N b l
+unfoldable pub endLoad : ℕ → Net → Bound → ℕ → ℕ → ℕ
+endLoad w N b q l = (q - min w q) * max (oldLoad N b l) (newLoad N b l) + min w q * peakLoad N b l
 
 pub record ThreeSums : Type 0 where
-  pub accepted : (N : Net) → missedRate N ≡ none → (q : ℕ) → 0 < q
-      → (Rule.accepted N (even N q) ≡ true)
-      ↔ ((l : ℕ) → l < N .links → (endLoad N protected q l ≤ q * N .cap l) × (1000 * endLoad N total q l ≤ (1000 + N .overrun) * (q * N .cap l)))
-  pub overload : (N : Net) (q : ℕ) → firstOverload N (even N q) ≡ scan q (N .links) (λ i l b. exceeds N b q l (stepLoad N b q i l))
+  pub accepted : (w : ℕ) (N : Net) → missedRate N ≡ none → (q : ℕ)
+      → (Rule.accepted w N (even N q) ≡ true)
+      ↔ ((l : ℕ) → l < N .links → (endLoad w N protected q l ≤ q * N .cap l) × (1000 * endLoad w N total q l ≤ (1000 + N .overrun) * (q * N .cap l)))
+  pub overload : (w : ℕ) (N : Net) (q : ℕ) → firstOverload w N (even N q) ≡ scan (suc (q - w)) (N .links) (λ i l b. exceeds N b q l (stepLoad w N b q i l))

@@ -13,9 +13,11 @@ InFlows N = (t : ℕ) → t < N .tunnels → N .flow t < N .flows
 
 pub record Weaker : Type 0 where
   -- "What passes with `unit=0` passes with `unit=1`"
-  pub unit : (N : Net) (P : Plan) → InFlows N → accepted (withUnit 0 N) P ≡ true → accepted (withUnit 1 N) P ≡ true
+  pub unit : (w : ℕ) (N : Net) (P : Plan) → InFlows N → accepted w (withUnit 0 N) P ≡ true → accepted w (withUnit 1 N) P ≡ true
   -- so its fewest even steps are no more
-  pub unit-steps : (N : Net) (q : ℕ) → InFlows N → fewest (withUnit 0 N) ≡ some q → (p : ℕ) × (fewest (withUnit 1 N) ≡ some p) × (p ≤ q)
+  pub unit-steps : (w : ℕ) (N : Net) (q : ℕ) → InFlows N → fewest w (withUnit 0 N) ≡ some q → (p : ℕ) × (fewest w (withUnit 1 N) ≡ some p) × (p ≤ q)
+  -- "passing with w means passing with less"
+  pub lag : (w v : ℕ) (N : Net) (P : Plan) → v ≤ w → accepted w N P ≡ true → accepted v N P ≡ true
 
 -- the sums of a network and of a plan's rows, and whether a network keeps its scratch, are the same with any unit
 pub record AnyUnit : Type 0 where
