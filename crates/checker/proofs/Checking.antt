@@ -49,13 +49,13 @@ found-some none m i l e = let z : _≡_ {A = ℕ} 0 1 = cc in absurd (omega arit
 found-some (some w) m i l e = record { overload = w; found = refl; number = cc; from = cc; link = cc }
 
 -- it names a step and a link that are there
-pub found-in : (N : Net) (P : Plan) (m i l : ℕ) → Named (firstOverload N P) m i l → (i < P .steps) × (l < N .links)
+pub found-in : (N : Net) (P : Plan) (m i l : ℕ) → 0 < P .steps → Named (firstOverload 1 N P) m i l → (i < P .steps) × (l < N .links)
 unfolding stepCount
-found-in N P m i l d = let s = marked-overloads N P (d .overload) (d .found) in (omega (arith, s .0, d .from), omega (arith, s .1, d .link))
+found-in N P m i l h d = let s = marked-overloads 1 N P (d .overload) (d .found) in (omega (arith, s .0, d .from), omega (arith, s .1, d .link))
 
-pub found-gives : (n p : List ℕ) (m i l : ℕ) (marks ys : List ℕ) → Named (firstOverload (networkOf n) (planOf p)) m i l
+pub found-gives : (n p : List ℕ) (m i l : ℕ) (marks ys : List ℕ) → Named (firstOverload 1 (networkOf n) (planOf p)) m i l
     → ys ≡ marksAt (networkOf n) (planOf p) i l (networkOf n .tunnels) ++ drop (networkOf n .tunnels) marks
-    → Gives n p (good (firstOverload (networkOf n) (planOf p))) marks (Refused m (i + 1) l) ys
+    → Gives n p (good (firstOverload 1 (networkOf n) (planOf p))) marks (Refused m (i + 1) l) ys
 unfolding mark
 found-gives n p m i l marks ys d e =
     gives-eq n p _ (good (some (d .overload))) marks _ ys (ap good (sym (d .found))) (
@@ -65,8 +65,8 @@ found-gives n p m i l marks ys d e =
 
 -- ---- each function's returns
 
-pub none-gives : (n p marks ys : List ℕ) → firstOverload (networkOf n) (planOf p) ≡ none → ys ≡ marksOf (λ t. false) (networkOf n .tunnels) ++ drop (networkOf n .tunnels) marks
-    → Gives n p (good (firstOverload (networkOf n) (planOf p))) marks (Done (networkOf n .tunnels)) ys
+pub none-gives : (n p marks ys : List ℕ) → firstOverload 1 (networkOf n) (planOf p) ≡ none → ys ≡ marksOf (λ t. false) (networkOf n .tunnels) ++ drop (networkOf n .tunnels) marks
+    → Gives n p (good (firstOverload 1 (networkOf n) (planOf p))) marks (Done (networkOf n .tunnels)) ys
 none-gives n p marks ys e h = gives-eq n p _ (good none) marks _ ys (ap good (sym e)) (refl, h)
 
 passed-on : (n p : List ℕ) (o : Outcome (List ℕ)) (next : List ℕ → Outcome (Option Overload)) (marks : List ℕ) (a : Answer) → a ≡ done o → NotDone a
@@ -82,6 +82,6 @@ module _ (n p marks : List ℕ) where
   pub short-gives : judgePair n p ≡ good p → length marks < networkOf n .tunnels → Gives n p (verdict n p (length marks)) marks (Refused 10 (networkOf n .tunnels) 0) marks
   short-gives e h = gives-eq n p (verdict n p (length marks)) (refused noRoom (networkOf n .tunnels) 0) marks _ marks (simp (e, lt-leb (networkOf n .tunnels) (length marks) h)) (refl, refl)
 
-  pub steps-give : (r : Answer) (m : List ℕ) → judgePair n p ≡ good p → networkOf n .tunnels ≤ length marks → Gives n p (good (firstOverload (networkOf n) (planOf p))) marks r m
+  pub steps-give : (r : Answer) (m : List ℕ) → judgePair n p ≡ good p → networkOf n .tunnels ≤ length marks → Gives n p (good (firstOverload 1 (networkOf n) (planOf p))) marks r m
       → Gives n p (verdict n p (length marks)) marks r m
-  steps-give r m e h g = gives-eq n p (verdict n p (length marks)) (good (firstOverload (networkOf n) (planOf p))) marks r m (simp (e, le-leb (networkOf n .tunnels) (length marks) h)) g
+  steps-give r m e h g = gives-eq n p (verdict n p (length marks)) (good (firstOverload 1 (networkOf n) (planOf p))) marks r m (simp (e, le-leb (networkOf n .tunnels) (length marks) h)) g

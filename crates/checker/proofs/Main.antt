@@ -17,27 +17,27 @@ use Rattle.checker.specs.Claim.{Reaches, Checker}
 use Rattle.checker.proofs.Pairs.{pair-good}
 
 -- what a verdict on the steps tells
-reached : (n p : List ℕ) (room : ℕ) (x : Option Overload) → verdict n p room ≡ good x → Reaches n p room × (firstOverload (networkOf n) (planOf p) ≡ x)
+reached : (n p : List ℕ) (room : ℕ) (x : Option Overload) → verdict n p room ≡ good x → Reaches n p room × (firstOverload 1 (networkOf n) (planOf p) ≡ x)
 unfolding networkOf
 reached n p room x e =
-    let a = then-good (judgePair n p) (λ q. cond (leb (networkOf n .tunnels) room) (good (firstOverload (networkOf n) (planOf q))) (refused noRoom (networkOf n .tunnels) 0)) x e in
+    let a = then-good (judgePair n p) (λ q. cond (leb (networkOf n .tunnels) room) (good (firstOverload 1 (networkOf n) (planOf q))) (refused noRoom (networkOf n .tunnels) 0)) x e in
     let j = pair-good n p (a .0) (a .1) in
-    let f = cond-good (leb (networkOf n .tunnels) room) (good (firstOverload (networkOf n) (planOf (a .0)))) _ (networkOf n .tunnels) 0 x (a .2) in (
+    let f = cond-good (leb (networkOf n .tunnels) room) (good (firstOverload 1 (networkOf n) (planOf (a .0)))) _ (networkOf n .tunnels) 0 x (a .2) in (
       record { network = j .network; plan = j .plan; tunnels = j .checkable .tunnels; rows = j .rows; room = leb-true (networkOf n .tunnels) room (f .0) },
-      ap (λ (q : List ℕ). firstOverload (networkOf n) (planOf q)) (sym (j .same)) ∙ good-same _ _ (f .1),
+      ap (λ (q : List ℕ). firstOverload 1 (networkOf n) (planOf q)) (sym (j .same)) ∙ good-same _ _ (f .1),
     )
 
 -- and what reaches the steps gets their verdict
-pub weighed : (n p : List ℕ) (room : ℕ) → Reaches n p room → verdict n p room ≡ good (firstOverload (networkOf n) (planOf p))
+pub weighed : (n p : List ℕ) (room : ℕ) → Reaches n p room → verdict n p room ≡ good (firstOverload 1 (networkOf n) (planOf p))
 weighed n p room r = simp (r .network, r .plan, eq-eqb (planSizes p .tunnels) (networkOf n .tunnels) (r .tunnels), r .rows, le-leb (networkOf n .tunnels) room (r .room))
 
 pub checker : Checker
 checker = record {
   done = λ n p room. (
-    λ e. let r = reached n p room none e in (r .0, none-kept (networkOf n) (planOf p) (r .1)),
-    λ h. weighed n p room (h .0) ∙ ap good (kept-none (networkOf n) (planOf p) (h .1)),
+    λ e. let r = reached n p room none e in (r .0, none-kept 1 (networkOf n) (planOf p) (r .1)),
+    λ h. weighed n p room (h .0) ∙ ap good (kept-none 1 (networkOf n) (planOf p) (h .1)),
   );
-  safe = λ n p room e. safe (networkOf n) (planOf p) (reached n p room none e .1);
-  shown = λ n p room o e. marked-overloads (networkOf n) (planOf p) o (reached n p room (some o) e .1);
-  found = λ n p room r i l hi hl c b w. let f = found (networkOf n) (planOf p) i l hi hl c b w in (f .0, weighed n p room r ∙ ap good (f .1));
+  safe = λ n p room e. safe 1 (networkOf n) (planOf p) (reached n p room none e .1);
+  shown = λ n p room o e. marked-overloads 1 (networkOf n) (planOf p) o (reached n p room (some o) e .1);
+  found = λ n p room r i l hi hl c b w. let f = found 1 (networkOf n) (planOf p) i l hi hl c b w in (f .0, weighed n p room r ∙ ap good (f .1));
 }

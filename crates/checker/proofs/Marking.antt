@@ -12,7 +12,7 @@ use Rattle.model.specs.Net.{Net, Plan, row}
 use Rattle.model.specs.Scan.{Bound}
 use Rattle.model.specs.Rule.{byFlow, crosses, across, flowSum, mark}
 use Rattle.model.proofs.Searches.{cond-most}
-use Rattle.model.proofs.Gathered.{mark-by-tunnel, mark-by-flow}
+use Rattle.model.proofs.Today.{mark-tunnel, mark-flow}
 use Rattle.judges.specs.Sums.{Gathered}
 use Rattle.judges.proofs.Gathering.{gathered-all}
 use Rattle.lists.specs.Lists.{networkSizes, networkOf, planSizes, planOf}
@@ -37,14 +37,14 @@ sum-of n x s t f g e h = gathered-all (networkOf n) x s f g h ∙ ap (flowSum (n
 
 -- a tunnel's mark, by its set and by its amounts or its flow's
 module _ (N : Net) (P : Plan) (i l t via earlier later m : ℕ) (hv : via ≡ N .via t) (e : m ≡ cond (inSet via l && ltb earlier later) 1 0) where
-  mark-of : (u v : ℕ) → mark N P (record { bound = Bound.protected; from = i; link = l }) t ≡ (crosses N l t && ltb u v) → earlier ≡ u → later ≡ v
-      → m ≡ cond (mark N P (record { bound = Bound.protected; from = i; link = l }) t) 1 0
+  mark-of : (u v : ℕ) → mark 1 N P (record { bound = Bound.protected; from = i; link = l }) t ≡ (crosses N l t && ltb u v) → earlier ≡ u → later ≡ v
+      → m ≡ cond (mark 1 N P (record { bound = Bound.protected; from = i; link = l }) t) 1 0
   unfolding crosses
   mark-of u v s he hl = e ∙ ap₂ (λ (a b : Bool). cond (a && b) 1 0) (ap (λ (w : ℕ). inSet w l) hv) (ap₂ ltb he hl) ∙ ap (λ (b : Bool). cond b 1 0) (sym s)
 
-  pub mark-of-tunnel : byFlow N ≡ false → earlier ≡ row N P i t → later ≡ row N P (suc i) t → m ≡ cond (mark N P (record { bound = Bound.protected; from = i; link = l }) t) 1 0
-  mark-of-tunnel one he hl = mark-of _ _ (mark-by-tunnel N one P _ t) he hl
+  pub mark-of-tunnel : byFlow N ≡ false → i < P .steps → earlier ≡ row N P i t → later ≡ row N P (suc i) t → m ≡ cond (mark 1 N P (record { bound = Bound.protected; from = i; link = l }) t) 1 0
+  mark-of-tunnel one h he hl = mark-of _ _ (mark-tunnel N one P _ t h) he hl
 
-  pub mark-of-flow : byFlow N ≡ true → earlier ≡ flowSum N (across N l (row N P i)) (N .flow t) → later ≡ flowSum N (across N l (row N P (suc i))) (N .flow t)
-      → m ≡ cond (mark N P (record { bound = Bound.protected; from = i; link = l }) t) 1 0
-  mark-of-flow whole he hl = mark-of _ _ (mark-by-flow N whole P _ t) he hl
+  pub mark-of-flow : byFlow N ≡ true → i < P .steps → earlier ≡ flowSum N (across N l (row N P i)) (N .flow t) → later ≡ flowSum N (across N l (row N P (suc i))) (N .flow t)
+      → m ≡ cond (mark 1 N P (record { bound = Bound.protected; from = i; link = l }) t) 1 0
+  mark-of-flow whole h he hl = mark-of _ _ (mark-flow N whole P _ t h) he hl

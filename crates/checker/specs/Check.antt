@@ -26,7 +26,7 @@ judgePair network plan = andThen (judgeList forms.Network network) (λ n. andThe
 
 -- "10 for the marks. Then it goes through steps ascending, within a step links ascending, 7 before 8"
 abbrev pub verdict : List ℕ → List ℕ → ℕ → Outcome (Option Overload)
-verdict n plan room = andThen (judgePair n plan) (λ p. cond (leb (networkOf n .tunnels) room) (good (firstOverload (networkOf n) (planOf p))) (refused noRoom (networkOf n .tunnels) 0))
+verdict n plan room = andThen (judgePair n plan) (λ p. cond (leb (networkOf n .tunnels) room) (good (firstOverload 1 (networkOf n) (planOf p))) (refused noRoom (networkOf n .tunnels) 0))
 
 -- ---- the answer and the marks
 
@@ -39,5 +39,5 @@ checked n (refused c place second) = Refused (number c) place second
 -- "Marks are one byte for each tunnel. .. After acceptance all are 0. After 7 or 8 a tunnel is 1 exactly if it crosses the named link and its amount rises in the named step."
 abbrev pub marksAfter : List ℕ → List ℕ → Outcome (Option Overload) → List ℕ → List ℕ
 marksAfter n p (good none) marks = listed (networkOf n .tunnels) (λ t. 0) ++ drop (networkOf n .tunnels) marks
-marksAfter n p (good (some o)) marks = listed (networkOf n .tunnels) (λ t. cond (mark (networkOf n) (planOf p) o t) 1 0) ++ drop (networkOf n .tunnels) marks
+marksAfter n p (good (some o)) marks = listed (networkOf n .tunnels) (λ t. cond (mark 1 (networkOf n) (planOf p) o t) 1 0) ++ drop (networkOf n .tunnels) marks
 marksAfter n p (refused c place second) marks = marks

@@ -23,21 +23,21 @@ pub record Reaches (n p : List ℕ) (lent : ℕ) : Type 0 where
 -- "every step meets the worst-load rule on every link"
 abbrev pub MeetsRule : List ℕ → List ℕ → Type 0
 MeetsRule n p =
-    (i l : ℕ) → i < stepCount (networkOf n) (planOf p) → l < networkOf n .links → (b : Bound) → worstOver (networkOf n) (planOf p) i l b ≡ false
+    (i l : ℕ) → i < stepCount 1 (networkOf n) (planOf p) → l < networkOf n .links → (b : Bound) → worstOver 1 (networkOf n) (planOf p) i l b ≡ false
 
 pub record Checker : Type 0 where
   -- done exactly when all of this holds
   pub done : (n p : List ℕ) (room : ℕ) → (verdict n p room ≡ good none) ↔ (Reaches n p room × MeetsRule n p)
   -- "the checker answers done": "no choice in any step overloads a link"
   pub safe : (n p : List ℕ) (room : ℕ) → verdict n p room ≡ good none
-      → (i l : ℕ) → i < stepCount (networkOf n) (planOf p) → l < networkOf n .links
-      → (c : Choice (networkOf n) (planOf p) i) (b : Bound) → overloads (networkOf n) (planOf p) i l c b ≡ false
+      → (i l : ℕ) → i < stepCount 1 (networkOf n) (planOf p) → l < networkOf n .links
+      → (c : Choice 1 (networkOf n) (planOf p) i) (b : Bound) → overloads 1 (networkOf n) (planOf p) i l c b ≡ false
   -- "After 7 or 8": the marked choice "breaks that number's bound on the named link"
   pub shown : (n p : List ℕ) (room : ℕ) (o : Overload) → verdict n p room ≡ good (some o)
-      → (o .from < stepCount (networkOf n) (planOf p)) × (o .link < networkOf n .links)
-      × (overloads (networkOf n) (planOf p) (o .from) (o .link) (marked (networkOf n) (planOf p) o) (o .bound) ≡ true)
+      → (o .from < stepCount 1 (networkOf n) (planOf p)) × (o .link < networkOf n .links)
+      × (overloads 1 (networkOf n) (planOf p) (o .from) (o .link) (marked 1 (networkOf n) (planOf p) o) (o .bound) ≡ true)
   -- "a plan that some choice overloads always meets 7 or 8 from the checker"
   pub found : (n p : List ℕ) (room : ℕ) → Reaches n p room
-      → (i l : ℕ) → i < stepCount (networkOf n) (planOf p) → l < networkOf n .links
-      → (c : Choice (networkOf n) (planOf p) i) (b : Bound) → overloads (networkOf n) (planOf p) i l c b ≡ true
+      → (i l : ℕ) → i < stepCount 1 (networkOf n) (planOf p) → l < networkOf n .links
+      → (c : Choice 1 (networkOf n) (planOf p) i) (b : Bound) → overloads 1 (networkOf n) (planOf p) i l c b ≡ true
       → (o : Overload) × (verdict n p room ≡ good (some o))

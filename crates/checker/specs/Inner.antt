@@ -29,4 +29,4 @@ marksOf m n = listed n (λ t. cond (m t) 1 0)
 
 -- the marks of the step from row i, on link l
 abbrev pub marksAt : Net → Plan → ℕ → ℕ → ℕ → List ℕ
-marksAt N P i l n = marksOf (mark N P (record { bound = Bound.protected; from = i; link = l })) n
+marksAt N P i l n = marksOf (mark 1 N P (record { bound = Bound.protected; from = i; link = l })) n

@@ -17,8 +17,8 @@ use overloads::steps::Found;
 // The steps, and the marks that go with what is found.
 fn check_steps(network: &[u64], plan: &[u64], marks: &mut [u8]) -> Answer
     requires { ⌜ Checkable (now network) (now plan) × (networkSizes (now network) .tunnels ≤ length (now marks)) ⌝ }
-    ensures { λ r. ⌜ r ≡ checked (now (network .entry)) (Outcome.good (firstOverload (networkOf (now (network .entry))) (planOf (now (plan .entry))))) ⌝ }
-    ensures { λ _. ⌜ now (marks .exit) ≡ marksAfter (now (network .entry)) (now (plan .entry)) (Outcome.good (firstOverload (networkOf (now (network .entry))) (planOf (now (plan .entry))))) (now (marks .entry)) ⌝ }
+    ensures { λ r. ⌜ r ≡ checked (now (network .entry)) (Outcome.good (firstOverload 1 (networkOf (now (network .entry))) (planOf (now (plan .entry))))) ⌝ }
+    ensures { λ _. ⌜ now (marks .exit) ≡ marksAfter (now (network .entry)) (now (plan .entry)) (Outcome.good (firstOverload 1 (networkOf (now (network .entry))) (planOf (now (plan .entry))))) (now (marks .entry)) ⌝ }
 {
     let found = steps::first_overload(network, plan);
     let Found::At(number, i, l) = found else {

@@ -11,13 +11,13 @@ use lib.Dec.{ltb}
 use Rattle.model.specs.Largest.{largest, peakAt}
 use Rattle.model.specs.Net.{Net, Plan, row}
 use Rattle.model.specs.Scan.{Bound, Overload, scan}
-use Rattle.model.specs.Rule.{crosses, across, byFlow, moverOf, onLink, stepCount, reach, worst, rowIn, Choice, shown, mark, moversOf, atLargest, marked, worstOver, firstOverload}
+use Rattle.model.specs.Rule.{crosses, across, flowSum, byFlow, moverOf, onLink, exceeds, stepCount, reach, worst, rowIn, Choice, shown, overloads, mark, moversOf, atLargest, marked, worstOver, firstOverload}
 use Rattle.model.specs.ThreeSums.{oldLoad, newLoad, peakLoad, stepLoad, endLoad}
 use Rattle.model.specs.Today.{Today}
 use Rattle.model.proofs.Searches.{bool-cases, and-true}
 use Rattle.model.proofs.Largests.{peak-later}
-use Rattle.model.proofs.Movers.{mover-tunnel, on-tunnel, mover-picked}
-use Rattle.model.proofs.Gathered.{larger-by-tunnel, rises-across}
+use Rattle.model.proofs.Movers.{mover-tunnel, on-tunnel, mover-flow, on-flow, mover-picked, load-cong}
+use Rattle.model.proofs.Gathered.{larger-by-tunnel, larger-by-flow, rises-across}
 use Rattle.model.proofs.Bounded.{bound-today}
 
 pub steps-today : (N : Net) (P : Plan) → 0 < P .steps → stepCount 1 N P ≡ P .steps
@@ -73,7 +73,7 @@ pub end-load-today : (N : Net) (b : Bound) (q l : ℕ) → 0 < q → endLoad 1 N
 unfolding endLoad
 end-load-today N b q l h = let one : min 1 q ≡ 1 = omega arith in rw one (omega arith)
 
--- ---- and tunnel by tunnel
+-- ---- and tunnel by tunnel, or flow by flow
 
 module _ (N : Net) (e : byFlow N ≡ false) (P : Plan) where
   pub worst-tunnel : (i l t : ℕ) → i < P .steps → worst 1 N P i l t ≡ across N l (λ u. max (row N P i u) (row N P (suc i) u)) t
@@ -83,6 +83,21 @@ module _ (N : Net) (e : byFlow N ≡ false) (P : Plan) where
   unfolding across
   mark-tunnel o t h =
       mark-today N P o t h ∙ simp (mover-tunnel N e, on-tunnel N e) (rises-across (crosses N (o .link) t) (row N P (o .from) t) (row N P (suc (o .from)) t))
+
+module _ (N : Net) (e : byFlow N ≡ true) (P : Plan) where
+  pub worst-flow : (i l f : ℕ) → i < P .steps → worst 1 N P i l f ≡ max (flowSum N (across N l (row N P i)) f) (flowSum N (across N l (row N P (suc i))) f)
+  worst-flow i l f h = worst-today N P i l f h ∙ larger-by-flow N e l (row N P i) (row N P (suc i)) f
+
+  pub mark-flow : (o : Overload) (t : ℕ) → o .from < P .steps
+      → mark 1 N P o t
+      ≡ (crosses N (o .link) t && ltb (flowSum N (across N (o .link) (row N P (o .from))) (N .flow t)) (flowSum N (across N (o .link) (row N P (suc (o .from)))) (N .flow t)))
+  mark-flow o t h = mark-today N P o t h ∙ simp (mover-flow N e, on-flow N e)
+
+-- ---- one row after the first is as far as a choice can go
+
+row-later : (P : Plan) (i n k : ℕ) → 0 < n → 0 < k → rowIn 1 P i n ≡ rowIn 1 P i k
+unfolding rowIn reach
+row-later P i n k hn hk = omega arith
 
 -- ---- a marked mover is at its largest in the later row
 
@@ -108,6 +123,25 @@ module _ (N : Net) (P : Plan) (o : Overload) (m : ℕ) where
       (λ e. ap (λ (b : Bool). ltb 0 (cond b peak 0)) e ∙ lt-ltb 0 peak (later e) ∙ sym e)
       (λ e. ap (λ (b : Bool). ltb 0 (cond b peak 0)) e ∙ sym e)
       (bool-cases (moversOf N (mark 1 N P o) m)))
+
+-- so the choice in which the movers of the marked tunnels show the later row and all others the earlier shows what the marked choice shows
+module _ (N : Net) (P : Plan) (o : Overload) where
+  abbrev laterRow : ℕ → ℕ
+  laterRow m = cond (moversOf N (mark 1 N P o) m) 1 0
+
+  later-shown : (m : ℕ) → shown 1 N P (o .from) (o .link) laterRow m ≡ shown 1 N P (o .from) (o .link) (marked 1 N P o) m
+  unfolding shown marked atLargest
+  later-shown m =
+      let peak : ℕ = peakAt (reach 1 P (o .from)) (λ k. onLink N (o .link) (row N P (o .from + k)) m) in
+      let at : ℕ → Bool → ℕ = λ n b. onLink N (o .link) (row N P (rowIn 1 P (o .from) (cond b n 0))) m in
+      ⊎-elim
+      (λ e. ap (at 1) e ∙ ap (λ (a : ℕ). onLink N (o .link) (row N P a) m) (row-later P (o .from) 1 peak (omega arith) (later N P o m e)) ∙ sym (ap (at peak) e))
+      (λ e. ap (at 1) e ∙ sym (ap (at peak) e))
+      (bool-cases (moversOf N (mark 1 N P o) m))
+
+  pub later-overloads : (b : Bound) → overloads 1 N P (o .from) (o .link) laterRow b ≡ overloads 1 N P (o .from) (o .link) (marked 1 N P o) b
+  unfolding overloads
+  later-overloads b = ap (exceeds N b (P .parts) (o .link)) (load-cong N b (λ m _. later-shown m))
 
 pub today : Today
 today = record { steps = steps-today; worst = worst-today; shown = shown-today; mark = mark-today; marked = marked-today; bound = bound-today }

@@ -63,13 +63,13 @@ module _ (l p : List ℕ) (c : Checkable l p) (i b : ℕ) (e : i ≡ blockSteps 
   module _ (one : byFlow N ≡ false) (vias classes : List ℕ) (t : TunnelColumns l vias classes) (amounts loads : List ℕ)
       (w : StepAmounts (worstAmount N P) l p i blockSteps amounts) (g : Loads (networkSizes l .links) vias classes (networkSizes l .tunnels) amounts loads) where
     same : (x : ℕ → Bool) (y : Bound) (m k : ℕ) → k < blockSteps → blockSteps * b + k < planSizes p .steps → ((u : ℕ) → u < networkSizes l .tunnels → x u ≡ counts N y u)
-        → gathered (at vias) x (λ u. at amounts (amountAt u k)) (networkSizes l .tunnels) m ≡ load N y (worst N P (blockSteps * b + k) m)
-    unfolding networkOf
+        → gathered (at vias) x (λ u. at amounts (amountAt u k)) (networkSizes l .tunnels) m ≡ load N y (worst 1 N P (blockSteps * b + k) m)
+    unfolding networkOf planOf
     same x y m k hk hs hx =
         gathered-cong (at vias) (N .via) x (counts N y) (λ u. at amounts (amountAt u k)) (worstAmount N P (blockSteps * b + k)) (networkSizes l .tunnels) m
         (λ u h. t .via .each u h) hx
         (λ u h. amount-in (worstAmount N P) amounts w k u hk hs h)
-        ∙ gathering .tunnels N P (blockSteps * b + k) m y one
+        ∙ gathering .tunnels N P (blockSteps * b + k) m y hs one
 
     pub gathers : Gathers N P b loads
     unfolding networkOf planOf inPart counts
@@ -91,8 +91,8 @@ module _ (l p : List ℕ) (c : Checkable l p) (i b : ℕ) (e : i ≡ blockSteps 
       (g : FlowLoads (networkSizes l .links) vias flows (networkSizes l .tunnels) classes (networkSizes l .flows) earlier later loads) where
     same-flows : (x : ℕ → Bool) (y : Bound) (m k : ℕ) → k < blockSteps → blockSteps * b + k < planSizes p .steps → ((f : ℕ) → f < networkSizes l .flows → x f ≡ counts N y f)
         → gatheredByFlow (at vias) (at flows) x (λ u. at earlier (amountAt u k)) (λ u. at later (amountAt u k)) (networkSizes l .tunnels) (networkSizes l .flows) m
-        ≡ load N y (worst N P (blockSteps * b + k) m)
-    unfolding networkOf
+        ≡ load N y (worst 1 N P (blockSteps * b + k) m)
+    unfolding networkOf planOf
     same-flows x y m k hk hs hx =
         by-flow-cong (at vias) (N .via) (at flows) (N .flow) x (counts N y) (λ u. at earlier (amountAt u k)) (row N P (blockSteps * b + k)) (λ u. at later (amountAt u k))
         (row N P (suc (blockSteps * b + k))) (networkSizes l .tunnels) (networkSizes l .flows) m
@@ -100,7 +100,7 @@ module _ (l p : List ℕ) (c : Checkable l p) (i b : ℕ) (e : i ≡ blockSteps 
         (λ u h. hf .each u h) hx
         (λ u h. amount-in (row N P) earlier wb k u hk hs h)
         (λ u h. amount-in (λ j. row N P (suc j)) later wa k u hk hs h)
-        ∙ gathering .flows N P (blockSteps * b + k) m y whole
+        ∙ gathering .flows N P (blockSteps * b + k) m y hs whole
 
     pub flows-gather : Gathers N P b loads
     unfolding networkOf planOf inPart counts
@@ -138,6 +138,6 @@ module _ (N : Net) (P : Plan) (i l : ℕ) (hi : i < P .steps) (hl : l < N .links
       let e : blockSteps * (i / blockSteps) + i % blockSteps ≡ i = omega arith in
       let low : i % blockSteps < blockSteps = omega arith in
       ap₂ overNumber
-      (ap₂ ltb (hc .each l hl) (g .protected l (i % blockSteps) hl low (omega arith) ∙ ap (λ (j : ℕ). load N Bound.protected (worst N P j l)) e))
-      (ap₂ ltb (ha .each l hl) (g .total l (i % blockSteps) hl low (omega arith) ∙ ap (λ (j : ℕ). load N Bound.total (worst N P j l)) e))
+      (ap₂ ltb (hc .each l hl) (g .protected l (i % blockSteps) hl low (omega arith) ∙ ap (λ (j : ℕ). load N Bound.protected (worst 1 N P j l)) e))
+      (ap₂ ltb (ha .each l hl) (g .total l (i % blockSteps) hl low (omega arith) ∙ ap (λ (j : ℕ). load N Bound.total (worst 1 N P j l)) e))
       ∙ over-same N (P .parts) l _ _

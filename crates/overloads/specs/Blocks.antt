@@ -21,9 +21,9 @@ pub record TunnelColumns (l vias classes : List ℕ) : Type 0 where
 -- the loads in block b are the rule's: of protected tunnels, and of both parts together
 pub record Gathers (N : Net) (P : Plan) (b : ℕ) (loads : List ℕ) : Type 0 where
   pub within : LoadsWithin (N .links) mostTunnels loads
-  pub protected : (l k : ℕ) → l < N .links → k < blockSteps → blockSteps * b + k < P .steps → at loads (loadAt l 0 k) ≡ load N Bound.protected (worst N P (blockSteps * b + k) l)
+  pub protected : (l k : ℕ) → l < N .links → k < blockSteps → blockSteps * b + k < P .steps → at loads (loadAt l 0 k) ≡ load N Bound.protected (worst 1 N P (blockSteps * b + k) l)
   pub total : (l k : ℕ) → l < N .links → k < blockSteps → blockSteps * b + k < P .steps
-      → at loads (loadAt l 0 k) + at loads (loadAt l 1 k) ≡ load N Bound.total (worst N P (blockSteps * b + k) l)
+      → at loads (loadAt l 0 k) + at loads (loadAt l 1 k) ≡ load N Bound.total (worst 1 N P (blockSteps * b + k) l)
 
 -- within a block its loads are there
 pub record InBlock (N : Net) (P : Plan) (i : ℕ) (loads : List ℕ) : Type 0 where

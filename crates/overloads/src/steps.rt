@@ -80,7 +80,7 @@ fn block_loads(
 // Steps ascending, links ascending; the first overload ends the check.
 pub fn first_overload(network: &[u64], plan: &[u64]) -> Found
     requires { ⌜ Checkable (now network) (now plan) ⌝ }
-    ensures { λ r. ⌜ r ≡ foundOf (firstOverload (networkOf (now (network .entry))) (planOf (now (plan .entry)))) ⌝ }
+    ensures { λ r. ⌜ r ≡ foundOf (firstOverload 1 (networkOf (now (network .entry))) (planOf (now (plan .entry)))) ⌝ }
 {
     let links = Network::of(network).links;
     let sizes = PlanSizes::of(plan);

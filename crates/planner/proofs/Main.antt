@@ -41,7 +41,7 @@ stuck-no-plan (some o) p e = let z : _≡_ {A = ℕ} 0 1 = cc in omega arith
 
 by-fewest : (N : Net) (o : Option ℕ) (p : List ℕ) → byFewest N o ≡ good p → (q : ℕ) × (o ≡ some q) × (p ≡ evenList N q)
 unfolding Option·elim
-by-fewest N none p e = absurd (stuck-no-plan (firstOverload N (even N mostSteps)) p e)
+by-fewest N none p e = absurd (stuck-no-plan (firstOverload 1 N (even N mostSteps)) p e)
 by-fewest N (some q) p e = (q, refl, cc)
 
 passed-good : (o : Outcome (List ℕ)) (next : List ℕ → Outcome (List ℕ)) (p : List ℕ) → andThen o next ≡ good p → (g : List ℕ) × (o ≡ good g) × (next g ≡ good p)
@@ -53,7 +53,7 @@ record Made (l p : List ℕ) : Type 0 where
   judged : judgeNetwork l ≡ good l
   network : GoodNetwork l
   steps : ℕ
-  fewest : fewest (networkOf l) ≡ some steps
+  fewest : fewest 1 (networkOf l) ≡ some steps
   list : p ≡ evenList (networkOf l) steps
 
 made : (l p : List ℕ) → planned l ≡ good p → Made l p
@@ -61,27 +61,27 @@ unfolding planned evenPlan
 made l p e =
     let s = passed-good (judgeNetwork l) (λ g. evenPlan (networkOf g)) p e in
     let j = good-network l (s .0) (s .1) in
-    let f = by-fewest (networkOf l) (fewest (networkOf l)) p (sym (ap (λ g. evenPlan (networkOf g)) (j .0)) ∙ s .2) in
+    let f = by-fewest (networkOf l) (fewest 1 (networkOf l)) p (sym (ap (λ g. evenPlan (networkOf g)) (j .0)) ∙ s .2) in
     record { judged = s .1 ∙ ap good (j .0); network = j .1; steps = f .0; fewest = f .1; list = f .2 }
 
 -- ---- the fewest steps
 
-below-fewest : (N : Net) (q : ℕ) → fewest N ≡ some q → NoneBelow N q
+below-fewest : (N : Net) (q : ℕ) → fewest 1 N ≡ some q → NoneBelow N q
 unfolding fewest
 below-fewest N q e r one less =
-    let s = first-some (λ i. onlyIf (accepted N (even N (suc i))) (suc i)) mostSteps q e in
+    let s = first-some (λ i. onlyIf (accepted 1 N (even N (suc i))) (suc i)) mostSteps q e in
     let t = only-some _ (suc (s .0)) q (s .2) in
     let k : suc (r - 1) ≡ r = omega arith in
-    ap (λ (i : ℕ). accepted N (even N i)) (sym k) ∙ only-none _ (suc (r - 1)) (first-none (λ i. onlyIf (accepted N (even N (suc i))) (suc i)) (s .0) (s .3) (r - 1) (omega (arith, t .1)))
+    ap (λ (i : ℕ). accepted 1 N (even N i)) (sym k) ∙ only-none _ (suc (r - 1)) (first-none (λ i. onlyIf (accepted 1 N (even N (suc i))) (suc i)) (s .0) (s .3) (r - 1) (omega (arith, t .1)))
 
-accepted-none : (N : Net) → ((q : ℕ) → 1 ≤ q → q ≤ mostSteps → accepted N (even N q) ≡ false) → fewest N ≡ none
+accepted-none : (N : Net) → ((q : ℕ) → 1 ≤ q → q ≤ mostSteps → accepted 1 N (even N q) ≡ false) → fewest 1 N ≡ none
 unfolding fewest
-accepted-none N h = none-first (λ i. onlyIf (accepted N (even N (suc i))) (suc i)) mostSteps (λ i k. only-false _ (suc i) (h (suc i) (omega arith) k))
+accepted-none N h = none-first (λ i. onlyIf (accepted 1 N (even N (suc i))) (suc i)) mostSteps (λ i k. only-false _ (suc i) (h (suc i) (omega arith) k))
 
 pub fewest-steps : (l p : List ℕ) → planned l ≡ good p → FewestSteps (networkOf l) p
 fewest-steps l p e =
     let m = made l p e in
-    let f = model.fewest-some (networkOf l) (m .steps) (m .fewest) in
+    let f = model.fewest-some 1 (networkOf l) (m .steps) (m .fewest) in
     record { steps = m .steps; least = f .0; most = f .1; list = m .list; accepted = f .2; none-below = below-fewest (networkOf l) (m .steps) (m .fewest) }
 
 -- ---- the list of an even plan is a plan
@@ -114,7 +114,7 @@ pub record EvenListed (l : List ℕ) (q : ℕ) : Type 0 where
   pub judged : judgePlan (evenList (networkOf l) q) ≡ good (evenList (networkOf l) q)
   pub tunnels : planSizes (evenList (networkOf l) q) .tunnels ≡ networkOf l .tunnels
   pub rows : missedRow (networkOf l) (planOf (evenList (networkOf l) q)) ≡ none
-  pub overload : firstOverload (networkOf l) (planOf (evenList (networkOf l) q)) ≡ firstOverload (networkOf l) (even (networkOf l) q)
+  pub overload : firstOverload 1 (networkOf l) (planOf (evenList (networkOf l) q)) ≡ firstOverload 1 (networkOf l) (even (networkOf l) q)
 
 pub even-listed : (l : List ℕ) → judgeNetwork l ≡ good l → (q : ℕ) → 1 ≤ q → q ≤ mostSteps → EvenListed l q
 unfolding networkOf
@@ -125,37 +125,37 @@ even-listed l j q one most =
       judged = even-judged l g q one most;
       tunnels = list-head (networkOf l) q .3;
       rows = row-missed-same (networkOf l) _ _ s ∙ even-adds-up (networkOf l) q (g .sums);
-      overload = overload-same (networkOf l) _ _ s;
+      overload = overload-same (networkOf l) _ _ s 1;
     }
 
 pub safe : (l p : List ℕ) → planned l ≡ good p → Safe l p
 safe l p e =
     let m = made l p e in
     let N = networkOf l in
-    let f = model.fewest-some N (m .steps) (m .fewest) in
+    let f = model.fewest-some 1 N (m .steps) (m .fewest) in
     let s = even-listed l (m .judged) (m .steps) (f .0) (f .1) in
-    let none-over = s .overload ∙ accepted-both N (even N (m .steps)) .0 (f .2) .1 in
+    let none-over = s .overload ∙ accepted-both 1 N (even N (m .steps)) .0 (f .2) .1 in
     rw (m .list) (record {
       network = m .judged;
       judged = s .judged;
       tunnels = s .tunnels;
       rows = s .rows;
       overload = none-over;
-      choices = choices.safe N _ none-over;
+      choices = choices.safe 1 N _ none-over;
     })
 
 -- ---- refusal 9
 
 -- where no even plan is accepted, that of 50 steps overloads somewhere, since its rows add up
-pub stuck-somewhere : (N : Net) → missedRate N ≡ none → fewest N ≡ none → (o : Overload) × (firstOverload N (even N mostSteps) ≡ some o)
+pub stuck-somewhere : (N : Net) → missedRate N ≡ none → fewest 1 N ≡ none → (o : Overload) × (firstOverload 1 N (even N mostSteps) ≡ some o)
 stuck-somewhere N r e =
     ⊎-elim
-    (λ z. absurd (true≢false (sym (accepted-both N (even N mostSteps) .1 (even-adds-up N mostSteps r, z)) ∙ model.fewest-none N e mostSteps (omega arith) (omega arith))))
+    (λ z. absurd (true≢false (sym (accepted-both 1 N (even N mostSteps) .1 (even-adds-up N mostSteps r, z)) ∙ model.fewest-none 1 N e mostSteps (omega arith) (omega arith))))
     (λ s. s)
-    (option-cases (firstOverload N (even N mostSteps)))
+    (option-cases (firstOverload 1 N (even N mostSteps)))
 
-pub nine : (l : List ℕ) → judgeNetwork l ≡ good l → ((q : ℕ) → 1 ≤ q → q ≤ mostSteps → accepted (networkOf l) (even (networkOf l) q) ≡ false)
-    → (o : Overload) × (firstOverload (networkOf l) (even (networkOf l) mostSteps) ≡ some o) × (planned l ≡ refused noEvenPlan (step o) (o .link))
+pub nine : (l : List ℕ) → judgeNetwork l ≡ good l → ((q : ℕ) → 1 ≤ q → q ≤ mostSteps → accepted 1 (networkOf l) (even (networkOf l) q) ≡ false)
+    → (o : Overload) × (firstOverload 1 (networkOf l) (even (networkOf l) mostSteps) ≡ some o) × (planned l ≡ refused noEvenPlan (step o) (o .link))
 unfolding evenPlan Option·elim stuck
 nine l j h =
     let N = networkOf l in
@@ -169,11 +169,11 @@ nine-by-fewest N none p s e = refl
 nine-by-fewest N (some q) p s e = let z : _≡_ {A = ℕ} 0 1 = cc in absurd (omega arith)
 
 pub nine-only : (l : List ℕ) (place second : ℕ) → planned l ≡ refused noEvenPlan place second
-    → (judgeNetwork l ≡ good l) × ((q : ℕ) → 1 ≤ q → q ≤ mostSteps → accepted (networkOf l) (even (networkOf l) q) ≡ false)
+    → (judgeNetwork l ≡ good l) × ((q : ℕ) → 1 ≤ q → q ≤ mostSteps → accepted 1 (networkOf l) (even (networkOf l) q) ≡ false)
 unfolding evenPlan
 nine-only l place second e =
     let n = planned-nine l place second e in
-    (n .0, model.fewest-none (networkOf l) (nine-by-fewest (networkOf l) (fewest (networkOf l)) place second (n .1)))
+    (n .0, model.fewest-none 1 (networkOf l) (nine-by-fewest (networkOf l) (fewest 1 (networkOf l)) place second (n .1)))
 
 -- ---- a network that keeps its scratch
 
@@ -183,7 +183,7 @@ pub bounded : (l : List ℕ) → judgeNetwork l ≡ good l → keepsScratch (net
 unfolding evenPlan Option·elim planOf
 bounded l j k =
     let N = networkOf l in
-    let b = model.bounded N (good-valid l (good-network l l j .1)) k in
+    let b = model.bounded-today N (good-valid l (good-network l l j .1)) k in
     let p : List ℕ = evenList N (b .0) in
     let e : planned l ≡ good p = planned-good l j ∙ ap (byFewest N) (b .1) in (
       p,

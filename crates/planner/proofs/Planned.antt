@@ -31,7 +31,7 @@ answered-none (some p) e = let z : _≡_ {A = ℕ} 0 1 = cc in absurd (omega ari
 -- ---- the outcome, with the room that is lent
 
 abbrev pub byFewest : Net → Option ℕ → Outcome (List ℕ)
-byFewest N o = Option·elim o (stuck (firstOverload N (even N mostSteps))) (λ q. good (evenList N q))
+byFewest N o = Option·elim o (stuck (firstOverload 1 N (even N mostSteps))) (λ q. good (evenList N q))
 
 module _ (N : Net) (out : List ℕ) where
   -- the outcome's answer and output, at once
@@ -46,14 +46,14 @@ module _ (N : Net) (out : List ℕ) where
   stuck-lent none = (refl, refl)
   stuck-lent (some o) = (refl, refl)
 
-  pub no-plan : fewest N ≡ none → (plan (withRoom (length out) (evenPlan N)) ≡ plan (stuck (firstOverload N (even N mostSteps)))) × (lent (withRoom (length out) (evenPlan N)) out ≡ out)
+  pub no-plan : fewest 1 N ≡ none → (plan (withRoom (length out) (evenPlan N)) ≡ plan (stuck (firstOverload 1 N (even N mostSteps)))) × (lent (withRoom (length out) (evenPlan N)) out ≡ out)
   unfolding evenPlan Option·elim
   no-plan e =
-      let s = stuck-lent (firstOverload N (even N mostSteps)) in
+      let s = stuck-lent (firstOverload 1 N (even N mostSteps)) in
       let k = comes _ (ap (λ o. withRoom (length out) (byFewest N o)) e ∙ s .0) in
       (k .0, k .1 ∙ s .1)
 
-  module _ (q : ℕ) (e : fewest N ≡ some q) where
+  module _ (q : ℕ) (e : fewest 1 N ≡ some q) where
     pub room-short : length out < length (evenList N q) → Comes (refused noRoom (length (evenList N q)) 0)
     unfolding evenPlan Option·elim
     room-short h =

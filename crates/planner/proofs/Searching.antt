@@ -21,6 +21,7 @@ use Rattle.model.proofs.Searches.{bool-cases, only-true, only-false, first-on, 
 use Rattle.model.proofs.Scans.{link-protected, link-total, link-neither, scan-at, scan-end, testStep}
 use Rattle.model.proofs.Choices.{factor, room}
 use Rattle.model.proofs.Evens.{even-load, even-accepted}
+use Rattle.model.proofs.Today.{step-load-today, end-load-today}
 use Rattle.lists.specs.Answers.{plan}
 use Rattle.lists.specs.Lists.{networkOf}
 use Rattle.lists.specs.declared.Answer.the-variants.{Refused}
@@ -34,21 +35,23 @@ use Rattle.link_sums.proofs.Good.{good-range}
 
 -- ---- an even plan
 
-not-accepted : (N : Net) → missedRate N ≡ none → (q : ℕ) → 0 < q → (l : ℕ) → l < N .links → (b : Bound)
-    → q * room N b l < factor b * endLoad N b q l → accepted N (even N q) ≡ false
-not-accepted N e q h l hl b k =
-    ⊎-elim (λ a. absurd (omega (arith, even-accepted N e q h .0 a l hl b))) (λ f. f) (bool-cases (accepted N (even N q)))
+not-accepted : (N : Net) → missedRate N ≡ none → (q l : ℕ) → l < N .links → (b : Bound)
+    → q * room N b l < factor b * endLoad 1 N b q l → accepted 1 N (even N q) ≡ false
+not-accepted N e q l hl b k =
+    ⊎-elim (λ a. absurd (omega (arith, even-accepted 1 N e q .0 a l hl b))) (λ f. f) (bool-cases (accepted 1 N (even N q)))
 
 -- the sums of a table are the loads
-sum-end : (N : Net) (b : Bound) (s : List ℕ) → Loads N b s → (q l : ℕ) → l < mostLinks → endSum s q l ≡ endLoad N b q l
-unfolding endLoad oldLoad newLoad peakLoad load onPart
-sum-end N b s T q l h =
+sum-end : (N : Net) (b : Bound) (s : List ℕ) → Loads N b s → (q l : ℕ) → 0 < q → l < mostLinks → endSum s q l ≡ endLoad 1 N b q l
+unfolding oldLoad newLoad peakLoad load onPart
+sum-end N b s T q l pos h =
     ap₂ (λ (m k : ℕ). (q - 1) * m + k) (ap₂ max (T .each Part.old l h) (T .each Part.new l h)) (T .each Part.peak l h)
+    ∙ sym (end-load-today N b q l pos)
 
-sum-step : (N : Net) (b : Bound) (s : List ℕ) → Loads N b s → (q i l : ℕ) → l < mostLinks → stepSum s q i l ≡ stepLoad N b q i l
-unfolding stepLoad oldLoad newLoad peakLoad load onPart
-sum-step N b s T q i l h =
+sum-step : (N : Net) (b : Bound) (s : List ℕ) → Loads N b s → (q i l : ℕ) → i < q → l < mostLinks → stepSum s q i l ≡ stepLoad 1 N b q i l
+unfolding oldLoad newLoad peakLoad load onPart
+sum-step N b s T q i l hi h =
     ap₂ (λ (m k : ℕ). m + k) (ap₂ (λ (o n : ℕ). (q - suc i) * o + i * n) (T .each Part.old l h) (T .each Part.new l h)) (T .each Part.peak l h)
+    ∙ sym (step-load-today N b q i l hi)
 
 -- what is known where the code looks at link k, in plans of q steps
 pub record AtLink (l p a : List ℕ) (q k cap : ℕ) : Type 0 where
@@ -85,11 +88,11 @@ module _ {l p a : List ℕ} {q k cap : ℕ} (h : AtLink l p a q k cap) where
   overrun-room = let o : 1000 + networkOf l .overrun ≤ 1000 + mostShare = omega (arith, overrun-most) in mul-le-mul o cap-room
 
   -- the two comparisons decide for the link
-  protected-sum : endSum p q k ≡ endLoad (networkOf l) Bound.protected q k
-  protected-sum = sum-end (networkOf l) Bound.protected p (h .ready .protected) q k link-low
+  protected-sum : endSum p q k ≡ endLoad 1 (networkOf l) Bound.protected q k
+  protected-sum = sum-end (networkOf l) Bound.protected p (h .ready .protected) q k (h .least) link-low
 
-  all-sum : 1000 * endSum a q k ≡ 1000 * endLoad (networkOf l) Bound.total q k
-  all-sum = ap (λ (w : ℕ). 1000 * w) (sum-end (networkOf l) Bound.total a (h .ready .all) q k link-low)
+  all-sum : 1000 * endSum a q k ≡ 1000 * endLoad 1 (networkOf l) Bound.total q k
+  all-sum = ap (λ (w : ℕ). 1000 * w) (sum-end (networkOf l) Bound.total a (h .ready .all) q k (h .least) link-low)
 
   room-same : q * cap ≡ q * networkOf l .cap k
   room-same = ap (λ (x : ℕ). q * x) (h .same)
@@ -97,16 +100,16 @@ module _ {l p a : List ℕ} {q k cap : ℕ} (h : AtLink l p a q k cap) where
   overrun-same : (1000 + networkOf l .overrun) * (q * cap) ≡ (1000 + networkOf l .overrun) * (q * networkOf l .cap k)
   overrun-same = ap (λ (x : ℕ). (1000 + networkOf l .overrun) * x) room-same
 
-  pub over-protected : q * cap < endSum p q k → accepted (networkOf l) (even (networkOf l) q) ≡ false
+  pub over-protected : q * cap < endSum p q k → accepted 1 (networkOf l) (even (networkOf l) q) ≡ false
   unfolding factor room
-  over-protected o = not-accepted (networkOf l) (h .ready .good .sums) q (h .least) k (h .link) Bound.protected (omega (arith, protected-sum, room-same))
+  over-protected o = not-accepted (networkOf l) (h .ready .good .sums) q k (h .link) Bound.protected (omega (arith, protected-sum, room-same))
 
-  pub over-total : (1000 + networkOf l .overrun) * (q * cap) < 1000 * endSum a q k → accepted (networkOf l) (even (networkOf l) q) ≡ false
+  pub over-total : (1000 + networkOf l .overrun) * (q * cap) < 1000 * endSum a q k → accepted 1 (networkOf l) (even (networkOf l) q) ≡ false
   unfolding factor room
-  over-total o = not-accepted (networkOf l) (h .ready .good .sums) q (h .least) k (h .link) Bound.total (omega (arith, all-sum, overrun-same))
+  over-total o = not-accepted (networkOf l) (h .ready .good .sums) q k (h .link) Bound.total (omega (arith, all-sum, overrun-same))
 
   pub kept-both : endSum p q k ≤ q * cap → 1000 * endSum a q k ≤ (1000 + networkOf l .overrun) * (q * cap)
-      → (b : Bound) → factor b * endLoad (networkOf l) b q k ≤ q * room (networkOf l) b k
+      → (b : Bound) → factor b * endLoad 1 (networkOf l) b q k ≤ q * room (networkOf l) b k
   unfolding factor room
   kept-both i j Bound.protected = omega (arith, protected-sum, room-same)
   kept-both i j Bound.total = omega (arith, all-sum, overrun-same)
@@ -114,39 +117,39 @@ module _ {l p a : List ℕ} {q k cap : ℕ} (h : AtLink l p a q k cap) where
 -- ---- the fewest steps
 
 abbrev pub untried : Net → ℕ → Type 0
-untried N i = first i (λ k. onlyIf (accepted N (even N (suc k))) (suc k)) ≡ none
+untried N i = first i (λ k. onlyIf (accepted 1 N (even N (suc k))) (suc k)) ≡ none
 
-pub fewest-at : (N : Net) (i : ℕ) → untried N i → accepted N (even N (i + 1)) ≡ true → i < mostSteps → fewest N ≡ some (i + 1)
+pub fewest-at : (N : Net) (i : ℕ) → untried N i → accepted 1 N (even N (i + 1)) ≡ true → i < mostSteps → fewest 1 N ≡ some (i + 1)
 unfolding fewest
 fewest-at N i e h k =
-    rw (add-one i) (first-at (λ k. onlyIf (accepted N (even N (suc k))) (suc k)) i mostSteps (suc i) e (only-true _ (suc i) (rw (add-one i) at h)) k)
+    rw (add-one i) (first-at (λ k. onlyIf (accepted 1 N (even N (suc k))) (suc k)) i mostSteps (suc i) e (only-true _ (suc i) (rw (add-one i) at h)) k)
 
-pub fewest-on : (N : Net) (i : ℕ) → untried N i → accepted N (even N (i + 1)) ≡ false → untried N (i + 1)
-fewest-on N i e h = first-on (λ k. onlyIf (accepted N (even N (suc k))) (suc k)) i e (only-false _ (suc i) (rw (add-one i) at h))
+pub fewest-on : (N : Net) (i : ℕ) → untried N i → accepted 1 N (even N (i + 1)) ≡ false → untried N (i + 1)
+fewest-on N i e h = first-on (λ k. onlyIf (accepted 1 N (even N (suc k))) (suc k)) i e (only-false _ (suc i) (rw (add-one i) at h))
 
-pub fewest-none : (N : Net) → untried N mostSteps → fewest N ≡ none
+pub fewest-none : (N : Net) → untried N mostSteps → fewest 1 N ≡ none
 unfolding fewest
 fewest-none N e = e
 
 -- ---- where the plan of 50 steps overloads
 
 worst-step : (N : Net) (b : Bound) (s : List ℕ) → Loads N b s → (i l : ℕ) → i < mostSteps → l < mostLinks
-    → worstOver N (even N mostSteps) i l b ≡ exceeds N b mostSteps l (stepSum s mostSteps i l)
-unfolding worstOver even
-worst-step N b s T i l hi hl = ap (exceeds N b mostSteps l) (even-load N b l mostSteps i hi ∙ sym (sum-step N b s T mostSteps i l hl))
+    → worstOver 1 N (even N mostSteps) i l b ≡ exceeds N b mostSteps l (stepSum s mostSteps i l)
+unfolding worstOver even stepCount
+worst-step N b s T i l hi hl = ap (exceeds N b mostSteps l) (even-load 1 N b l mostSteps i hi ∙ sym (sum-step N b s T mostSteps i l hi hl))
 
 module _ {l p a : List ℕ} {k cap : ℕ} (h : AtLink l p a mostSteps k cap) (i : ℕ) (hi : i < mostSteps) where
-  protected-over : worstOver (networkOf l) (even (networkOf l) mostSteps) i k Bound.protected ≡ ltb (mostSteps * cap) (stepSum p mostSteps i k)
+  protected-over : worstOver 1 (networkOf l) (even (networkOf l) mostSteps) i k Bound.protected ≡ ltb (mostSteps * cap) (stepSum p mostSteps i k)
   unfolding exceeds
   protected-over = rw (h .same) (worst-step (networkOf l) Bound.protected p (h .ready .protected) i k hi (link-low h))
 
-  total-over : worstOver (networkOf l) (even (networkOf l) mostSteps) i k Bound.total
+  total-over : worstOver 1 (networkOf l) (even (networkOf l) mostSteps) i k Bound.total
       ≡ ltb ((1000 + networkOf l .overrun) * (mostSteps * cap)) (1000 * stepSum a mostSteps i k)
   unfolding exceeds
   total-over = rw (h .same) (worst-step (networkOf l) Bound.total a (h .ready .all) i k hi (link-low h))
 
   pub is-over-first : mostSteps * cap < stepSum p mostSteps i k → true ≡ isOver (networkOf l) i k
-  is-over-first o = sym (ap (λ (b : Bool). b || worstOver (networkOf l) (even (networkOf l) mostSteps) i k Bound.total) (protected-over ∙ lt-ltb _ _ o))
+  is-over-first o = sym (ap (λ (b : Bool). b || worstOver 1 (networkOf l) (even (networkOf l) mostSteps) i k Bound.total) (protected-over ∙ lt-ltb _ _ o))
 
   pub is-over-second : stepSum p mostSteps i k ≤ mostSteps * cap
       → ltb ((1000 + networkOf l .overrun) * (mostSteps * cap)) (1000 * stepSum a mostSteps i k) ≡ isOver (networkOf l) i k
@@ -159,14 +162,14 @@ or-false false c e = (refl, e)
 
 module _ (N : Net) where
   bad : ℕ → ℕ → Bound → Bool
-  bad = worstOver N (even N mostSteps)
+  bad = worstOver 1 N (even N mostSteps)
 
   -- no overload before the step from row i, and in it none before link l
   abbrev pub stepsKept : ℕ → Type 0
-  stepsKept i = first i (testStep (N .links) (worstOver N (even N mostSteps))) ≡ none
+  stepsKept i = first i (testStep (N .links) (worstOver 1 N (even N mostSteps))) ≡ none
 
   abbrev pub linksKept : ℕ → ℕ → Type 0
-  linksKept i l = first l (testLink (worstOver N (even N mostSteps)) i) ≡ none
+  linksKept i l = first l (testLink (worstOver 1 N (even N mostSteps)) i) ≡ none
 
   pub links-on : (i l : ℕ) → linksKept i l → isOver N i l ≡ false → linksKept i (l + 1)
   unfolding bad
@@ -180,13 +183,13 @@ module _ (N : Net) where
       (λ e. (Bound.total, link-total mostSteps (N .links) bad i l e (sym (ap (λ (b : Bool). b || bad i l Bound.total) e) ∙ h)))
       (bool-cases (bad i l Bound.protected))
 
-  pub stuck-here : (i l : ℕ) → stepsKept i → linksKept i l → isOver N i l ≡ true → i < mostSteps → l < N .links → Refused 9 (i + 1) l ≡ plan (stuck (firstOverload N (even N mostSteps)))
+  pub stuck-here : (i l : ℕ) → stepsKept i → linksKept i l → isOver N i l ≡ true → i < mostSteps → l < N .links → Refused 9 (i + 1) l ≡ plan (stuck (firstOverload 1 N (even N mostSteps)))
   unfolding firstOverload stepCount even stuck bad Option·elim
   stuck-here i l ei el h hi hl =
       let f = found-at i l h in
       ap (λ (n : ℕ). Refused 9 n l) (add-one i)
       ∙ sym (ap (λ o. plan (stuck o)) (scan-at mostSteps (N .links) bad i l _ ei el (f .1) hi hl))
 
-  pub stuck-nowhere : stepsKept mostSteps → Refused 9 0 0 ≡ plan (stuck (firstOverload N (even N mostSteps)))
+  pub stuck-nowhere : stepsKept mostSteps → Refused 9 0 0 ≡ plan (stuck (firstOverload 1 N (even N mostSteps)))
   unfolding firstOverload stepCount even stuck Option·elim
-  stuck-nowhere e = sym (ap (λ o. plan (stuck o)) (scan-end mostSteps (N .links) (worstOver N (even N mostSteps)) e))
+  stuck-nowhere e = sym (ap (λ o. plan (stuck o)) (scan-end mostSteps (N .links) (worstOver 1 N (even N mostSteps)) e))

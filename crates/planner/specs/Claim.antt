@@ -18,7 +18,7 @@ use Rattle.forms.specs.Named.{judgeNetwork, judgePlan}
 
 -- no even plan of fewer than q steps is accepted
 abbrev pub NoneBelow : Net → ℕ → Type 0
-NoneBelow N q = (r : ℕ) → 1 ≤ r → r < q → accepted N (even N r) ≡ false
+NoneBelow N q = (r : ℕ) → 1 ≤ r → r < q → accepted 1 N (even N r) ≡ false
 
 -- p is the list of the even plan of fewest steps
 pub record FewestSteps (N : Net) (p : List ℕ) : Type 0 where
@@ -26,7 +26,7 @@ pub record FewestSteps (N : Net) (p : List ℕ) : Type 0 where
   pub least : 1 ≤ steps
   pub most : steps ≤ mostSteps
   pub list : p ≡ evenList N steps
-  pub accepted : accepted N (even N steps) ≡ true
+  pub accepted : accepted 1 N (even N steps) ≡ true
   pub none-below : NoneBelow N steps
 
 -- the list p is a plan for the network of the list l: all that the checker asks of it, and what it keeps safe
@@ -36,10 +36,10 @@ pub record Safe (l p : List ℕ) : Type 0 where
   pub tunnels : planSizes p .tunnels ≡ networkOf l .tunnels
   -- "In each listed row a flow's sum lies between parts × the lesser and parts × the greater" of its rate and its next
   pub rows : missedRow (networkOf l) (planOf p) ≡ none
-  pub overload : firstOverload (networkOf l) (planOf p) ≡ none
+  pub overload : firstOverload 1 (networkOf l) (planOf p) ≡ none
   -- "no choice in any step overloads a link"
-  pub choices : (i k : ℕ) → i < stepCount (networkOf l) (planOf p) → k < networkOf l .links
-      → (c : Choice (networkOf l) (planOf p) i) (b : Bound) → overloads (networkOf l) (planOf p) i k c b ≡ false
+  pub choices : (i k : ℕ) → i < stepCount 1 (networkOf l) (planOf p) → k < networkOf l .links
+      → (c : Choice 1 (networkOf l) (planOf p) i) (b : Bound) → overloads 1 (networkOf l) (planOf p) i k c b ≡ false
 
 pub record Claim : Type 0 where
   -- "If the planner returns a plan .. no choice in any step overloads a link"
@@ -47,11 +47,11 @@ pub record Claim : Type 0 where
   -- it is the even plan of fewest steps
   pub fewest : (l p : List ℕ) → planned l ≡ good p → FewestSteps (networkOf l) p
   -- "no even plan of 1 to 50 steps is accepted | 9 | where the 50-step plan first overloads: step; link": it is refused then
-  pub nine : (l : List ℕ) → judgeNetwork l ≡ good l → ((q : ℕ) → 1 ≤ q → q ≤ mostSteps → accepted (networkOf l) (even (networkOf l) q) ≡ false)
-      → (o : Overload) × (firstOverload (networkOf l) (even (networkOf l) mostSteps) ≡ some o) × (planned l ≡ refused noEvenPlan (step o) (o .link))
+  pub nine : (l : List ℕ) → judgeNetwork l ≡ good l → ((q : ℕ) → 1 ≤ q → q ≤ mostSteps → accepted 1 (networkOf l) (even (networkOf l) q) ≡ false)
+      → (o : Overload) × (firstOverload 1 (networkOf l) (even (networkOf l) mostSteps) ≡ some o) × (planned l ≡ refused noEvenPlan (step o) (o .link))
   -- and only then
   pub nine-only : (l : List ℕ) (place second : ℕ) → planned l ≡ refused noEvenPlan place second
-      → (judgeNetwork l ≡ good l) × ((q : ℕ) → 1 ≤ q → q ≤ mostSteps → accepted (networkOf l) (even (networkOf l) q) ≡ false)
+      → (judgeNetwork l ≡ good l) × ((q : ℕ) → 1 ≤ q → q ≤ mostSteps → accepted 1 (networkOf l) (even (networkOf l) q) ≡ false)
   -- a network that keeps its scratch: "for these the planner, given the room, returns a plan, and its steps are the number on that plan's `steps` line",
   -- "at most ceil(1000/scratch) - 1, or the larger of that and ceil(1000/overrun) if overrun is not 0"
   pub bounded : (l : List ℕ) → judgeNetwork l ≡ good l → keepsScratch (networkOf l) ≡ true

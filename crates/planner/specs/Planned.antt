@@ -24,7 +24,7 @@ stuck o = Option·elim o (refused noEvenPlan 0 0) (λ o. refused noEvenPlan (ste
 
 -- "The planner fills a plan list": the even plan of fewest steps, or refusal 9
 unfoldable pub evenPlan : Net → Outcome (List ℕ)
-evenPlan N = Option·elim (fewest N) (stuck (firstOverload N (even N mostSteps))) (λ q. good (evenList N q))
+evenPlan N = Option·elim (fewest 1 N) (stuck (firstOverload 1 N (even N mostSteps))) (λ q. good (evenList N q))
 
 -- the planner's whole outcome. "Writers, planner and checker take lists and judge them by the same rules": the judge's refusal is passed on
 unfoldable pub planned : List ℕ → Outcome (List ℕ)

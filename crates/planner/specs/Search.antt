@@ -16,4 +16,4 @@ answered (some q) = Steps q
 
 -- the plan of 50 steps breaks a bound on link l in the step from row i
 abbrev pub isOver : Net → ℕ → ℕ → Bool
-isOver N i l = worstOver N (even N mostSteps) i l Bound.protected || worstOver N (even N mostSteps) i l Bound.total
+isOver N i l = worstOver 1 N (even N mostSteps) i l Bound.protected || worstOver 1 N (even N mostSteps) i l Bound.total

@@ -55,7 +55,7 @@ fn end_load(table: &[u64], q: u64, link: usize) -> u64
 fn fits(network: &[u64], protected: &[u64], all: &[u64], q: u64) -> bool
     requires { ⌜ Ready (now network) (now protected) (now all) ⌝ }
     requires { ⌜ (1 ≤ q) × (q ≤ mostSteps) ⌝ }
-    ensures { λ r. ⌜ r ≡ accepted (networkOf (now (network .entry))) (even (networkOf (now (network .entry))) q) ⌝ }
+    ensures { λ r. ⌜ r ≡ accepted 1 (networkOf (now (network .entry))) (even (networkOf (now (network .entry))) q) ⌝ }
 {
     let overrun = network[Network::OVERRUN];
     let sizes = Network::of(network);
@@ -75,7 +75,7 @@ fn fits(network: &[u64], protected: &[u64], all: &[u64], q: u64) -> bool
 
 pub fn fewest_steps(network: &[u64], protected: &[u64], all: &[u64]) -> Fewest
     requires { ⌜ Ready (now network) (now protected) (now all) ⌝ }
-    ensures { λ r. ⌜ r ≡ answered (fewest (networkOf (now (network .entry)))) ⌝ }
+    ensures { λ r. ⌜ r ≡ answered (fewest 1 (networkOf (now (network .entry)))) ⌝ }
 {
     let mut tried: u64 = 0;
     while tried < Network::STEPS {
@@ -105,7 +105,7 @@ fn is_over(network: &[u64], protected: &[u64], all: &[u64], row: u64, link: usiz
 // Where the plan of 50 steps first overloads: steps ascending, within a step links ascending.
 pub fn first_overload(network: &[u64], protected: &[u64], all: &[u64]) -> Answer
     requires { ⌜ Ready (now network) (now protected) (now all) ⌝ }
-    ensures { λ r. ⌜ r ≡ plan (stuck (firstOverload (networkOf (now (network .entry))) (even (networkOf (now (network .entry))) mostSteps))) ⌝ }
+    ensures { λ r. ⌜ r ≡ plan (stuck (firstOverload 1 (networkOf (now (network .entry))) (even (networkOf (now (network .entry))) mostSteps))) ⌝ }
 {
     let links = Network::of(network).links;
     let mut place: u64 = 0;

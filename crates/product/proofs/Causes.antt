@@ -78,8 +78,8 @@ pair-all n p =
 
 pub verdict-all : (n p : List ℕ) (room : ℕ) → NotOver (verdict n p room)
 verdict-all n p room =
-    then-all (judgePair n p) (λ q. cond (leb (networkOf n .tunnels) room) (good (rule.firstOverload (networkOf n) (planOf q))) (refused Cause.noRoom (networkOf n .tunnels) 0)) (pair-all n p) (λ q.
-    cond-all (leb (networkOf n .tunnels) room) (good (rule.firstOverload (networkOf n) (planOf q))) (refused Cause.noRoom (networkOf n .tunnels) 0) tt (inr (omega arith)))
+    then-all (judgePair n p) (λ q. cond (leb (networkOf n .tunnels) room) (good (rule.firstOverload 1 (networkOf n) (planOf q))) (refused Cause.noRoom (networkOf n .tunnels) 0)) (pair-all n p) (λ q.
+    cond-all (leb (networkOf n .tunnels) room) (good (rule.firstOverload 1 (networkOf n) (planOf q))) (refused Cause.noRoom (networkOf n .tunnels) 0) tt (inr (omega arith)))
 
 -- so a refusal by 7 or 8 is an overload
 pub over-number : (b : Bound) (k : ℕ) → k ≡ number (cause b) → (k < 7) ⊎ (8 < k) → ⊥

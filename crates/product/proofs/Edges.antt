@@ -4,10 +4,11 @@ use mathlib.Core.Bool.{true}
 use mathlib.Core.List.{flatten}
 use mathlib.Core.Option.{orElse, Option·elim}
 use Rattle.model.specs.Sum.{sumOver}
+use Rattle.model.specs.Largest.{largest}
 use Rattle.model.specs.Search.{onlyIf, isNone, first}
 use Rattle.model.specs.Net.{row}
 use Rattle.model.specs.Scan.{scan, testLink, test}
-use Rattle.model.specs.Rule.{crosses, across, byFlow, movers, moverOf, flowOf, onLink, counts, load, exceeds, flowSum, missedBy, missedRate, between, missedIn, missedRow, stepCount, worst, worstOver, firstOverload, accepted, mark}
+use Rattle.model.specs.Rule.{crosses, across, byFlow, movers, moverOf, flowOf, onLink, counts, load, exceeds, flowSum, missedBy, missedRate, between, missedIn, missedRow, stepCount, reach, worst, worstOver, firstOverload, accepted, mark}
 use Rattle.model.specs.Even.{evenRow, even, fewest, ceilDiv, stepBound}
 use Rattle.model.specs.Listed.{listed}
 use Rattle.lists.specs.Lists.{headSize, perLink, perFlow, networkSizes, linkAt, flowAt, nextIn, tunnelAt, heldOf, networkOf, planOf}
@@ -18,5 +19,5 @@ use Rattle.planner.specs.Planned.{evenList, stuck, evenPlan, planned}
 use Rattle.product.specs.Edges.{edges, same, numbers, hold}
 
 pub edges-hold : hold edges ≡ true
-unfolding edges same numbers hold boundOf stepBound ceilDiv planned evenPlan Option·elim flatten stuck evenList listed judgeNumbers walk fieldOf networkBody addUp headSize perLink perFlow networkSizes linkAt flowAt nextIn tunnelAt heldOf networkOf planOf missedRate missedBy missedRow between missedIn flowSum fewest accepted even evenRow firstOverload stepCount scan testLink test worstOver exceeds load counts worst onLink byFlow movers moverOf flowOf across crosses mark row sumOver onlyIf isNone orElse first
+unfolding edges same numbers hold boundOf stepBound ceilDiv planned evenPlan Option·elim flatten stuck evenList listed judgeNumbers walk fieldOf networkBody addUp headSize perLink perFlow networkSizes linkAt flowAt nextIn tunnelAt heldOf networkOf planOf missedRate missedBy missedRow between missedIn flowSum fewest accepted even evenRow firstOverload stepCount scan testLink test worstOver exceeds load counts worst largest reach onLink byFlow movers moverOf flowOf across crosses mark row sumOver onlyIf isNone orElse first
 edges-hold = refl

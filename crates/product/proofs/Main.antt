@@ -15,6 +15,7 @@ use Rattle.model.specs.Scan.{Bound, Overload, cause, step}
 use Rattle.model.specs.Rule.{overloads, mark, moversOf, marked, stepCount}
 use Rattle.model.specs.Even.{keepsScratch, stepBound}
 use Rattle.model.proofs.Movers.{movers-same}
+use Rattle.model.proofs.Today.{later-overloads}
 use Rattle.lists.specs.Lists.{networkOf, planOf}
 use Rattle.lists.specs.Answers.{withRoom, plan, lent}
 use Rattle.lists.specs.declared.Answer.the-variants.{Done, Plan as Planned, Refused}
@@ -85,23 +86,25 @@ mark-at : (m : ℕ → Bool) (n t : ℕ) (rest : List ℕ) → t < n → eqb (ge
 mark-at m n t rest h =
     ap (λ (k : ℕ). eqb k 1) (List·getD-append (marksOf m n) rest 0 t (rw (listed-length {A = ℕ} n (λ i. cond (m i) 1 0)) h) ∙ listed-at n (λ i. cond (m i) 1 0) t h) ∙ bit (m t)
 
-shows-same : (N : Net) (P : Plan) (o : Overload) (marks : List ℕ) → ((t : ℕ) → t < N .tunnels → eqb (getD marks t 0) 1 ≡ mark N P o t)
-    → overloads N P (o .from) (o .link) (moversOf N (λ t. eqb (getD marks t 0) 1)) (o .bound) ≡ overloads N P (o .from) (o .link) (marked N P o) (o .bound)
-unfolding marked
-shows-same N P o marks h = ap (λ (c : ℕ → Bool). overloads N P (o .from) (o .link) c (o .bound)) (fun-ext (movers-same N _ _ h))
+shows-same : (N : Net) (P : Plan) (o : Overload) (marks : List ℕ) → ((t : ℕ) → t < N .tunnels → eqb (getD marks t 0) 1 ≡ mark 1 N P o t)
+    → overloads 1 N P (o .from) (o .link) (λ m. cond (moversOf N (λ t. eqb (getD marks t 0) 1) m) 1 0) (o .bound)
+    ≡ overloads 1 N P (o .from) (o .link) (marked 1 N P o) (o .bound)
+shows-same N P o marks h =
+    ap (λ (c : ℕ → ℕ). overloads 1 N P (o .from) (o .link) c (o .bound)) (fun-ext (λ m. ap (λ (b : Bool). cond b 1 0) (movers-same N _ _ h m)))
+    ∙ later-overloads N P o (o .bound)
 
 -- what is shown of an overload, in the terms of its answer
 shown-at : (n p marks : List ℕ) (b : Bound) (a l : ℕ) (o : Over (verdict n p (length marks)) b a l)
-    → (o .overload .from < stepCount (networkOf n) (planOf p)) × (o .overload .link < networkOf n .links)
-    × (overloads (networkOf n) (planOf p) (o .overload .from) (o .overload .link) (marked (networkOf n) (planOf p) (o .overload)) (o .overload .bound) ≡ true)
-    → (1 ≤ a) × (a - 1 < stepCount (networkOf n) (planOf p)) × (l < networkOf n .links)
-    × (overloads (networkOf n) (planOf p) (a - 1) l (byMarks n p (a - 1) (marksAfter n p (verdict n p (length marks)) marks)) b ≡ true)
+    → (o .overload .from < stepCount 1 (networkOf n) (planOf p)) × (o .overload .link < networkOf n .links)
+    × (overloads 1 (networkOf n) (planOf p) (o .overload .from) (o .overload .link) (marked 1 (networkOf n) (planOf p) (o .overload)) (o .overload .bound) ≡ true)
+    → (1 ≤ a) × (a - 1 < stepCount 1 (networkOf n) (planOf p)) × (l < networkOf n .links)
+    × (overloads 1 (networkOf n) (planOf p) (a - 1) l (byMarks n p (a - 1) (marksAfter n p (verdict n p (length marks)) marks)) b ≡ true)
 shown-at n p marks b a l o s =
     let w = o .overload in
     let row : a - 1 ≡ w .from = omega (arith, o .from) in
     let ms : List ℕ = marksAfter n p (verdict n p (length marks)) marks in
-    let em : ms ≡ marksOf (mark (networkOf n) (planOf p) w) (networkOf n .tunnels) ++ drop (networkOf n .tunnels) marks = ap (λ (v : Outcome (Option Overload)). marksAfter n p v marks) (o .found) in
-    let same = shows-same (networkOf n) (planOf p) w ms (λ t h. ap (λ (xs : List ℕ). eqb (getD xs t 0) 1) em ∙ mark-at (mark (networkOf n) (planOf p) w) (networkOf n .tunnels) t _ h) in (
+    let em : ms ≡ marksOf (mark 1 (networkOf n) (planOf p) w) (networkOf n .tunnels) ++ drop (networkOf n .tunnels) marks = ap (λ (v : Outcome (Option Overload)). marksAfter n p v marks) (o .found) in
+    let same = shows-same (networkOf n) (planOf p) w ms (λ t h. ap (λ (xs : List ℕ). eqb (getD xs t 0) 1) em ∙ mark-at (mark 1 (networkOf n) (planOf p) w) (networkOf n .tunnels) t _ h) in (
       omega (arith, o .from),
       omega (arith, s .0, row),
       omega (arith, s .1, o .link),
@@ -155,4 +158,4 @@ pub accepted : Accepted
 accepted n p room e h =
     let s = planner.claim .safe n p e in
     let r : Reaches n p room = record { network = s .network; plan = s .judged; tunnels = s .tunnels; rows = s .rows; room = h } in
-    ap (checked n) (checker .done n p room .1 (r, none-kept (networkOf n) (planOf p) (s .overload)))
+    ap (checked n) (checker .done n p room .1 (r, none-kept 1 (networkOf n) (planOf p) (s .overload)))

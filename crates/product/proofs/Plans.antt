@@ -31,27 +31,27 @@ use Rattle.product.proofs.Main as main
 -- ---- an even plan as a list
 
 module _ (n : List ℕ) (room : ℕ) (j : judgeNetwork n ≡ good n) (h : networkOf n .tunnels ≤ room) (q : ℕ) (one : 1 ≤ q) (most : q ≤ mostSteps) where
-  even-verdict : verdict n (evenList (networkOf n) q) room ≡ good (firstOverload (networkOf n) (even (networkOf n) q))
+  even-verdict : verdict n (evenList (networkOf n) q) room ≡ good (firstOverload 1 (networkOf n) (even (networkOf n) q))
   even-verdict =
       let e = planner.even-listed n j q one most in
       weighed n (evenList (networkOf n) q) room (record { network = j; plan = e .judged; tunnels = e .tunnels; rows = e .rows; room = h }) ∙ ap good (e .overload)
 
-  even-accepted : Accepts n (evenList (networkOf n) q) room ↔ (accepted (networkOf n) (even (networkOf n) q) ≡ true)
+  even-accepted : Accepts n (evenList (networkOf n) q) room ↔ (accepted 1 (networkOf n) (even (networkOf n) q) ≡ true)
   even-accepted = (
-    λ a. accepted-both (networkOf n) (even (networkOf n) q) .1 (
+    λ a. accepted-both 1 (networkOf n) (even (networkOf n) q) .1 (
       even-adds-up (networkOf n) q (good-network n n j .1 .sums),
       good-same _ _ (sym even-verdict ∙ main.done-none n (verdict n (evenList (networkOf n) q) room) (networkOf n .tunnels) a),
     ),
-    λ a. ap (checked n) (even-verdict ∙ ap good (accepted-both (networkOf n) (even (networkOf n) q) .0 a .1)),
+    λ a. ap (checked n) (even-verdict ∙ ap good (accepted-both 1 (networkOf n) (even (networkOf n) q) .0 a .1)),
   )
 
 -- the model's "none is accepted" is the checker's
 module _ (n : List ℕ) (room : ℕ) (j : judgeNetwork n ≡ good n) (h : networkOf n .tunnels ≤ room) where
-  none-modelled : NoneAccepted n room (λ q. q ≤ mostSteps) → (q : ℕ) → 1 ≤ q → q ≤ mostSteps → accepted (networkOf n) (even (networkOf n) q) ≡ false
+  none-modelled : NoneAccepted n room (λ q. q ≤ mostSteps) → (q : ℕ) → 1 ≤ q → q ≤ mostSteps → accepted 1 (networkOf n) (even (networkOf n) q) ≡ false
   none-modelled refuses q one most =
-      ⊎-elim (λ t. absurd (refuses q one most (even-accepted n room j h q one most .1 t))) (λ f. f) (bool-cases (accepted (networkOf n) (even (networkOf n) q)))
+      ⊎-elim (λ t. absurd (refuses q one most (even-accepted n room j h q one most .1 t))) (λ f. f) (bool-cases (accepted 1 (networkOf n) (even (networkOf n) q)))
 
-  none-checked : (q : ℕ) → 1 ≤ q → q ≤ mostSteps → accepted (networkOf n) (even (networkOf n) q) ≡ false → Accepts n (evenList (networkOf n) q) room → ⊥
+  none-checked : (q : ℕ) → 1 ≤ q → q ≤ mostSteps → accepted 1 (networkOf n) (even (networkOf n) q) ≡ false → Accepts n (evenList (networkOf n) q) room → ⊥
   none-checked q one most f a = true≢false (sym (even-accepted n room j h q one most .0 a) ∙ f)
 
 -- ---- refusal 9 is told by its number

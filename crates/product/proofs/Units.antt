@@ -207,26 +207,26 @@ module _ (n : List ℕ) (z : UnitZero n) (j : judgeNetwork n ≡ good n) where
   tunnels-same = sym (ap (λ (N : Net). N .tunnels) same-net)
 
   -- what passes with `unit=0` passes with `unit=1`
-  passes : (P : Plan) → accepted (networkOf n) P ≡ true → accepted (networkOf (unitOne n)) P ≡ true
-  passes P a = rw same-net (weaker .unit (networkOf n) P in-flows (rw own-unit a))
+  passes : (P : Plan) → accepted 1 (networkOf n) P ≡ true → accepted 1 (networkOf (unitOne n)) P ≡ true
+  passes P a = rw same-net (weaker .unit 1 (networkOf n) P in-flows (rw own-unit a))
 
   accepts : (p : List ℕ) (room : ℕ) → Accepts n p room → Accepts (unitOne n) p room
   accepts p room a =
       let r = demand2 .accepts n p room .0 a in
-      let q = accepted-both (networkOf (unitOne n)) (planOf p) .0 (passes (planOf p) (accepted-both (networkOf n) (planOf p) .1 (r .0 .rows, kept-none (networkOf n) (planOf p) (r .1)))) in
+      let q = accepted-both 1 (networkOf (unitOne n)) (planOf p) .0 (passes (planOf p) (accepted-both 1 (networkOf n) (planOf p) .1 (r .0 .rows, kept-none 1 (networkOf n) (planOf p) (r .1)))) in
       demand2 .accepts (unitOne n) p room .1 (
         record { network = judged; plan = r .0 .plan; tunnels = r .0 .tunnels ∙ tunnels-same; rows = q .0; room = omega (arith, tunnels-same, r .0 .room) },
-        none-kept (networkOf (unitOne n)) (planOf p) (q .1),
+        none-kept 1 (networkOf (unitOne n)) (planOf p) (q .1),
       )
 
   even-same : (q : ℕ) → even (networkOf (unitOne n)) q ≡ even (networkOf n) q
   unfolding even evenRow withUnit
   even-same q = rw same-net refl
 
-  passes-even : (q : ℕ) → accepted (networkOf n) (even (networkOf n) q) ≡ true → accepted (networkOf (unitOne n)) (even (networkOf (unitOne n)) q) ≡ true
-  passes-even q a = subst (λ (P : Plan). accepted (networkOf (unitOne n)) P ≡ true) (sym (even-same q)) (passes (even (networkOf n) q) a)
+  passes-even : (q : ℕ) → accepted 1 (networkOf n) (even (networkOf n) q) ≡ true → accepted 1 (networkOf (unitOne n)) (even (networkOf (unitOne n)) q) ≡ true
+  passes-even q a = subst (λ (P : Plan). accepted 1 (networkOf (unitOne n)) P ≡ true) (sym (even-same q)) (passes (even (networkOf n) q) a)
 
-  even-planned : (q : ℕ) → fewest (networkOf (unitOne n)) ≡ some q → planned (unitOne n) ≡ good (evenList (networkOf (unitOne n)) q)
+  even-planned : (q : ℕ) → fewest 1 (networkOf (unitOne n)) ≡ some q → planned (unitOne n) ≡ good (evenList (networkOf (unitOne n)) q)
   unfolding evenPlan Option·elim
   even-planned q e = planned-good (unitOne n) judged ∙ rw e refl
 
@@ -245,7 +245,7 @@ module _ (n : List ℕ) (z : UnitZero n) (j : judgeNetwork n ≡ good n) where
   fewer : (p out : List ℕ) → Returns n p out → (q : List ℕ) × (planOf q .steps ≤ planOf p .steps) × Returns (unitOne n) q out
   fewer p out r =
       let f = claim .fewest n p (returns-planned n p out r) in
-      let s = fewest-least (networkOf (unitOne n)) (f .steps) (f .least) (f .most) (passes-even (f .steps) (f .accepted)) in
+      let s = fewest-least 1 (networkOf (unitOne n)) (f .steps) (f .least) (f .most) (passes-even (f .steps) (f .accepted)) in
       let q = evenList (networkOf (unitOne n)) (s .0) in
       (q, steps-fewer p (f .steps) (s .0) (f .list) (s .2), returned (unitOne n) q out (even-planned (s .0) (s .1)) (le-trans (room-fewer p (f .steps) (s .0) (f .list) (s .2)) (returns-room n p out r)))
 

@@ -34,7 +34,7 @@ pub record Demand2 : Type 0 where
   pub accepts : (n p : List ℕ) (room : ℕ) → Accepts n p room ↔ (Reaches n p room × MeetsRule n p)
   -- of the list of an even plan the checker says what the rule says of the even plan
   pub even-accepted : (n : List ℕ) (q room : ℕ) → judgeList forms.Network n ≡ good n → networkOf n .tunnels ≤ room → 1 ≤ q → q ≤ mostSteps
-      → Accepts n (evenList (networkOf n) q) room ↔ (accepted (networkOf n) (even (networkOf n) q) ≡ true)
+      → Accepts n (evenList (networkOf n) q) room ↔ (accepted 1 (networkOf n) (even (networkOf n) q) ≡ true)
   -- "The planner returns the even plan of fewest steps"
   pub fewest : (n p out : List ℕ) (room : ℕ) → Returns n p out → networkOf n .tunnels ≤ room
       → (q : ℕ) × (1 ≤ q) × (q ≤ mostSteps) × (p ≡ evenList (networkOf n) q) × Accepts n p room × NoneAccepted n room (λ r. r < q)

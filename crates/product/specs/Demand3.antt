@@ -2,7 +2,7 @@
 -- Step a of the paper leads from row a - 1; `length marks` is the room for the marks.
 use Prim.Native.Nat.{ℕ, _-_, _≤_, _<_}
 use mathlib.Core.Path.{_≡_}
-use mathlib.Core.Bool.{true, false}
+use mathlib.Core.Bool.{true, false, cond}
 use mathlib.Core.List.{List, _++_}
 use mathlib.Core.Option.{none}
 use lib.Dec.{eqb}
@@ -28,13 +28,13 @@ pub data Valid (form : Form) (l : List ℕ) : Type 0 where
 -- "no choice in any step overloads a link"
 abbrev pub NoOverload : List ℕ → List ℕ → Type 0
 NoOverload n p =
-    (i l : ℕ) → i < stepCount (networkOf n) (planOf p) → l < networkOf n .links
-    → (c : Choice (networkOf n) (planOf p) i) (b : Bound) → overloads (networkOf n) (planOf p) i l c b ≡ false
+    (i l : ℕ) → i < stepCount 1 (networkOf n) (planOf p) → l < networkOf n .links
+    → (c : Choice 1 (networkOf n) (planOf p) i) (b : Bound) → overloads 1 (networkOf n) (planOf p) i l c b ≡ false
 
 -- "the choice in the named step in which the marked tunnels show the later row and all others the earlier", with `unit=1` "the flows of the marked tunnels", by the bytes
--- of the marks
-abbrev pub byMarks : (n p : List ℕ) (i : ℕ) → List ℕ → Choice (networkOf n) (planOf p) i
-byMarks n p i marks = moversOf (networkOf n) (λ t. eqb (getD marks t 0) 1)
+-- of the marks: 0 shows the earlier row, 1 the later
+abbrev pub byMarks : (n p : List ℕ) (i : ℕ) → List ℕ → Choice 1 (networkOf n) (planOf p) i
+byMarks n p i marks m = cond (moversOf (networkOf n) (λ t. eqb (getD marks t 0) 1) m) 1 0
 
 -- the planner, given the room, returns the plan p: the answer is a plan, and p stands at the front of the output
 abbrev pub Returns : List ℕ → List ℕ → List ℕ → Type 0
@@ -48,13 +48,13 @@ pub record Demand3 : Type 0 where
   -- "After 7 or 8 from the checker, take the choice in the named step in which the marked tunnels show the later row and all others the earlier:
   -- it breaks that number's bound on the named link."
   pub marked : (n p marks : List ℕ) (b : Bound) (a l : ℕ) → checked n (verdict n p (length marks)) ≡ Refused (number (cause b)) a l
-      → (1 ≤ a) × (a - 1 < stepCount (networkOf n) (planOf p)) × (l < networkOf n .links)
-      × (overloads (networkOf n) (planOf p) (a - 1) l (byMarks n p (a - 1) (marksAfter n p (verdict n p (length marks)) marks)) b ≡ true)
+      → (1 ≤ a) × (a - 1 < stepCount 1 (networkOf n) (planOf p)) × (l < networkOf n .links)
+      × (overloads 1 (networkOf n) (planOf p) (a - 1) l (byMarks n p (a - 1) (marksAfter n p (verdict n p (length marks)) marks)) b ≡ true)
   -- "With valid texts or lists, equal `tunnels`, rows that add up and room for the marks, a plan that some choice overloads always meets 7 or 8
   -- from the checker."
   pub found : (n p marks : List ℕ) → Valid forms.Network n → Valid forms.Plan p → planSizes p .tunnels ≡ networkOf n .tunnels → missedRow (networkOf n) (planOf p) ≡ none → networkOf n .tunnels ≤ length marks
-      → (i l : ℕ) → i < stepCount (networkOf n) (planOf p) → l < networkOf n .links
-      → (c : Choice (networkOf n) (planOf p) i) (b : Bound) → overloads (networkOf n) (planOf p) i l c b ≡ true
+      → (i l : ℕ) → i < stepCount 1 (networkOf n) (planOf p) → l < networkOf n .links
+      → (c : Choice 1 (networkOf n) (planOf p) i) (b : Bound) → overloads 1 (networkOf n) (planOf p) i l c b ≡ true
       → (w : Bound) × (a : ℕ) × (k : ℕ) × (checked n (verdict n p (length marks)) ≡ Refused (number (cause w)) a k)
   -- "networks that keep their scratch with overrun 0: for these the planner, given the room, returns a plan, and its steps are the number on that
   -- plan's `steps` line": at most ceil(1000/scratch) - 1

@@ -23,7 +23,7 @@ use Rattle.planner.proofs.steps.fewest_steps.Reads as fewest-steps-read
 use Rattle.planner.proofs.steps.first_overload.Reads as first-overload-reads
 use Rattle.link_sums.proofs.gather.Reads as gather-reads
 
-found : (c : tie.After-known-told) → fewest (networkOf (c .before .before .before .before .before .before .before .before .before .before .before .before .before .args .network .now)) ≡ some (c .before .fewest .given .0 .0)
+found : (c : tie.After-known-told) → fewest 1 (networkOf (c .before .before .before .before .before .before .before .before .before .before .before .before .before .args .network .now)) ≡ some (c .before .fewest .given .0 .0)
 found c = answered-some _ _ (sym (c .before .before .before .fewest-steps .ensures) ∙ c .before .fewest .given .1)
 
 -- the size is the length of the plan's list
@@ -72,7 +72,7 @@ plan-sizes-requires c κs = search needs
 
 row-at-requires : tie.Need-row-at-requires
 row-at-requires c κs = let e = c .plan-sizes .ensures in
-    let f = fewest-some _ _ (found (c .before)) in
+    let f = fewest-some 1 _ _ (found (c .before)) in
     let s = ap (λ (n : PlanSizes). n .steps) e in
     (omega (arith, s, f), omega (arith, s, f), omega (arith, ap (λ (n : PlanSizes). n .tunnels) e, good-range _ (c .before .before .before .before .before .before .before .before .before .before .before .before .before .before .pre) .tunnels))
 
@@ -82,7 +82,7 @@ returns-2 c = let n = size (c .before) in
     (ap (λ (m : ℕ). Refused 10 m 0) n ∙ sym (k .0), sym (k .1))
 
 write-plan-requires : tie.Need-write-plan-requires
-write-plan-requires c κs = let f = fewest-some _ _ (found (c .before .before .before .before)) in
+write-plan-requires c κs = let f = fewest-some 1 _ _ (found (c .before .before .before .before)) in
     (c .before .before .before .before .before .before .before .before .before .before .before .before .before .before .before .before .before .pre, (f .0, f .1, omega (arith, size (c .before .before), c .before .if1 .left)))
 
 same-length : tie.Need-same-length

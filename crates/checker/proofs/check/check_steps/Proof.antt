@@ -16,7 +16,7 @@ unfolding networkOf
 tunnels c = ap (λ (n : counts.Network). n .tunnels) (c .of .ensures)
 
 -- what is found
-named : (c : tie.After-found) → let a = c .before .before .before .before .before .before .args in Named (firstOverload (networkOf (a .network .now)) (planOf (a .plan .now))) (c .found .given .0 .0) (c .found .given .0 .1 .0) (c .found .given .0 .1 .1 .0)
+named : (c : tie.After-found) → let a = c .before .before .before .before .before .before .args in Named (firstOverload 1 (networkOf (a .network .now)) (planOf (a .plan .now))) (c .found .given .0 .0) (c .found .given .0 .1 .0) (c .found .given .0 .1 .1 .0)
 named c = found-some _ _ _ _ (sym (c .found .given .1) ∙ c .before .before .first-overload .ensures)
 
 first-overload-requires : tie.Need-first-overload-requires
@@ -45,13 +45,13 @@ returns c = let n = tunnels (c .before .before .before .before) in
 mark-requires : tie.Need-mark-requires
 unfolding networkOf planOf
 mark-requires c κs =
-    let s = found-in (networkOf (c .before .before .before .before .before .before .before .before .args .network .now)) (planOf (c .before .before .before .before .before .before .before .before .args .plan .now)) _ _ _ (named (c .before .before)) in
+    let s = found-in (networkOf (c .before .before .before .before .before .before .before .before .args .network .now)) (planOf (c .before .before .before .before .before .before .before .before .args .plan .now)) _ _ _ (c .before .before .before .before .before .before .before .before .pre .0 .plan .steps .0) (named (c .before .before)) in
     (c .before .before .before .before .before .before .before .before .pre .0, s .0, s .1, c .before .before .before .before .before .before .before .before .pre .1)
 
 add-step : tie.Need-add-step
 unfolding networkOf planOf
 add-step c =
-    record { fits = omega (arith, c .before .before .before .before .before .before .before .before .before .before .before .pre .0 .plan .steps, found-in (networkOf (c .before .before .before .before .before .before .before .before .before .before .before .args .network .now)) (planOf (c .before .before .before .before .before .before .before .before .before .before .before .args .plan .now)) _ _ _ (named (c .before .before .before .before .before)) .0) }
+    record { fits = omega (arith, c .before .before .before .before .before .before .before .before .before .before .before .pre .0 .plan .steps, found-in (networkOf (c .before .before .before .before .before .before .before .before .before .before .before .args .network .now)) (planOf (c .before .before .before .before .before .before .before .before .before .before .before .args .plan .now)) _ _ _ (c .before .before .before .before .before .before .before .before .before .before .before .pre .0 .plan .steps .0) (named (c .before .before .before .before .before)) .0) }
 
 same-length-2 : tie.Need-same-length-2
 same-length-2 c = search needs

@@ -61,8 +61,9 @@ loop-less : tie.Need-loop-less Inv-loop μ-loop
 loop-less c = search needs
 
 loop-again : tie.Need-loop-again Inv-loop μ-loop
+unfolding planOf
 loop-again c = let p = place ((c .before .before .before .before)) in
-    let m = mark-of-tunnel (networkOf (c .before .before .before .before .before .before .before .before .before .before .before .before .args .network .now)) (planOf (c .before .before .before .before .before .before .before .before .before .before .before .before .args .plan .now)) (c .before .before .before .before .before .before .before .before .before .before .before .before .args .i) (c .before .before .before .before .before .before .before .before .before .before .before .before .args .l) (c .before .before .before .before .before .before .before .loop .t) _ _ _ _ (via-here _ (c .before .before .before .before .before .before .before .before .before .before .before .before .pre .0 .network) _ _ p) (c .rises .ensures) (c .before .before .before .before .before .before .before .before .before .before .before .before .pre .1) (c .before .before .before2 .ensures) (c .before .after .ensures) in
+    let m = mark-of-tunnel (networkOf (c .before .before .before .before .before .before .before .before .before .before .before .before .args .network .now)) (planOf (c .before .before .before .before .before .before .before .before .before .before .before .before .args .plan .now)) (c .before .before .before .before .before .before .before .before .before .before .before .before .args .i) (c .before .before .before .before .before .before .before .before .before .before .before .before .args .l) (c .before .before .before .before .before .before .before .loop .t) _ _ _ _ (via-here _ (c .before .before .before .before .before .before .before .before .before .before .before .before .pre .0 .network) _ _ p) (c .rises .ensures) (c .before .before .before .before .before .before .before .before .before .before .before .before .pre .1) (c .before .before .before .before .before .before .before .before .before .before .before .before .pre .2) (c .before .before .before2 .ensures) (c .before .after .ensures) in
     (omega (arith, c .before .before .before .before .before .if1 .taken), simp length-set (c .before .before .before .before .before .before .before .loop .inv .1), listed-on _ _ _ _ _ (c .before .before .before .before .before .before .before .loop .inv .2) (omega (arith, p .there, c .before .before .before .before .before .before .before .before .before .before .before .before .pre .4)) m)
 
 same-length : tie.Need-same-length Inv-loop μ-loop

@@ -5,9 +5,10 @@ use mathlib.Core.Option.{none}
 use lib.ListN.{length-replicate}
 use Rattle.model.specs.Search.{first}
 use Rattle.model.specs.Scan.{testLink}
-use Rattle.model.specs.Rule.{worstOver, firstOverload, stepCount}
+use Rattle.model.specs.Rule.{worstOver}
 use Rattle.model.proofs.Searches.{first-zero, first-on}
 use Rattle.model.proofs.Scans.{step-on, scan-at, scan-end, testStep}
+use Rattle.model.proofs.Today.{overload-today}
 use Rattle.lists.specs.Lists.{networkOf, planOf}
 use Rattle.lists.specs.declared.Network as counts
 use Rattle.lists.specs.declared.PlanSizes as lengths
@@ -27,13 +28,13 @@ use Rattle.overloads.proofs.steps.first_overload.Statement.{statement}
 use Rattle.overloads.proofs.steps.first_overload.Tie as tie
 
 abbrev Inv-loop : tie.InvT-loop
-Inv-loop network plan links steps vias classes capacities raised amounts loads found₀ i k l₀ found l = (l ≤ links) × (found ≡ Nothing) × (first l (testLink (worstOver (networkOf network) (planOf plan)) i) ≡ none)
+Inv-loop network plan links steps vias classes capacities raised amounts loads found₀ i k l₀ found l = (l ≤ links) × (found ≡ Nothing) × (first l (testLink (worstOver 1 (networkOf network) (planOf plan)) i) ≡ none)
 
 abbrev μ-loop : tie.MeasureT-loop
 μ-loop network plan links steps vias classes capacities raised amounts loads found₀ i k l₀ found l = links - l
 
 abbrev Inv-steps : tie.InvT-steps
-Inv-steps network plan links steps vias classes capacities raised amounts₀ loads₀ found₀ i₀ amounts loads found i = (i ≤ steps) × (found ≡ Nothing) × AmountTable network amounts × InBlock (networkOf network) (planOf plan) i loads × (first i (testStep (networkOf network .links) (worstOver (networkOf network) (planOf plan))) ≡ none)
+Inv-steps network plan links steps vias classes capacities raised amounts₀ loads₀ found₀ i₀ amounts loads found i = (i ≤ steps) × (found ≡ Nothing) × AmountTable network amounts × InBlock (networkOf network) (planOf plan) i loads × (first i (testStep (networkOf network .links) (worstOver 1 (networkOf network) (planOf plan))) ≡ none)
 
 abbrev μ-steps : tie.MeasureT-steps
 μ-steps network plan links steps vias classes capacities raised amounts₀ loads₀ found₀ i₀ amounts loads found i = steps - i
@@ -56,6 +57,10 @@ module _ (c : tie.After-of2 Inv-loop μ-loop Inv-steps μ-steps) where
   parts : c .of2 .result .parts ≡ P .parts
   unfolding planOf
   parts = ap (λ (n : lengths.PlanSizes). n .parts) (c .of2 .ensures)
+
+  pos : 0 < P .steps
+  unfolding planOf
+  pos = start .pre .plan .steps .0
 
   steps : c .of2 .result .steps ≡ P .steps
   unfolding planOf
@@ -179,24 +184,22 @@ steps-again c = let s = (c .before .before .before .before .before .before .befo
       c .before .loop .inv .1,
       c .before .before .before .before .block-loads .ensures .0,
       in-next _ _ _ _ (c .before .before .before .before .block-loads .ensures .1),
-      step-on (c .before .before .before .before .before .before .before .before .before .before .steps .i) _ _ _ (c .before .before .before .before .before .before .before .before .before .before .steps .inv .4) (subst (λ (n : ℕ). first n (testLink (worstOver (N s) (P s)) (c .before .before .before .before .before .before .before .before .before .before .steps .i)) ≡ none) e (c .before .loop .inv .2)),
+      step-on (c .before .before .before .before .before .before .before .before .before .before .steps .i) _ _ _ (c .before .before .before .before .before .before .before .before .before .before .steps .inv .4) (subst (λ (n : ℕ). first n (testLink (worstOver 1 (N s) (P s)) (c .before .before .before .before .before .before .before .before .before .before .steps .i)) ≡ none) e (c .before .loop .inv .2)),
     )
 
 returns : tie.Need-returns Inv-loop μ-loop Inv-steps μ-steps
-unfolding firstOverload stepCount
 returns c = let s = (c .before .before .before .before .before .before .before .before .before .before .before .before) in
     let e : c .before .steps .i ≡ P s .steps = omega (arith, c .steps-test .left, c .before .steps .inv .0, steps s) in
-    c .before .steps .inv .1 ∙ ap foundOf (sym (scan-end _ _ (worstOver (N s) (P s)) (subst (λ (n : ℕ). first n (testStep (N s .links) (worstOver (N s) (P s))) ≡ none) e (c .before .steps .inv .4))))
+    c .before .steps .inv .1 ∙ ap foundOf (sym (overload-today (N s) (P s) (pos s) ∙ scan-end _ _ (worstOver 1 (N s) (P s)) (subst (λ (n : ℕ). first n (testStep (N s .links) (worstOver 1 (N s) (P s))) ≡ none) e (c .before .steps .inv .4))))
 
 returns-2 : tie.Need-returns-2 Inv-loop μ-loop Inv-steps μ-steps
-unfolding firstOverload stepCount
 returns-2 c = let k = (c .before .before .before .before .before) in
     let s = sizes k in
     let n = number (c .before) in
     let o = over-some (N s) (P s) (c .before .before .before .before .before .before .before .before .before .before .before .before .before .before .before .steps .i) (c .before .before .before .before .before .before .loop .l) (λ z. c .if1 .taken (n ∙ z)) in
     ap (λ (m : ℕ). At m (c .before .before .before .before .before .before .before .before .before .before .before .before .before .before .before .steps .i) (c .before .before .before .before .before .before .loop .l)) n
     ∙ sym (o .2)
-    ∙ ap foundOf (sym (scan-at _ _ (worstOver (N s) (P s)) (c .before .before .before .before .before .before .before .before .before .before .before .before .before .before .before .steps .i) (c .before .before .before .before .before .before .loop .l) (o .0) (c .before .before .before .before .before .before .before .before .before .before .before .before .before .before .before .steps .inv .4) (c .before .before .before .before .before .before .loop .inv .2) (o .1) (in-steps k) (in-links k)))
+    ∙ ap foundOf (sym (overload-today (N s) (P s) (pos s) ∙ scan-at _ _ (worstOver 1 (N s) (P s)) (c .before .before .before .before .before .before .before .before .before .before .before .before .before .before .before .steps .i) (c .before .before .before .before .before .before .loop .l) (o .0) (c .before .before .before .before .before .before .before .before .before .before .before .before .before .before .before .steps .inv .4) (c .before .before .before .before .before .before .loop .inv .2) (o .1) (in-steps k) (in-links k)))
 
 pub first-overload-spec : {M : Type 1} → statement M
 first-overload-spec =

@@ -79,7 +79,7 @@ steps-again c = let N = networkOf (c .before .before .before .before .before .be
     record {
       low = omega arith;
       none = c .before .loop .inv .none;
-      kept = step-on mostSteps (N .links) (worstOver N (even N mostSteps)) (s .row) (s .inv .kept) (subst (linksKept N (s .row)) e (c .before .loop .inv .kept));
+      kept = step-on mostSteps (N .links) (worstOver 1 N (even N mostSteps)) (s .row) (s .inv .kept) (subst (linksKept N (s .row)) e (c .before .loop .inv .kept));
     }
 
 returns : tie.Need-returns Inv-loop μ-loop Inv-steps μ-steps

@@ -22,7 +22,7 @@ use Rattle.planner.proofs.steps.capacity.Reads as capacity-reads
 use Rattle.planner.proofs.steps.end_load.Reads as end-load-reads
 
 abbrev Inv-loop : tie.InvT-loop
-Inv-loop network protected all q overrun sizes link₀ link = record { low : link ≤ sizes .links; kept : (k : ℕ) → k < link → (b : Bound) → factor b * endLoad (networkOf network) b q k ≤ q * room (networkOf network) b k }
+Inv-loop network protected all q overrun sizes link₀ link = record { low : link ≤ sizes .links; kept : (k : ℕ) → k < link → (b : Bound) → factor b * endLoad 1 (networkOf network) b q k ≤ q * room (networkOf network) b k }
 
 abbrev μ-loop : tie.MeasureT-loop
 μ-loop network protected all q overrun sizes link₀ link = sizes .links - link
@@ -100,7 +100,7 @@ returns-3 : tie.Need-returns-3 Inv-loop μ-loop
 unfolding networkOf
 returns-3 c =
     let a = (c .before .before .before .before .before .before .before .before) in
-    sym (even-accepted (networkOf (a .args .network .now)) (a .pre .0 .good .sums) (a .args .q) (a .pre .1 .0) .1 (λ k h. c .before .before .loop .inv .kept k (omega (arith, c .if1 .left, ap (λ (n : counts.Network). n .links) (c .before .before .before .of .ensures)))))
+    sym (even-accepted 1 (networkOf (a .args .network .now)) (a .pre .0 .good .sums) (a .args .q) .1 (λ k h. c .before .before .loop .inv .kept k (omega (arith, c .if1 .left, ap (λ (n : counts.Network). n .links) (c .before .before .before .of .ensures)))))
 
 pub fits-spec : {M : Type 1} → statement M
 fits-spec =
