@@ -4,6 +4,7 @@
 ghost use mathlib.Core.Path.{_≡_};
 ghost use Prim.Native.Nat.{_≤_, _<_};
 ghost use lib.ListN.{length};
+ghost use Rattle.model.specs.Outcome.{isLag};
 ghost use Rattle.model.specs.Rule.{byFlow};
 ghost use Rattle.model.specs.Limits.{mostSteps, mostTunnels, mostSwitches};
 ghost use Rattle.lists.specs.Lists.{hasNext, hasHeld, headSize, perLink, perFlow, nextIn, networkSizes, linkAt, flowAt, tunnelAt, heldOf, networkOf, planSizes, rowAt, tableSizes, roomAt, ruleAt};
@@ -25,6 +26,9 @@ impl Network {
     pub const TUNNELS: u64 = 96;
 
     pub const STEPS: u64 = 50;
+
+    // The largest lag: how many rows after the first a tunnel may show while a step goes on.
+    pub const LAG: u64 = 4;
 
     // The largest amount, in Mbit/s.
     pub const AMOUNT: u64 = 10_000_000;
@@ -75,6 +79,13 @@ impl Network {
         + Self::PER_LINK * Self::LINKS as usize
         + Self::PER_FLOW * Self::FLOWS as usize
         + Self::PER_TUNNEL * Self::TUNNELS as usize;
+
+    // Is the number a lag?
+    pub fn is_lag(lag: u64) -> bool
+        ensures { λ r. ⌜ r ≡ isLag lag ⌝ }
+    {
+        1 <= lag && lag <= Self::LAG
+    }
 
     // The sizes of the network that a list holds, which has a head.
     pub fn of(list: &[u64]) -> Network

@@ -1,6 +1,9 @@
 -- What an operation comes to: what it gives, or a refusal. "Every answer is one of: done, a plan, or a refusal that carries its number, place and second."
 use Prim.Native.Nat.{ℕ}
+use mathlib.Core.Bool.{Bool, cond, _&&_}
 use mathlib.Core.Option.{Option, none, some}
+use lib.Dec.{leb}
+use Rattle.model.specs.Limits.{mostLag}
 
 -- the causes of "Turned down, and why", and from 11 on of the second paper, in the order of their numbers
 pub data Cause : Type 0 where
@@ -48,3 +51,11 @@ unless c (some p) next = refused c (p .place) (p .second)
 abbrev pub andThen : {A B : Type 0} → Outcome A → (A → Outcome B) → Outcome B
 andThen (good a) next = next a
 andThen (refused c place second) next = refused c place second
+
+-- "a lag w of 1 to 4"
+abbrev pub isLag : ℕ → Bool
+isLag w = leb 1 w && leb w mostLag
+
+-- "lag outside 1..4, tested before all else; place the lag, second 0"; what comes after, at any other lag
+abbrev pub atLag : {A : Type 0} → ℕ → Outcome A → Outcome A
+atLag w next = cond (isLag w) next (refused lagOutside w 0)
