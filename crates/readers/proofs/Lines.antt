@@ -1,11 +1,12 @@
 -- Laws of the line reader's steps, as the code's loops use them: what each is at the part of a list from an index on.
-use mathlib.Core.Path.{_≡_, refl, ap, _∙_}
+use mathlib.Core.Path.{_≡_, refl, sym, ap, _∙_}
 use mathlib.Core.Bool.{Bool, true, false, cond, not}
 use mathlib.Core.List.{List, [], _∷_, _++_}
-use Prim.Native.Nat.{ℕ, suc, _+_, _≤_, _<_}
+use Prim.Native.Nat.{ℕ, suc, _+_, _*_, _≤_, _<_}
 use native.Mathlib.Numerals.{add-one}
+use native.Mathlib.Decide.{decLt, ℕ-discrete}
 use native.Mathlib.Omega.{arith}
-use native.Mathlib.Nat.{zero-add}
+use native.Mathlib.Nat.{zero-add, add-zero, add-assoc, mul-le-mul-right}
 use lib.Dec.{T, eqb}
 use lib.ListN.{length, getD, take, drop, set, drop-of-length-le, length-append}
 use lib.Seq.{paste-suc, length-take-le}
@@ -15,7 +16,7 @@ use Rattle.model.proofs.Searches.{both}
 use Rattle.forms.specs.Turns.{no-feeds}
 use Rattle.forms.proofs.Lines.{part-line}
 use Rattle.forms.proofs.Walks.{step}
-use Rattle.readers.specs.Line.{lineLen, firstLine, prefixed}
+use Rattle.readers.specs.Line.{lineLen, firstLine, FourBytes, prefixed}
 
 -- ---- the loops
 
@@ -38,6 +39,58 @@ pub prefix-same : (p t : List ℕ) (i j : ℕ) → i < length p → j < length t
     → prefixed (drop i p) (drop j t) ≡ prefixed (drop (i + 1) p) (drop (j + 1) t)
 unfolding prefixed
 prefix-same p t i j h k e = rw (step p i h, step t j k, eq-eqb (getD t j 0) (getD p i 0) e)
+
+-- two digits of a base are those of their number
+two-same : (base x y u v : ℕ) → x < base → u < base → x + y * base ≡ u + v * base → (x ≡ u) × (y ≡ v)
+two-same base x y u v h k e = go (decLt y v) (decLt v y)
+  where
+    go : Dec (y < v) → Dec (v < y) → (x ≡ u) × (y ≡ v)
+    go (yes a) b = absurd (omega (arith, mul-le-mul-right base a, e, h, k))
+    go (no a) (yes b) = absurd (omega (arith, mul-le-mul-right base b, e, h, k))
+    go (no a) (no b) = let same : y ≡ v = omega arith in (let f : x + v * base ≡ u + v * base = rw same at e in omega (arith, f), same)
+
+-- four bytes of both at once
+module _ (p t : List ℕ) (j m n : ℕ) (i-in : 4 ≤ length p) (j-in : j + 4 ≤ length t) (text : FourBytes t j m) (key : FourBytes p 0 n) where
+  abbrev left : ℕ → Type 0
+  left k = prefixed p (drop j t) ≡ prefixed (drop k p) (drop (j + k) t)
+
+  on : (k : ℕ) → k < 4 → left k → getD t (j + k) 0 ≡ getD p k 0 → left (k + 1)
+  on k h e s = e ∙ rw (← add-assoc j k 1) (prefix-same p t k (j + k) (omega arith) (omega arith) s)
+
+  off : (k : ℕ) → k < 4 → left k → (getD t (j + k) 0 ≡ getD p k 0 → ⊥) → prefixed p (drop j t) ≡ false
+  off k h e s = e ∙ prefix-other p t k (j + k) (omega arith) (omega arith) s
+
+  from-0 : left 0
+  from-0 = rw add-zero
+
+  abbrev same : ℕ → Type 0
+  same k = getD t (j + k) 0 ≡ getD p k 0
+
+  pub four-same : m ≡ n → prefixed p (drop j t) ≡ prefixed (drop 4 p) (drop (j + 4) t)
+  four-same e =
+      let halves = two-same 65536 _ _ _ _ (omega (arith, text .low .0, text .low .1)) (omega (arith, key .low .0, key .low .1)) (sym (text .number) ∙ e ∙ key .number) in
+      let low = two-same 256 _ _ _ _ (text .low .0) (key .low .0) (halves .0) in
+      let high = two-same 256 _ _ _ _ (text .high .0) (key .high .0) (halves .1) in
+      on 3 (omega arith) (on 2 (omega arith) (on 1 (omega arith) (on 0 (omega arith) from-0 (rw (add-zero j) (low .0))) (low .1)) (high .0)) (high .1)
+
+  pub four-other : (m ≡ n → ⊥) → prefixed p (drop j t) ≡ false
+  four-other e = at-0 (ℕ-discrete _ _)
+    where
+      at-3 : left 3 → same 0 → same 1 → same 2 → Dec (same 3) → prefixed p (drop j t) ≡ false
+      at-3 l a b c (no d) = off 3 (omega arith) l d
+      at-3 l a b c (yes d) = absurd (e (text .number ∙ rw (rw (add-zero j) at a, b, c, d) (sym (key .number))))
+
+      at-2 : left 2 → same 0 → same 1 → Dec (same 2) → prefixed p (drop j t) ≡ false
+      at-2 l a b (no d) = off 2 (omega arith) l d
+      at-2 l a b (yes d) = at-3 (on 2 (omega arith) l d) a b d (ℕ-discrete _ _)
+
+      at-1 : left 1 → same 0 → Dec (same 1) → prefixed p (drop j t) ≡ false
+      at-1 l a (no d) = off 1 (omega arith) l d
+      at-1 l a (yes d) = at-2 (on 1 (omega arith) l d) a d (ℕ-discrete _ _)
+
+      at-0 : Dec (same 0) → prefixed p (drop j t) ≡ false
+      at-0 (no d) = off 0 (omega arith) from-0 d
+      at-0 (yes d) = at-1 (on 0 (omega arith) from-0 d) d (ℕ-discrete _ _)
 
 pub prefix-end : (p t : List ℕ) (i : ℕ) → length p ≤ i → prefixed (drop i p) t ≡ true
 unfolding prefixed

@@ -1,5 +1,5 @@
 -- The line reader's steps, each over what is left of the text.
-use Prim.Native.Nat.{ℕ, suc, _+_, _-_, _^_, _≤_, _<_}
+use Prim.Native.Nat.{ℕ, suc, _+_, _-_, _*_, _^_, _≤_, _<_}
 use mathlib.Core.Path.{_≡_}
 use mathlib.Core.Logic.{_⊎_}
 use mathlib.Core.Bool.{Bool, true, false, cond}
@@ -25,6 +25,12 @@ firstLine t = take (lineLen t) t
 unfoldable pub bytesBefore : List ℕ → ℕ
 bytesBefore [] = 0
 bytesBefore (b ∷ t) = cond (eqb b 10) 0 (suc (bytesBefore t))
+
+-- four bytes as one number, the first the lowest
+pub record FourBytes (l : List ℕ) (i n : ℕ) : Type 0 where
+  pub number : n ≡ getD l i 0 + getD l (i + 1) 0 * 256 + (getD l (i + 2) 0 + getD l (i + 3) 0 * 256) * 65536
+  pub low : (getD l i 0 < 256) × (getD l (i + 1) 0 < 256)
+  pub high : (getD l (i + 2) 0 < 256) × (getD l (i + 3) 0 < 256)
 
 -- whether a prefix stands first
 unfoldable pub prefixed : List ℕ → List ℕ → Bool

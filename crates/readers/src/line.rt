@@ -1,12 +1,12 @@
 // The line reader: the part of a line that is its value, and the number that the part is, in one pass over the digits; and
 // where a remark ends.
 ghost use mathlib.Core.Path.{_≡_};
-ghost use Prim.Native.Nat.{_+_, _≤_};
+ghost use Prim.Native.Nat.{_+_, _≤_, _<_};
 ghost use lib.Dec.{T};
-ghost use lib.ListN.{length, drop};
+ghost use lib.ListN.{length, getD, drop};
 ghost use Rattle.forms.specs.Line.{isRemark, valuePart, digitOf, decimalOf, hexOf};
 ghost use Rattle.forms.specs.Turns.{hashed, no-feeds};
-ghost use Rattle.readers.specs.Line.{prefixed, digitTable, firstLine, valueAt, numberOf, valueOf, Leading, Parsed, afterRemark};
+ghost use Rattle.readers.specs.Line.{FourBytes, prefixed, digitTable, firstLine, valueAt, numberOf, valueOf, Leading, Parsed, afterRemark};
 use forms::form;
 use forms::form::Form;
 use std::num;
@@ -28,7 +28,40 @@ struct Run {
     to: usize,
 }
 
-// Whether a key stands at `at`.
+// The byte at `at`.
+fn byte(bytes: &[u8], at: usize) -> u64
+    requires { ⌜ at < length (now bytes) ⌝ }
+    ensures { λ r. ⌜ (r ≡ getD (now (bytes .entry)) at 0) × (r < 256) ⌝ }
+{
+    bytes[at] as u64
+}
+
+// The four bytes that stand at `at` as one number, the first the lowest, which the compiler makes one load.
+fn four_bytes(bytes: &[u8], at: usize) -> u64
+    requires { ⌜ at + 4 ≤ length (now bytes) ⌝ }
+    ensures { λ r. ⌜ FourBytes (now (bytes .entry)) at r ⌝ }
+{
+    let low = byte(bytes, at) + byte(bytes, at + 1) * 0x100;
+    let high = byte(bytes, at + 2) + byte(bytes, at + 3) * 0x100;
+    low + high * 0x10000
+}
+
+// Whether the bytes of a key from `from` on stand where they are to, if the key begins at `at`.
+fn goes_on(text: &[u8], at: usize, key: &[u8], from: usize) -> bool
+    requires { ⌜ (at + length (now key) ≤ length (now text)) × (from ≤ length (now key)) ⌝ }
+    ensures { λ r. ⌜ r ≡ prefixed (drop from (now (key .entry))) (drop (at + from) (now (text .entry))) ⌝ }
+{
+    let mut i = from;
+    while i < key.len() {
+        if text[at + i] != key[i] {
+            return false;
+        }
+        i += 1;
+    }
+    true
+}
+
+// Whether a key stands at `at`. All keys but one have four bytes or more, and these are compared at once.
 fn begins(text: &[u8], at: usize, key: &[u8]) -> bool
     requires { ⌜ at ≤ length (now text) ⌝ }
     ensures { λ r. ⌜ r ≡ prefixed (now (key .entry)) (drop at (now (text .entry))) ⌝ }
@@ -37,14 +70,13 @@ fn begins(text: &[u8], at: usize, key: &[u8]) -> bool
     if text.len() - at < n {
         return false;
     }
-    let mut i: usize = 0;
-    while i < n {
-        if text[at + i] != key[i] {
-            return false;
-        }
-        i += 1;
+    if n < 4 {
+        return goes_on(text, at, key, 0);
     }
-    true
+    if four_bytes(text, at) != four_bytes(key, 0) {
+        return false;
+    }
+    goes_on(text, at, key, 4)
 }
 
 // The decimal digits that stand from `from` on, at most 10. Loops over digits go by a count with a constant end, so that the
