@@ -11,9 +11,10 @@ use lib.Dec.{ltb}
 use Rattle.model.specs.Largest.{largest, peakAt}
 use Rattle.model.specs.Net.{Net, Plan, row}
 use Rattle.model.specs.Scan.{Bound, Overload, scan}
-use Rattle.model.specs.Rule.{crosses, across, flowSum, byFlow, moverOf, onLink, exceeds, stepCount, reach, worst, rowIn, Choice, shown, overloads, mark, moversOf, atLargest, marked, worstOver, firstOverload}
+use Rattle.model.specs.Rule.{crosses, across, flowSum, byFlow, moverOf, onLink, load, exceeds, stepCount, reach, worst, rowIn, Choice, shown, overloads, mark, moversOf, atLargest, marked, worstOver, firstOverload}
 use Rattle.model.specs.ThreeSums.{oldLoad, newLoad, peakLoad, stepLoad, endLoad}
-use Rattle.model.specs.Today.{Today}
+use Rattle.model.specs.Today.{largerOfTwo, Today}
+use Rattle.model.proofs.Scans.{scan-cong}
 use Rattle.model.proofs.Searches.{bool-cases, and-true}
 use Rattle.model.proofs.Largests.{peak-later}
 use Rattle.model.proofs.Movers.{mover-tunnel, on-tunnel, mover-flow, on-flow, mover-picked, load-cong}
@@ -37,6 +38,12 @@ unfolding worst largest
 worst-today N P i l m h =
     let at : ℕ → ℕ = λ a. onLink N l (row N P a) m in
     ap (λ (n : ℕ). largest n (λ k. at (i + k))) (reach-today P i h) ∙ ap₂ (λ (a b : ℕ). max (at a) (at b)) (add-zero i) (add-one i)
+
+pub rule-today : (N : Net) (P : Plan) → 0 < P .steps → firstOverload 1 N P ≡ scan (P .steps) (N .links) (λ i l b. exceeds N b (P .parts) l (load N b (largerOfTwo N P i l)))
+unfolding worstOver
+rule-today N P h =
+    overload-today N P h
+    ∙ scan-cong (P .steps) (N .links) _ _ (λ i l hi hl b. ap (exceeds N b (P .parts) l) (load-cong N b (λ m _. worst-today N P i l m hi)))
 
 row-today : (P : Plan) (i n : ℕ) → i < P .steps → rowIn 1 P i n ≡ cond (ltb 0 n) (suc i) i
 unfolding rowIn
@@ -144,4 +151,4 @@ module _ (N : Net) (P : Plan) (o : Overload) where
   later-overloads b = ap (exceeds N b (P .parts) (o .link)) (load-cong N b (λ m _. later-shown m))
 
 pub today : Today
-today = record { steps = steps-today; worst = worst-today; shown = shown-today; mark = mark-today; marked = marked-today; bound = bound-today }
+today = record { overload = rule-today; steps = steps-today; worst = worst-today; shown = shown-today; mark = mark-today; marked = marked-today; bound = bound-today }
