@@ -8,8 +8,11 @@ use mathlib.Core.Option.{Option, none, some, Option·elim}
 use native.Mathlib.Omega.{arith}
 use Rattle.model.specs.Outcome.{Outcome, good, refused, number, noEvenPlan, Cause, unless, Place}
 use Rattle.model.specs.Outcome.{Place}
+use lib.Dec.{leb}
+use borrow.Author.Tests.{leb-true}
+use Rattle.model.specs.Limits.{mostLag}
 use Rattle.model.specs.Rule.{missedRate}
-use Rattle.model.proofs.Searches.{bool-cases}
+use Rattle.model.proofs.Searches.{bool-cases, and-true}
 use Rattle.lists.specs.Answers.{withRoom, done, plan, lent}
 use Rattle.lists.specs.Lists.{networkOf}
 use Rattle.lists.specs.declared.Answer.{Answer}
@@ -34,6 +37,12 @@ lag-in w o h = rw h refl
 
 pub lag-out : {A : Type 0} (w : ℕ) (o : Outcome A) → isLag w ≡ false → atLag w o ≡ refused lagOutside w 0
 lag-out w o h = rw h refl
+
+pub lag-least : (w : ℕ) → isLag w ≡ true → 1 ≤ w
+lag-least w h = leb-true 1 w (and-true (leb 1 w) (leb w mostLag) h .0)
+
+pub lag-most : (w : ℕ) → isLag w ≡ true → w ≤ mostLag
+lag-most w h = leb-true w mostLag (and-true (leb 1 w) (leb w mostLag) h .1)
 
 -- an outcome other than 19 is that of a lag of 1 to 4
 pub lag-else : {A : Type 0} (w : ℕ) (o r : Outcome A) → (refused lagOutside w 0 ≡ r → ⊥) → atLag w o ≡ r → (isLag w ≡ true) × (o ≡ r)

@@ -7,17 +7,15 @@ use mathlib.Core.List.{List}
 use mathlib.Core.Option.{Option, none, some, Option·elim}
 use native.Mathlib.Omega.{arith}
 use native.Mathlib.Nat.{mul-le-mul-left}
-use lib.Dec.{leb}
 use lib.ListN.{length}
-use borrow.Author.Tests.{leb-true}
-use Rattle.model.specs.Limits.{mostSteps, mostAmount, mostLag}
+use Rattle.model.specs.Limits.{mostSteps, mostAmount}
 use Rattle.model.specs.Outcome.{Outcome, good, refused, noEvenPlan}
 use Rattle.model.specs.Net.{Net}
 use Rattle.model.specs.Scan.{Overload, step}
 use Rattle.model.specs.Rule.{missedRate, missedRow, firstOverload, accepted}
 use Rattle.model.specs.Even.{evenRow, even, fewest, keepsScratch, lagBound}
 use Rattle.model.proofs.Outcomes.{good-refused}
-use Rattle.model.proofs.Searches.{and-true, option-cases, only-some, only-none, first-some, first-none, none-first, only-false}
+use Rattle.model.proofs.Searches.{option-cases, only-some, only-none, first-some, first-none, none-first, only-false}
 use Rattle.model.proofs.Choices as choices
 use Rattle.model.proofs.Rows.{Same, row-missed-same, overload-same, accepted-both, even-at, even-adds-up}
 use Rattle.model.proofs.Bounded as model
@@ -31,7 +29,7 @@ use Rattle.planner.specs.Planned.{evenList, stuck, evenPlan, planned}
 use Rattle.planner.specs.Claim.{FewestSteps, NoneBelow, Safe, Claim}
 use Rattle.planner.proofs.Planned.{byFewest}
 use Rattle.planner.proofs.EvenLists.{list-length, list-head, list-at, rows-most, list-beyond}
-use Rattle.planner.proofs.Judged.{lag-else, planned-outside, planned-good, planned-nine}
+use Rattle.planner.proofs.Judged.{lag-least, lag-else, planned-outside, planned-good, planned-nine}
 use Rattle.model.specs.Search.{onlyIf}
 use Rattle.forms.specs.Named.{judgeNetwork, judgePlan}
 
@@ -188,7 +186,7 @@ pub bounded : (w : ℕ) (l : List ℕ) → isLag w ≡ true → judgeNetwork l �
 unfolding evenPlan Option·elim planOf
 bounded w l lag j k most =
     let N = networkOf l in
-    let b = model.bounded w N (leb-true 1 w (and-true (leb 1 w) (leb w mostLag) lag .0)) (good-valid l (good-network l l j .1)) k most in
+    let b = model.bounded w N (lag-least w lag) (good-valid l (good-network l l j .1)) k most in
     let p : List ℕ = evenList N (b .0) in
     let e : planned w l ≡ good p = planned-good w l lag j ∙ ap (byFewest w N) (b .1) in (
       p,
