@@ -8,12 +8,16 @@ use mathlib.Core.Option.{Option, none, some, Option·elim}
 use native.Mathlib.Omega.{arith}
 use Rattle.model.specs.Outcome.{Outcome, good, refused, number, noEvenPlan, Cause, unless, Place}
 use Rattle.model.specs.Outcome.{Place}
+use lib.Dec.{leb}
+use borrow.Author.Tests.{leb-true}
+use Rattle.model.specs.Limits.{mostLag}
 use Rattle.model.specs.Rule.{missedRate}
+use Rattle.model.proofs.Searches.{bool-cases, and-true}
 use Rattle.lists.specs.Answers.{withRoom, done, plan, lent}
 use Rattle.lists.specs.Lists.{networkOf}
 use Rattle.lists.specs.declared.Answer.{Answer}
 use Rattle.forms.specs.Form.{fieldOf, admitsOf}
-use Rattle.model.specs.Outcome.{andThen}
+use Rattle.model.specs.Outcome.{andThen, isLag, atLag, lagOutside}
 use Rattle.forms.specs.Read.{onField, walk, judgeNumbers, addUp}
 use Rattle.forms.specs.Turns.{itself}
 use Rattle.forms.specs.declared.form.Form.{Form}
@@ -26,9 +30,32 @@ use Rattle.forms.proofs.Good.{good-network}
 use Rattle.planner.specs.Planned.{evenPlan, planned}
 use Rattle.forms.specs.Named.{judgeNetwork}
 
-pub planned-good : (l : List ℕ) → judgeNetwork l ≡ good l → planned l ≡ evenPlan (networkOf l)
+-- ---- the lag
+
+pub lag-in : {A : Type 0} (w : ℕ) (o : Outcome A) → isLag w ≡ true → atLag w o ≡ o
+lag-in w o h = rw h refl
+
+pub lag-out : {A : Type 0} (w : ℕ) (o : Outcome A) → isLag w ≡ false → atLag w o ≡ refused lagOutside w 0
+lag-out w o h = rw h refl
+
+pub lag-least : (w : ℕ) → isLag w ≡ true → 1 ≤ w
+lag-least w h = leb-true 1 w (and-true (leb 1 w) (leb w mostLag) h .0)
+
+pub lag-most : (w : ℕ) → isLag w ≡ true → w ≤ mostLag
+lag-most w h = leb-true w mostLag (and-true (leb 1 w) (leb w mostLag) h .1)
+
+-- an outcome other than 19 is that of a lag of 1 to 4
+pub lag-else : {A : Type 0} (w : ℕ) (o r : Outcome A) → (refused lagOutside w 0 ≡ r → ⊥) → atLag w o ≡ r → (isLag w ≡ true) × (o ≡ r)
+lag-else w o r n e =
+    ⊎-elim (λ h. (h, sym (lag-in w o h) ∙ e)) (λ h. absurd (n (sym (lag-out w o h) ∙ e))) (bool-cases (isLag w))
+
+pub planned-outside : (w : ℕ) (l : List ℕ) → isLag w ≡ false → planned w l ≡ refused lagOutside w 0
 unfolding planned
-planned-good l e = ap (λ o. andThen o (λ g. evenPlan (networkOf g))) e
+planned-outside w l h = lag-out w _ h
+
+pub planned-good : (w : ℕ) (l : List ℕ) → isLag w ≡ true → judgeNetwork l ≡ good l → planned w l ≡ evenPlan w (networkOf l)
+unfolding planned
+planned-good w l h e = lag-in w _ h ∙ ap (λ o. andThen o (λ g. evenPlan w (networkOf g))) e
 
 -- ---- where the judge refuses
 
@@ -37,10 +64,13 @@ passed-on : (o : Outcome (List ℕ)) (next : List ℕ → Outcome (List ℕ)) (a
 passed-on (good g) next a room out e t = absurd (⊎-elim (λ k. omega arith) (λ k. omega arith) (rw e at t))
 passed-on (refused c i j) next a room out e t = (e, refl)
 
-pub planned-refused : (l : List ℕ) (a : Answer) (room : ℕ) (out : List ℕ) → a ≡ done (judgeNetwork l) → NotDone a
-    → (a ≡ plan (withRoom room (planned l))) × (out ≡ lent (withRoom room (planned l)) out)
+pub planned-refused : (w : ℕ) (l : List ℕ) (a : Answer) (room : ℕ) (out : List ℕ) → isLag w ≡ true → a ≡ done (judgeNetwork l) → NotDone a
+    → (a ≡ plan (withRoom room (planned w l))) × (out ≡ lent (withRoom room (planned w l)) out)
 unfolding planned
-planned-refused l a room out e t = passed-on (judgeNetwork l) (λ g. evenPlan (networkOf g)) a room out e t
+planned-refused w l a room out h e t =
+    let p = lag-in w (andThen (judgeNetwork l) (λ g. evenPlan w (networkOf g))) h in
+    let k = passed-on (judgeNetwork l) (λ g. evenPlan w (networkOf g)) a room out e t in
+    (k .0 ∙ sym (ap (λ o. plan (withRoom room o)) p), k .1 ∙ sym (ap (λ o. lent (withRoom room o) out) p))
 
 -- ---- which refusals are the judge's own: 1 to 4
 
@@ -87,9 +117,10 @@ nine-passed : (o : Outcome (List ℕ)) (next : List ℕ → Outcome (List ℕ)) 
 nine-passed (good g) next p s h e = (g, refl, e)
 nine-passed (refused c i j) next p s h e = let z : c ≡ noEvenPlan = cc in absurd (omega (arith, ap number z))
 
-pub planned-nine : (l : List ℕ) (p s : ℕ) → planned l ≡ refused noEvenPlan p s → (judgeNetwork l ≡ good l) × (evenPlan (networkOf l) ≡ refused noEvenPlan p s)
+pub planned-nine : (w : ℕ) (l : List ℕ) (p s : ℕ) → planned w l ≡ refused noEvenPlan p s → (judgeNetwork l ≡ good l) × (evenPlan w (networkOf l) ≡ refused noEvenPlan p s)
 unfolding planned
-planned-nine l p s e =
-    let n = nine-passed (judgeNetwork l) (λ g. evenPlan (networkOf g)) p s (judge-early l) e in
+planned-nine w l p s e =
+    let h = lag-else w (andThen (judgeNetwork l) (λ g. evenPlan w (networkOf g))) (refused noEvenPlan p s) (λ z. let c : lagOutside ≡ noEvenPlan = cc in omega (arith, ap number c)) e in
+    let n = nine-passed (judgeNetwork l) (λ g. evenPlan w (networkOf g)) p s (judge-early l) (h .1) in
     let j = good-network l (n .0) (n .1) in
-    (n .1 ∙ ap good (j .0), sym (ap (λ g. evenPlan (networkOf g)) (j .0)) ∙ n .2)
+    (n .1 ∙ ap good (j .0), sym (ap (λ g. evenPlan w (networkOf g)) (j .0)) ∙ n .2)

@@ -30,15 +30,15 @@ answered-none (some p) e = let z : _≡_ {A = ℕ} 0 1 = cc in absurd (omega ari
 
 -- ---- the outcome, with the room that is lent
 
-abbrev pub byFewest : Net → Option ℕ → Outcome (List ℕ)
-byFewest N o = Option·elim o (stuck (firstOverload 1 N (even N mostSteps))) (λ q. good (evenList N q))
+abbrev pub byFewest : ℕ → Net → Option ℕ → Outcome (List ℕ)
+byFewest w N o = Option·elim o (stuck (firstOverload w N (even N mostSteps))) (λ q. good (evenList N q))
 
-module _ (N : Net) (out : List ℕ) where
+module _ (w : ℕ) (N : Net) (out : List ℕ) where
   -- the outcome's answer and output, at once
   abbrev pub Comes : Outcome (List ℕ) → Type 0
-  Comes o = (plan (withRoom (length out) (evenPlan N)) ≡ plan o) × (lent (withRoom (length out) (evenPlan N)) out ≡ lent o out)
+  Comes o = (plan (withRoom (length out) (evenPlan w N)) ≡ plan o) × (lent (withRoom (length out) (evenPlan w N)) out ≡ lent o out)
 
-  comes : (o : Outcome (List ℕ)) → withRoom (length out) (evenPlan N) ≡ o → Comes o
+  comes : (o : Outcome (List ℕ)) → withRoom (length out) (evenPlan w N) ≡ o → Comes o
   comes o e = (ap plan e, ap (λ p. lent p out) e)
 
   stuck-lent : (o : Option Overload) → (withRoom (length out) (stuck o) ≡ stuck o) × (lent (stuck o) out ≡ out)
@@ -46,22 +46,22 @@ module _ (N : Net) (out : List ℕ) where
   stuck-lent none = (refl, refl)
   stuck-lent (some o) = (refl, refl)
 
-  pub no-plan : fewest 1 N ≡ none → (plan (withRoom (length out) (evenPlan N)) ≡ plan (stuck (firstOverload 1 N (even N mostSteps)))) × (lent (withRoom (length out) (evenPlan N)) out ≡ out)
+  pub no-plan : fewest w N ≡ none → (plan (withRoom (length out) (evenPlan w N)) ≡ plan (stuck (firstOverload w N (even N mostSteps)))) × (lent (withRoom (length out) (evenPlan w N)) out ≡ out)
   unfolding evenPlan Option·elim
   no-plan e =
-      let s = stuck-lent (firstOverload 1 N (even N mostSteps)) in
-      let k = comes _ (ap (λ o. withRoom (length out) (byFewest N o)) e ∙ s .0) in
+      let s = stuck-lent (firstOverload w N (even N mostSteps)) in
+      let k = comes _ (ap (λ o. withRoom (length out) (byFewest w N o)) e ∙ s .0) in
       (k .0, k .1 ∙ s .1)
 
-  module _ (q : ℕ) (e : fewest 1 N ≡ some q) where
+  module _ (q : ℕ) (e : fewest w N ≡ some q) where
     pub room-short : length out < length (evenList N q) → Comes (refused noRoom (length (evenList N q)) 0)
     unfolding evenPlan Option·elim
     room-short h =
-        comes _ (ap (λ o. withRoom (length out) (byFewest N o)) e
+        comes _ (ap (λ o. withRoom (length out) (byFewest w N o)) e
         ∙ ap (λ (b : Bool). cond b (good (evenList N q)) (refused noRoom (length (evenList N q)) 0)) (lt-leb _ _ h))
 
     pub room-enough : length (evenList N q) ≤ length out → Comes (good (evenList N q))
     unfolding evenPlan Option·elim
     room-enough h =
-        comes _ (ap (λ o. withRoom (length out) (byFewest N o)) e
+        comes _ (ap (λ o. withRoom (length out) (byFewest w N o)) e
         ∙ ap (λ (b : Bool). cond b (good (evenList N q)) (refused noRoom (length (evenList N q)) 0)) (le-leb _ _ h))

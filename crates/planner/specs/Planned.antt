@@ -8,7 +8,7 @@ use Rattle.model.specs.Scan.{Overload, step}
 use Rattle.model.specs.Even.{evenRow, fewest, even}
 use Rattle.model.specs.Listed.{listed}
 use Rattle.lists.specs.Lists.{networkOf}
-use Rattle.model.specs.Outcome.{andThen}
+use Rattle.model.specs.Outcome.{andThen, atLag}
 use Rattle.model.specs.Limits.{mostSteps}
 use Rattle.model.specs.Rule.{firstOverload}
 use Rattle.forms.specs.Read.{judgeList}
@@ -22,10 +22,11 @@ evenList N q = (1 ∷ q ∷ q ∷ N .tunnels ∷ []) ++ flatten (listed (q - 1) 
 unfoldable pub stuck : Option Overload → Outcome (List ℕ)
 stuck o = Option·elim o (refused noEvenPlan 0 0) (λ o. refused noEvenPlan (step o) (o .link))
 
--- "The planner fills a plan list": the even plan of fewest steps, or refusal 9
-unfoldable pub evenPlan : Net → Outcome (List ℕ)
-evenPlan N = Option·elim (fewest 1 N) (stuck (firstOverload 1 N (even N mostSteps))) (λ q. good (evenList N q))
+-- "The planner fills a plan list": the even plan of fewest steps at a lag of w, or refusal 9
+unfoldable pub evenPlan : ℕ → Net → Outcome (List ℕ)
+evenPlan w N = Option·elim (fewest w N) (stuck (firstOverload w N (even N mostSteps))) (λ q. good (evenList N q))
 
--- the planner's whole outcome. "Writers, planner and checker take lists and judge them by the same rules": the judge's refusal is passed on
-unfoldable pub planned : List ℕ → Outcome (List ℕ)
-planned l = andThen (judgeList forms.Network l) (λ g. evenPlan (networkOf g))
+-- the planner's whole outcome, where w is given as the lag: "lag outside 1..4, tested before all else". "Writers, planner and checker take lists and judge them
+-- by the same rules": the judge's refusal is passed on
+unfoldable pub planned : ℕ → List ℕ → Outcome (List ℕ)
+planned w l = atLag w (andThen (judgeList forms.Network l) (λ g. evenPlan w (networkOf g)))

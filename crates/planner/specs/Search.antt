@@ -14,6 +14,6 @@ abbrev pub answered : Option ℕ → Fewest
 answered none = NoPlan
 answered (some q) = Steps q
 
--- the plan of 50 steps breaks a bound on link l in the step from row i
-abbrev pub isOver : Net → ℕ → ℕ → Bool
-isOver N i l = worstOver 1 N (even N mostSteps) i l Bound.protected || worstOver 1 N (even N mostSteps) i l Bound.total
+-- at a lag of w, the plan of 50 steps breaks a bound on link l in the step from row i
+abbrev pub isOver : ℕ → Net → ℕ → ℕ → Bool
+isOver w N i l = worstOver w N (even N mostSteps) i l Bound.protected || worstOver w N (even N mostSteps) i l Bound.total

@@ -1,5 +1,5 @@
 -- What the search starts from, and what it computes from the tables of a network's three sums.
-use Prim.Native.Nat.{ℕ, suc, _+_, _-_, _*_, max}
+use Prim.Native.Nat.{ℕ, _+_, _-_, _*_, max}
 use mathlib.Core.List.{List}
 use Rattle.model.specs.Net.{Net}
 use Rattle.model.specs.Scan.{Bound}
@@ -14,12 +14,13 @@ pub record Ready (l p a : List ℕ) : Type 0 where
   pub protected : Loads (networkOf l) Bound.protected p
   pub all : Loads (networkOf l) Bound.total a
 
--- by a table, the worst load of a link in the step from row i of q steps, and the larger of those in the first step and in the last
-abbrev pub stepSum : List ℕ → ℕ → ℕ → ℕ → ℕ
-stepSum s q i l = (q - suc i) * sumAt s Part.old l + i * sumAt s Part.new l + sumAt s Part.peak l
+-- by a table, with m rows after the first in each window: the worst load of a link in the step from row i of q steps, and the larger of those in the first step
+-- and in the last
+abbrev pub stepSum : List ℕ → ℕ → ℕ → ℕ → ℕ → ℕ
+stepSum s m q i l = (q - (i + m)) * sumAt s Part.old l + i * sumAt s Part.new l + m * sumAt s Part.peak l
 
-abbrev pub endSum : List ℕ → ℕ → ℕ → ℕ
-endSum s q l = (q - 1) * max (sumAt s Part.old l) (sumAt s Part.new l) + sumAt s Part.peak l
+abbrev pub endSum : List ℕ → ℕ → ℕ → ℕ → ℕ
+endSum s m q l = (q - m) * max (sumAt s Part.old l) (sumAt s Part.new l) + m * sumAt s Part.peak l
 
 -- the sizes of the even plan of q steps
 abbrev pub evenSizes : Net → ℕ → PlanSizes

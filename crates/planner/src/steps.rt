@@ -1,9 +1,9 @@
 // The fewest even steps, and where the plan of 50 steps overloads first, by the three sums. No plan is built for it: with O, N and M the sums of the old
-// amounts, the new ones and the larger of the two, the worst load of a link in step a of q is (q - a) * O + (a - 1) * N + M. It goes up or down with a, so
-// its largest stands in the first step or in the last.
+// amounts, the new ones and the larger of the two, and m rows after the first in each window, the worst load of a link in the window from row i of q steps is
+// (q - i - m) * O + i * N + m * M. It goes up or down with i, so its largest stands in the first window or in the last.
 ghost use mathlib.Core.Path.{_≡_};
-ghost use Prim.Native.Nat.{_≤_, _<_};
-ghost use Rattle.model.specs.Limits.{mostLinks, mostSteps};
+ghost use Prim.Native.Nat.{_+_, _≤_, _<_, min};
+ghost use Rattle.model.specs.Limits.{mostLinks, mostSteps, mostLag};
 ghost use Rattle.model.specs.Rule.{accepted, firstOverload};
 ghost use Rattle.model.specs.Even.{even, fewest};
 ghost use Rattle.lists.specs.Answers.{plan};
@@ -29,43 +29,52 @@ fn capacity(network: &[u64], sizes: Network, link: usize) -> u64
     network[sizes.link_at(link)] - sizes.held(network, link)
 }
 
-// The worst load of a link in the step that leads from the given row, of the plan of 50 steps.
-fn step_load(table: &[u64], row: u64, link: usize) -> u64
-    requires { ⌜ Room mostSums (now table) × (row < mostSteps) × (link < mostLinks) ⌝ }
-    ensures { λ r. ⌜ r ≡ stepSum (now (table .entry)) mostSteps row link ⌝ }
+fn smaller(a: u64, b: u64) -> u64
+    ensures { λ r. ⌜ r ≡ min a b ⌝ }
+{
+    if a < b { a } else { b }
+}
+
+// The worst load of a link in the window from the given row, of the plan of 50 steps.
+fn step_load(lag: u64, table: &[u64], row: u64, link: usize) -> u64
+    requires { ⌜ Room mostSums (now table) × (row + lag ≤ mostSteps) × (link < mostLinks) ⌝ }
+    ensures { λ r. ⌜ r ≡ stepSum (now (table .entry)) lag mostSteps row link ⌝ }
 {
     let old = table[link];
     let new = table[link_sums::NEW_AT + link];
-    (Network::STEPS - (row + 1)) * old + row * new + table[link_sums::PEAK_AT + link]
+    let peak = table[link_sums::PEAK_AT + link];
+    (Network::STEPS - (row + lag)) * old + row * new + lag * peak
 }
 
-// The larger of a link's worst loads in the first step and in the last, of the plan of q steps: no step's load is larger.
-fn end_load(table: &[u64], q: u64, link: usize) -> u64
-    requires { ⌜ Room mostSums (now table) × (1 ≤ q) × (q ≤ mostSteps) × (link < mostLinks) ⌝ }
-    ensures { λ r. ⌜ r ≡ endSum (now (table .entry)) q link ⌝ }
+// The larger of a link's worst loads in the first window and in the last, of the plan of q steps with the given number of rows after the first in each window:
+// no window's load is larger.
+fn end_load(more: u64, table: &[u64], q: u64, link: usize) -> u64
+    requires { ⌜ Room mostSums (now table) × (more ≤ q) × (q ≤ mostSteps) × (link < mostLinks) ⌝ }
+    ensures { λ r. ⌜ r ≡ endSum (now (table .entry)) more q link ⌝ }
 {
     let old = table[link];
     let new = table[link_sums::NEW_AT + link];
     let most = link_sums::larger(old, new);
     let peak = table[link_sums::PEAK_AT + link];
-    (q - 1) * most + peak
+    (q - more) * most + more * peak
 }
 
-// Is the even plan of q steps accepted?
-fn fits(network: &[u64], protected: &[u64], all: &[u64], q: u64) -> bool
+// Is the even plan of q steps accepted? Its windows have as many rows after the first as the lag says, or all that there are.
+fn fits(lag: u64, network: &[u64], protected: &[u64], all: &[u64], q: u64) -> bool
     requires { ⌜ Ready (now network) (now protected) (now all) ⌝ }
-    requires { ⌜ (1 ≤ q) × (q ≤ mostSteps) ⌝ }
-    ensures { λ r. ⌜ r ≡ accepted 1 (networkOf (now (network .entry))) (even (networkOf (now (network .entry))) q) ⌝ }
+    requires { ⌜ q ≤ mostSteps ⌝ }
+    ensures { λ r. ⌜ r ≡ accepted lag (networkOf (now (network .entry))) (even (networkOf (now (network .entry))) q) ⌝ }
 {
     let overrun = network[Network::OVERRUN];
     let sizes = Network::of(network);
+    let more = smaller(lag, q);
     let mut link: usize = 0;
     while link < sizes.links {
         let room = q * capacity(network, sizes, link);
-        if room < end_load(protected, q, link) {
+        if room < end_load(more, protected, q, link) {
             return false;
         }
-        if (1000 + overrun) * room < 1000 * end_load(all, q, link) {
+        if (1000 + overrun) * room < 1000 * end_load(more, all, q, link) {
             return false;
         }
         link += 1;
@@ -73,14 +82,14 @@ fn fits(network: &[u64], protected: &[u64], all: &[u64], q: u64) -> bool
     true
 }
 
-pub fn fewest_steps(network: &[u64], protected: &[u64], all: &[u64]) -> Fewest
+pub fn fewest_steps(lag: u64, network: &[u64], protected: &[u64], all: &[u64]) -> Fewest
     requires { ⌜ Ready (now network) (now protected) (now all) ⌝ }
-    ensures { λ r. ⌜ r ≡ answered (fewest 1 (networkOf (now (network .entry)))) ⌝ }
+    ensures { λ r. ⌜ r ≡ answered (fewest lag (networkOf (now (network .entry)))) ⌝ }
 {
     let mut tried: u64 = 0;
     while tried < Network::STEPS {
         let q = tried + 1;
-        if fits(network, protected, all, q) {
+        if fits(lag, network, protected, all, q) {
             return Fewest::Steps(q);
         }
         tried = q;
@@ -88,33 +97,35 @@ pub fn fewest_steps(network: &[u64], protected: &[u64], all: &[u64]) -> Fewest
     Fewest::NoPlan
 }
 
-// Does the plan of 50 steps break a bound on the link in the step that leads from the given row?
-fn is_over(network: &[u64], protected: &[u64], all: &[u64], row: u64, link: usize) -> bool
+// Does the plan of 50 steps break a bound on the link in the window from the given row?
+fn is_over(lag: u64, network: &[u64], protected: &[u64], all: &[u64], row: u64, link: usize) -> bool
     requires { ⌜ Ready (now network) (now protected) (now all) ⌝ }
-    requires { ⌜ (row < mostSteps) × (link < networkSizes (now network) .links) ⌝ }
-    ensures { λ r. ⌜ r ≡ isOver (networkOf (now (network .entry))) row link ⌝ }
+    requires { ⌜ (row + lag ≤ mostSteps) × (link < networkSizes (now network) .links) ⌝ }
+    ensures { λ r. ⌜ r ≡ isOver lag (networkOf (now (network .entry))) row link ⌝ }
 {
     let sizes = Network::of(network);
     let room = Network::STEPS * capacity(network, sizes, link);
-    if room < step_load(protected, row, link) {
+    if room < step_load(lag, protected, row, link) {
         return true;
     }
-    (1000 + network[Network::OVERRUN]) * room < 1000 * step_load(all, row, link)
+    (1000 + network[Network::OVERRUN]) * room < 1000 * step_load(lag, all, row, link)
 }
 
-// Where the plan of 50 steps first overloads: steps ascending, within a step links ascending.
-pub fn first_overload(network: &[u64], protected: &[u64], all: &[u64]) -> Answer
+// Where the plan of 50 steps first overloads: windows ascending, within a window links ascending. A window is named by the step that leads from its first row.
+pub fn first_overload(lag: u64, network: &[u64], protected: &[u64], all: &[u64]) -> Answer
     requires { ⌜ Ready (now network) (now protected) (now all) ⌝ }
-    ensures { λ r. ⌜ r ≡ plan (stuck (firstOverload 1 (networkOf (now (network .entry))) (even (networkOf (now (network .entry))) mostSteps))) ⌝ }
+    requires { ⌜ lag ≤ mostLag ⌝ }
+    ensures { λ r. ⌜ r ≡ plan (stuck (firstOverload lag (networkOf (now (network .entry))) (even (networkOf (now (network .entry))) mostSteps))) ⌝ }
 {
     let links = Network::of(network).links;
+    let last = Network::STEPS - lag;
     let mut place: u64 = 0;
     let mut second: u64 = 0;
     let mut row: u64 = 0;
-    'steps: while row < Network::STEPS {
+    'steps: while row <= last {
         let mut link: usize = 0;
         while link < links {
-            if is_over(network, protected, all, row, link) {
+            if is_over(lag, network, protected, all, row, link) {
                 place = row + 1;
                 second = link as u64;
                 break 'steps;

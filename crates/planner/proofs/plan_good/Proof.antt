@@ -23,7 +23,7 @@ use Rattle.planner.proofs.steps.fewest_steps.Reads as fewest-steps-read
 use Rattle.planner.proofs.steps.first_overload.Reads as first-overload-reads
 use Rattle.link_sums.proofs.gather.Reads as gather-reads
 
-found : (c : tie.After-known-told) → fewest 1 (networkOf (c .before .before .before .before .before .before .before .before .before .before .before .before .before .args .network .now)) ≡ some (c .before .fewest .given .0 .0)
+found : (c : tie.After-known-told) → fewest (c .before .before .before .before .before .before .before .before .before .before .before .before .before .args .lag) (networkOf (c .before .before .before .before .before .before .before .before .before .before .before .before .before .args .network .now)) ≡ some (c .before .fewest .given .0 .0)
 found c = answered-some _ _ (sym (c .before .before .before .fewest-steps .ensures) ∙ c .before .fewest .given .1)
 
 -- the size is the length of the plan's list
@@ -64,7 +64,7 @@ first-overload-requires : tie.Need-first-overload-requires
 first-overload-requires c κs = search needs
 
 returns : tie.Need-returns
-returns c = let k = no-plan _ (c .before .before .before .before .before .before .before .before .before .before .before .before .before .before .before .args .out .now) (answered-none _ (sym (c .before .before .before .before .before .fewest-steps .ensures) ∙ c .before .before .before .enum-told .given .1)) in
+returns c = let k = no-plan _ _ (c .before .before .before .before .before .before .before .before .before .before .before .before .before .before .before .args .out .now) (answered-none _ (sym (c .before .before .before .before .before .fewest-steps .ensures) ∙ c .before .before .before .enum-told .given .1)) in
     (c .first-overload .ensures ∙ sym (k .0), sym (k .1))
 
 plan-sizes-requires : tie.Need-plan-sizes-requires
@@ -72,25 +72,25 @@ plan-sizes-requires c κs = search needs
 
 row-at-requires : tie.Need-row-at-requires
 row-at-requires c κs = let e = c .plan-sizes .ensures in
-    let f = fewest-some 1 _ _ (found (c .before)) in
+    let f = fewest-some _ _ _ (found (c .before)) in
     let s = ap (λ (n : PlanSizes). n .steps) e in
-    (omega (arith, s, f), omega (arith, s, f), omega (arith, ap (λ (n : PlanSizes). n .tunnels) e, good-range _ (c .before .before .before .before .before .before .before .before .before .before .before .before .before .before .pre) .tunnels))
+    (omega (arith, s, f), omega (arith, s, f), omega (arith, ap (λ (n : PlanSizes). n .tunnels) e, good-range _ (c .before .before .before .before .before .before .before .before .before .before .before .before .before .before .pre .0) .tunnels))
 
 returns-2 : tie.Need-returns-2
 returns-2 c = let n = size (c .before) in
-    let k = room-short _ (c .before .before .before .before .before .before .before .before .before .before .before .before .before .before .before .before .args .out .now) _ (found (c .before .before .before)) (omega (arith, n, c .if1 .taken)) in
+    let k = room-short _ _ (c .before .before .before .before .before .before .before .before .before .before .before .before .before .before .before .before .args .out .now) _ (found (c .before .before .before)) (omega (arith, n, c .if1 .taken)) in
     (ap (λ (m : ℕ). Refused 10 m 0) n ∙ sym (k .0), sym (k .1))
 
 write-plan-requires : tie.Need-write-plan-requires
-write-plan-requires c κs = let f = fewest-some 1 _ _ (found (c .before .before .before .before)) in
-    (c .before .before .before .before .before .before .before .before .before .before .before .before .before .before .before .before .before .pre, (f .0, f .1, omega (arith, size (c .before .before), c .before .if1 .left)))
+write-plan-requires c κs = let f = fewest-some _ _ _ (found (c .before .before .before .before)) in
+    (c .before .before .before .before .before .before .before .before .before .before .before .before .before .before .before .before .before .pre .0, (f .0, f .1, omega (arith, size (c .before .before), c .before .if1 .left)))
 
 same-length : tie.Need-same-length
 same-length c = search needs
 
 returns-3 : tie.Need-returns-3
 returns-3 c = let n = size (c .before .before .before .before .before) in
-    let k = room-enough _ (c .before .before .before .before .before .before .before .before .before .before .before .before .before .before .before .before .before .before .before .before .args .out .now) _ (found (c .before .before .before .before .before .before .before)) (omega (arith, n, c .before .before .before .before .if1 .left)) in
+    let k = room-enough _ _ (c .before .before .before .before .before .before .before .before .before .before .before .before .before .before .before .before .before .before .before .before .args .out .now) _ (found (c .before .before .before .before .before .before .before)) (omega (arith, n, c .before .before .before .before .if1 .left)) in
     (ap Plan n ∙ sym (k .0), c .before .before .write-plan .ensures ∙ sym (k .1))
 
 pub plan-good-spec : {M : Type 1} → statement M

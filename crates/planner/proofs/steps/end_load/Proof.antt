@@ -3,9 +3,8 @@ use Prim.Native.Nat.{ℕ, _+_, _-_, _*_, _≤_}
 use mathlib.Core.Path.{ap}
 use native.Mathlib.Omega.{arith}
 use borrow.Author.Needs.{needs}
-use Rattle.lists.specs.Lists.{at}
-use Rattle.link_sums.specs.Tables.{Part}
-use Rattle.planner.proofs.Figures.{mostProduct, product-room}
+use Rattle.link_sums.specs.Tables.{Part, sumAt}
+use Rattle.planner.proofs.Figures.{mostProduct, product-room, most-room}
 use Rattle.planner.proofs.steps.end_load.Statement.{statement}
 use Rattle.planner.proofs.steps.end_load.Tie as tie
 
@@ -39,25 +38,32 @@ shared-slice-read-peak c = search needs
 sub-result : tie.Need-sub-result
 sub-result c = search needs
 
-most-product : (c : tie.After-larger) → (c .before .before .before .before .args .q - 1) * c .larger .result ≤ mostProduct
-most-product c =
-    let a = c .before .before .before .before in
-    product-room (a .args .q - 1) (c .larger .result) (omega arith)
-    (omega (arith, c .larger .ensures, a .pre .0 .most Part.old (a .args .link) (a .pre .3), a .pre .0 .most Part.new (a .args .link) (a .pre .3)))
+-- the two products that are added up
+module _ (c : tie.After-larger) where
+  abbrev begin : tie.Start
+  begin = c .before .before .before .before
+
+  most-product : (begin .args .q - begin .args .more) * c .larger .result ≤ mostProduct
+  most-product =
+      product-room _ (c .larger .result) (omega (arith, begin .pre .2))
+      (omega (arith, c .larger .ensures, most-room (begin .args .table .now) (begin .pre .0) (begin .args .link) (begin .pre .3)))
+
+  peak-product : begin .args .more * sumAt (begin .args .table .now) Part.peak (begin .args .link) ≤ mostProduct
+  peak-product = product-room _ _ (omega (arith, begin .pre .1, begin .pre .2)) (begin .pre .0 .most Part.peak (begin .args .link) (begin .pre .3))
 
 mul-result : tie.Need-mul-result
 mul-result c = record { fits = omega (arith, most-product (c .before)) }
 
+mul-result-2 : tie.Need-mul-result-2
+mul-result-2 c = record { fits = omega (arith, peak-product (c .before)) }
+
 add-result : tie.Need-add-result
-add-result c =
-    let a = c .before .before .before .before .before in
-    let low = a .pre .0 .most in
-    record { fits = omega (arith, most-product (c .before), c .before .larger .ensures, low Part.old (a .args .link) (a .pre .3), low Part.new (a .args .link) (a .pre .3), low Part.peak (a .args .link) (a .pre .3)) }
+add-result c = record { fits = omega (arith, most-product (c .before), peak-product (c .before)) }
 
 returns : tie.Need-returns
 returns c =
     let a = c .before .before .before .before .before in
-    ap (λ (m : ℕ). (a .args .q - 1) * m + at (a .args .table .now) (128 + a .args .link)) (c .before .larger .ensures)
+    ap (λ (m : ℕ). (a .args .q - a .args .more) * m + a .args .more * sumAt (a .args .table .now) Part.peak (a .args .link)) (c .before .larger .ensures)
 
 pub end-load-spec : {M : Type 1} → statement M
 end-load-spec =
@@ -74,5 +80,6 @@ end-load-spec =
     shared-slice-read-peak
     sub-result
     mul-result
+    mul-result-2
     add-result
     returns)

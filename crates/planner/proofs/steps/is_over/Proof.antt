@@ -22,7 +22,7 @@ module _ (c : tie.After-capacity) where
 
   here : AtLink (begin .args .network .now) (begin .args .protected .now) (begin .args .all .now) mostSteps (begin .args .link) (c .capacity .result)
   unfolding networkOf
-  here = record { ready = begin .pre .0; least = omega arith; most = omega arith; link = begin .pre .1 .1; same = c .capacity .ensures }
+  here = record { ready = begin .pre .0; most = omega arith; link = begin .pre .1 .1; same = c .capacity .ensures }
 
 of-requires : tie.Need-of-requires
 of-requires c κs = head-in _ (c .before .before .before .pre .0 .good .ranges .sized .size)
@@ -37,7 +37,7 @@ step-load-requires : tie.Need-step-load-requires
 step-load-requires c κs = let h = here (c) in (protected-room h, c .before .before .before .before .before .pre .1 .0, link-low h)
 
 returns : tie.Need-returns
-returns c = is-over-first (here (c .before .before)) _ (c .before .before .before .before .before .before .before .pre .1 .0) (omega (arith, c .before .step-load .ensures, c .if1 .taken))
+returns c = is-over-first (here (c .before .before)) _ _ (c .before .before .before .before .before .before .before .pre .1 .0) (omega (arith, c .before .step-load .ensures, c .if1 .taken))
 
 shared-slice-read-result : tie.Need-shared-slice-read-result
 shared-slice-read-result c = omega (arith, head-in _ (c .before .before .before .before .before .before .before .before .pre .0 .good .ranges .sized .size), head-least (networkSizes (c .before .before .before .before .before .before .before .before .args .network .now)))
@@ -54,13 +54,13 @@ step-load-requires-2 : tie.Need-step-load-requires-2
 step-load-requires-2 c κs = let h = here (c .before .before .before) in (all-room h, c .before .before .before .before .before .before .before .before .pre .1 .0, link-low h)
 
 mul-result-2 : tie.Need-mul-result-2
-mul-result-2 c = let h = here (c .before .before .before .before) in record { fits = omega (arith, c .step-load2 .ensures, step-room _ (all-room h) _ (link-low h) _ (c .before .before .before .before .before .before .before .before .before .pre .1 .0)) }
+mul-result-2 c = let h = here (c .before .before .before .before) in record { fits = omega (arith, c .step-load2 .ensures, step-room _ (all-room h) _ (link-low h) _ _ (c .before .before .before .before .before .before .before .before .before .pre .1 .0)) }
 
 returns-2 : tie.Need-returns-2
 unfolding networkOf
 returns-2 c =
     ap (λ (w : ℕ). ltb ((1000 + at (c .before .before .before .before .before .before .before .before .before .args .network .now) 2) * (mostSteps * c .before .before .before .before .capacity .result)) (1000 * w)) (c .step-load2 .ensures)
-    ∙ is-over-second (here (c .before .before .before .before)) _ (c .before .before .before .before .before .before .before .before .before .pre .1 .0) (omega (arith, c .before .before .before .step-load .ensures, c .before .before .if1 .left))
+    ∙ is-over-second (here (c .before .before .before .before)) _ _ (c .before .before .before .before .before .before .before .before .before .pre .1 .0) (omega (arith, c .before .before .before .step-load .ensures, c .before .before .if1 .left))
 
 pub is-over-spec : {M : Type 1} → statement M
 is-over-spec =
