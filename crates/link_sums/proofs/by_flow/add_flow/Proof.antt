@@ -1,8 +1,6 @@
 -- `link_sums::by_flow::add_flow` meets its contract: by the flow's sums on the links that its tunnels cross.
-use Rattle.lists.specs.Lists.{networkOf}
 use Rattle.link_sums.proofs.Flows.{sums-within, with-flow}
 use Rattle.link_sums.proofs.Good.{good-range}
-use native.Mathlib.Omega.{arith}
 use borrow.Author.Needs.{needs}
 use Rattle.link_sums.proofs.by_flow.add_flow.Statement.{statement}
 use Rattle.link_sums.proofs.by_flow.add_flow.Tie as tie

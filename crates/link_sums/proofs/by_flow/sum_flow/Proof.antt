@@ -117,7 +117,7 @@ shared-slice-read-add-across : tie.Need-shared-slice-read-add-across Inv-loop μ
 shared-slice-read-add-across c = omega (arith, place (c .before .before .before) .within)
 
 add-across-requires : tie.Need-add-across-requires Inv-loop μ-loop
-add-across-requires c κs = (left-room _ _ _ (range (c .before .before .before .before)) (range (c .before .before .before .before) .old) _ _ (c .before .before .before .before .before .loop .inv .olds .0), numbers (c .before .before .before) .old-most)
+add-across-requires c κs = (left-room _ _ _ (range (c .before .before .before .before)) (range (c .before .before .before .before) .old) _ _ (c .before .before .before .before .before .loop .inv .olds .0), omega (arith, numbers (c .before .before .before)))
 
 add-add-across-2 : tie.Need-add-add-across-2 Inv-loop μ-loop
 add-add-across-2 c = record { fits = omega (arith, place (c .before .before .before .before .before .before .before) .few) }
@@ -129,7 +129,7 @@ shared-slice-read-add-across-2 : tie.Need-shared-slice-read-add-across-2 Inv-loo
 shared-slice-read-add-across-2 c = omega (arith, place (c .before .before .before .before .before .before .before .before) .within)
 
 add-across-requires-2 : tie.Need-add-across-requires-2 Inv-loop μ-loop
-add-across-requires-2 c κs = (left-room _ _ _ (range (c .before .before .before .before .before .before .before .before .before)) (range (c .before .before .before .before .before .before .before .before .before) .new) _ _ (c .before .before .before .before .before .before .before .before .before .before .loop .inv .news .0), numbers (c .before .before .before .before .before .before .before .before) .new-most)
+add-across-requires-2 c κs = (left-room _ _ _ (range (c .before .before .before .before .before .before .before .before .before)) (range (c .before .before .before .before .before .before .before .before .before) .new) _ _ (c .before .before .before .before .before .before .before .before .before .before .loop .inv .news .0), omega (arith, numbers (c .before .before .before .before .before .before .before .before)))
 
 mul-entry-2 : tie.Need-mul-entry-2 Inv-loop μ-loop
 mul-entry-2 c = record { fits = omega (arith, within (c .before .before .before .before .before .before .before .before .before .before .before .before)) }

@@ -1,5 +1,5 @@
 -- `planner::steps::is_over` meets its contract: the two comparisons are the two bounds of the rule.
-use Prim.Native.Nat.{ℕ, _+_, _*_, _≤_}
+use Prim.Native.Nat.{_+_, _*_, _≤_}
 use mathlib.Core.Path.{ap}
 use mathlib.Core.Logic.{⊎-elim}
 use native.Mathlib.Omega.{arith}

@@ -1,5 +1,4 @@
 -- `planner::steps::is_over_in` meets its contract: by the sums of the tables, in one window.
-use Prim.Native.Nat.{_≤_}
 use mathlib.Core.Path.{ap₂, _∙_}
 use native.Mathlib.Omega.{arith}
 use Rattle.model.specs.Limits.{mostSteps}
@@ -7,7 +6,6 @@ use Rattle.lists.specs.Lists.{networkOf}
 use Rattle.planner.specs.Search.{isOver}
 use Rattle.planner.proofs.Figures.{step-room}
 use Rattle.planner.proofs.Searching.{link-low, protected-room, all-room, over-same}
-use borrow.Author.Needs.{needs}
 use Rattle.planner.proofs.steps.is_over_in.Statement.{statement}
 use Rattle.planner.proofs.steps.is_over_in.Tie as tie
 use Rattle.planner.proofs.steps.is_over.Reads as is-over-reads
