@@ -1,15 +1,16 @@
 -- The tables in which a network's three sums are gathered, and what the functions say of them.
 use Prim.Native.Nat.{ℕ, _+_, _*_, _≤_, _<_, max}
 use mathlib.Core.Path.{_≡_}
-use mathlib.Core.Bool.{Bool, cond, not, _&&_}
+use mathlib.Core.Bool.{Bool, true, false, cond, not}
 use mathlib.Core.List.{List}
-use lib.Dec.{eqb, ltb}
+use lib.Dec.{eqb}
 use lib.ListN.{length}
 use Rattle.model.specs.Limits.{mostLinks, mostFlows, mostTunnels, mostAmount}
 use Rattle.model.specs.Sum.{sumOver}
+use Rattle.model.specs.Sets.{inSet}
 use Rattle.model.specs.Net.{Net}
 use Rattle.model.specs.Scan.{Bound}
-use Rattle.model.specs.Rule.{across, movers, onLink, counts}
+use Rattle.model.specs.Rule.{across, flowSum, movers, onLink, counts}
 use Rattle.lists.specs.Lists.{at}
 
 -- a table has three parts, with a number for each link that a network can have: of the old amounts, the new ones, and the larger of the two
@@ -68,30 +69,50 @@ pub record Joined (s more s′ : List ℕ) : Type 0 where
   pub size : length s′ ≡ tableSize
   pub each : (i : ℕ) → i < tableSize → at s′ i ≡ at s i + at more i
 
--- ---- the sums of the flows: for each flow that a network can have, a number for each link that it can have
+-- ---- the tunnels of a flow, chained: an entry is 1 more than a tunnel's number, or 0
 
-abbrev pub flowsSize : ℕ
-flowsSize = mostFlows * mostLinks
+abbrev pub ofFlow : Net → ℕ → ℕ → Bool
+ofFlow N f t = eqb (N .flow t) f
 
-abbrev pub flowSumAt : List ℕ → ℕ → ℕ → ℕ
-flowSumAt s f l = at s (mostLinks * f + l)
+-- entry m is of the last of the first n tunnels that c picks, so those below it have all that they have together; where c picks none it is 0
+pub record LastOf (c : ℕ → Bool) (n m : ℕ) : Type 0 where
+  pub low : m ≤ n
+  pub own : (t : ℕ) → m ≡ t + 1 → c t ≡ true
+  pub whole : (x : ℕ → ℕ) → sumOver n c x ≡ sumOver m c x
+
+-- of the first n tunnels: the last of each flow, and the one of the same flow before each tunnel
+pub record Chains (N : Net) (n : ℕ) (lasts priors : List ℕ) : Type 0 where
+  pub size : (length lasts ≡ mostFlows) × (length priors ≡ mostTunnels)
+  pub last : (f : ℕ) → f < mostFlows → LastOf (ofFlow N f) n (at lasts f)
+  pub prior : (t : ℕ) → t < n → LastOf (ofFlow N (N .flow t)) t (at priors t)
+
+-- ---- the sums of one flow: a number for each link that a network can have
 
 -- no sum is larger than all tunnels' amounts together
 pub record FlowRoom (s : List ℕ) : Type 0 where
-  pub size : length s ≡ flowsSize
-  pub most : (f l : ℕ) → f < mostFlows → l < mostLinks → flowSumAt s f l ≤ mostTunnels * mostAmount
+  pub size : length s ≡ mostLinks
+  pub most : (l : ℕ) → l < mostLinks → at s l ≤ mostTunnels * mostAmount
 
--- the sums s′ are s with x added to those of flow f on the links that c picks
-pub record FlowAdded (f : ℕ) (c : ℕ → Bool) (x : ℕ) (s s′ : List ℕ) : Type 0 where
+-- the sums s′ are s with x added on the links that c picks
+pub record FlowAdded (c : ℕ → Bool) (x : ℕ) (s s′ : List ℕ) : Type 0 where
   pub size : length s′ ≡ length s
-  pub each : (g l : ℕ) → g < mostFlows → l < mostLinks → flowSumAt s′ g l ≡ flowSumAt s g l + cond (eqb f g && c l) x 0
+  pub each : (l : ℕ) → l < mostLinks → at s′ l ≡ at s l + cond (c l) x 0
 
--- the sums of the amounts x of the first n tunnels; of all tunnels, `flowSum` of Rule.antt
-pub record FlowSums (N : Net) (n : ℕ) (x : ℕ → ℕ) (s : List ℕ) : Type 0 where
-  pub size : length s ≡ flowsSize
-  pub each : (f l : ℕ) → f < mostFlows → l < mostLinks → flowSumAt s f l ≡ sumOver n (λ t. eqb (N .flow t) f) (across N l x)
+-- the sums of the amounts x of flow f
+pub record FlowSums (N : Net) (f : ℕ) (x : ℕ → ℕ) (s : List ℕ) : Type 0 where
+  pub size : length s ≡ mostLinks
+  pub each : (l : ℕ) → l < mostLinks → at s l ≡ flowSum N (across N l x) f
 
--- the table s′ is s with the sums of flow f added, as one amount before and one after, on the first n links
-pub record SumsAdded (n f : ℕ) (olds news s s′ : List ℕ) : Type 0 where
+-- there are none but on the links of a set
+pub record NoneOutside (set : ℕ) (s : List ℕ) : Type 0 where
+  pub each : (l : ℕ) → l < mostLinks → inSet set l ≡ false → at s l ≡ 0
+
+-- the table s′ is s with a flow's sums added, as one amount before and one after, on the links that c picks
+pub record SumsAdded (c : ℕ → Bool) (olds news s s′ : List ℕ) : Type 0 where
   pub size : length s′ ≡ length s
-  pub each : (p : Part) (l : ℕ) → l < mostLinks → sumAt s′ p l ≡ sumAt s p l + cond (ltb l n) (amount (flowSumAt olds f l) (flowSumAt news f l) p) 0
+  pub each : (p : Part) (l : ℕ) → l < mostLinks → sumAt s′ p l ≡ sumAt s p l + cond (c l) (amount (at olds l) (at news l) p) 0
+
+-- the table s′ is s with flow f added
+pub record WithFlow (N : Net) (f : ℕ) (s s′ : List ℕ) : Type 0 where
+  pub size : length s′ ≡ length s
+  pub each : (p : Part) (l : ℕ) → l < mostLinks → sumAt s′ p l ≡ sumAt s p l + onPart N l p f

@@ -1,4 +1,5 @@
 pub mod Figures
+pub mod MoreSteps
 pub mod Searching
 pub mod EvenLists
 pub mod Planned

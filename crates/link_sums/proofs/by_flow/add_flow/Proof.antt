@@ -1,89 +1,45 @@
--- `link_sums::by_flow::add_flow` meets its contract: the links below one have the flow's sums added.
-use Prim.Native.Nat.{ℕ, _-_, _≤_, _<_}
-use mathlib.Core.Path.{_≡_, subst}
-use Rattle.model.specs.Limits.{mostLinks}
-use Rattle.link_sums.specs.Tables.{SumsAdded}
-use Rattle.link_sums.proofs.Flows.{sums-start, sums-on, sums-room}
-use native.Mathlib.Omega.{arith}
+-- `link_sums::by_flow::add_flow` meets its contract: by the flow's sums on the links that its tunnels cross.
+use Rattle.link_sums.proofs.Flows.{sums-within, with-flow}
+use Rattle.link_sums.proofs.Good.{good-range}
 use borrow.Author.Needs.{needs}
 use Rattle.link_sums.proofs.by_flow.add_flow.Statement.{statement}
 use Rattle.link_sums.proofs.by_flow.add_flow.Tie as tie
-use Rattle.link_sums.proofs.table.add_link.Reads as add-link-reads
+use Rattle.link_sums.proofs.by_flow.add_sums.Reads as add-sums-reads
+use Rattle.link_sums.proofs.by_flow.sum_flow.Reads as sum-flow-reads
 
-abbrev Inv-loop : tie.InvT-loop
-Inv-loop table₀ olds news flow links from link₀ table link = record { low : link ≤ links; added : SumsAdded link flow olds news table₀ table }
+slice-aggregate-sum-flow : tie.Need-slice-aggregate-sum-flow
+slice-aggregate-sum-flow c = search needs
 
-abbrev μ-loop : tie.MeasureT-loop
-μ-loop table₀ olds news flow links from link₀ table link = links - link
+slice-aggregate-sum-flow-2 : tie.Need-slice-aggregate-sum-flow-2
+slice-aggregate-sum-flow-2 c = search needs
 
--- a link that there is
-low : (c : tie.In-loop Inv-loop μ-loop) → c .before .loop .link < mostLinks
-low c = omega (arith, c .loop-test .taken, c .before .before .before .before .before .pre .4)
+sum-flow-requires : tie.Need-sum-flow-requires
+sum-flow-requires c κs = search needs
 
-mul-from : tie.Need-mul-from Inv-loop μ-loop
-mul-from c = record { fits = omega (arith, c .before .before .before .pre .3) }
+slice-aggregate-add-sums : tie.Need-slice-aggregate-add-sums
+slice-aggregate-add-sums c = search needs
 
-loop-holds : tie.Need-loop-holds Inv-loop μ-loop
-loop-holds c = record { low = omega arith; added = sums-start _ _ _ _ }
+slice-aggregate-add-sums-2 : tie.Need-slice-aggregate-add-sums-2
+slice-aggregate-add-sums-2 c = search needs
 
-add-old : tie.Need-add-old Inv-loop μ-loop
-add-old c = record { fits = omega (arith, low (c), c .before .before .before .before .before .pre .3) }
+add-sums-requires : tie.Need-add-sums-requires
+add-sums-requires c κs = let r = good-range _ (c .before .before .before .before .before .before .before .before .before .before .before .before .pre .0 .0) in (c .before .before .before .before .before .before .before .before .before .before .before .before .pre .1 .1, sums-within _ _ _ r (r .old) _ (c .before .before .before .before .before .sum-flow .ensures .0 .0), sums-within _ _ _ r (r .new) _ (c .before .before .before .before .before .sum-flow .ensures .1 .0))
 
-mul-old : tie.Need-mul-old Inv-loop μ-loop
-mul-old c = record { fits = omega (arith, low (c), c .before .before .before .before .before .pre .3) }
-
-shared-slice-read-old : tie.Need-shared-slice-read-old Inv-loop μ-loop
-shared-slice-read-old c = omega (arith, low (c .before), c .before .before .before .before .before .before .pre .3, c .before .before .before .before .before .before .pre .1 .size)
-
-add-new : tie.Need-add-new Inv-loop μ-loop
-add-new c = record { fits = omega (arith, low (c .before), c .before .before .before .before .before .before .pre .3) }
-
-mul-new : tie.Need-mul-new Inv-loop μ-loop
-mul-new c = record { fits = omega (arith, low (c .before), c .before .before .before .before .before .before .pre .3) }
-
-shared-slice-read-new : tie.Need-shared-slice-read-new Inv-loop μ-loop
-shared-slice-read-new c = omega (arith, low (c .before .before), c .before .before .before .before .before .before .before .pre .3, c .before .before .before .before .before .before .before .pre .2 .size)
-
-add-link-requires : tie.Need-add-link-requires Inv-loop μ-loop
-add-link-requires c κs = let s = (c .before .before .before .before .before .before .before .before) in
-    let i = c .before .before .before .before .loop in
-    let l = low (c .before .before .before) in
-    (sums-room _ _ _ _ _ _ (s .pre .3) (i .inv .added) (s .pre .1) (s .pre .2) (s .pre .0), l, s .pre .1 .most (s .args .flow) (i .link) (s .pre .3) l, s .pre .2 .most (s .args .flow) (i .link) (s .pre .3) l)
-
-add-link : tie.Need-add-link Inv-loop μ-loop
-add-link c = search needs
-
-loop-less : tie.Need-loop-less Inv-loop μ-loop
-loop-less c = search needs
-
-loop-again : tie.Need-loop-again Inv-loop μ-loop
-loop-again c = record { low = omega (arith, c .before .before .before .before .before .before .loop-test .taken); added = sums-on (c .before .before .before .before .before .before .before .loop .link) _ _ _ _ _ _ (c .before .before .before .before .before .before .before .loop .inv .added) (c .before .before .add-link .ensures) }
-
-same-length : tie.Need-same-length Inv-loop μ-loop
+same-length : tie.Need-same-length
 same-length c = search needs
 
-returns : tie.Need-returns Inv-loop μ-loop
-returns c = let s = (c .before .before .before .before .before) in
-    let e : c .before .loop .link ≡ s .args .links = omega (arith, c .before .loop .inv .low, c .loop-test .left) in
-    subst (λ (n : ℕ). SumsAdded n (s .args .flow) (s .args .olds .now) (s .args .news .now) (s .args .table .now) (c .before .loop .table)) e (c .before .loop .inv .added)
+returns : tie.Need-returns
+returns c = with-flow _ (c .before .before .before .before .before .before .before .before .before .before .before .before .before .before .before .pre .0 .1) _ _ _ _ (c .before .before .before .before .before .before .before .before .sum-flow .ensures .0) (c .before .before .before .before .before .before .before .before .sum-flow .ensures .1) _ _ (c .before .before .add-sums .ensures)
 
 pub add-flow-spec : {M : Type 1} → statement M
 add-flow-spec =
     tie.close
     (tie.spec
-    Inv-loop
-    μ-loop
-    mul-from
-    loop-holds
-    add-old
-    mul-old
-    shared-slice-read-old
-    add-new
-    mul-new
-    shared-slice-read-new
-    add-link-requires
-    add-link
-    loop-less
-    loop-again
+    slice-aggregate-sum-flow
+    slice-aggregate-sum-flow-2
+    sum-flow-requires
+    slice-aggregate-add-sums
+    slice-aggregate-add-sums-2
+    add-sums-requires
     same-length
     returns)

@@ -4,8 +4,7 @@ use mathlib.Core.Path.{_≡_, sym, ap, subst, _∙_}
 use mathlib.Core.Logic.{⊎-elim}
 use mathlib.Core.Bool.{Bool, not}
 use mathlib.Core.List.{List}
-use native.Mathlib.Nat.{le-refl}
-use Rattle.model.specs.Limits.{mostLinks, mostFlows}
+use Rattle.model.specs.Limits.{mostFlows}
 use Rattle.model.specs.Net.{Net}
 use Rattle.model.specs.Scan.{Bound}
 use Rattle.model.specs.Rule.{movers, counts}
@@ -14,9 +13,9 @@ use Rattle.model.proofs.Gathered.{counts-by-flow}
 use Rattle.lists.specs.Lists.{networkOf}
 use Rattle.lists.specs.declared.Network as sizes
 use Rattle.lists.proofs.Positions.{head-in}
-use Rattle.link_sums.specs.Tables.{mostSums, Room, FlowRoom, Table, unprotected}
+use Rattle.link_sums.specs.Tables.{mostSums, Room, Table, unprotected}
 use Rattle.link_sums.proofs.Tables.{table-zero, table-skip, table-room}
-use Rattle.link_sums.proofs.Flows.{flows-room, flow-take}
+use Rattle.link_sums.proofs.Flows.{flow-take}
 use Rattle.link_sums.proofs.Good.{good-range}
 use native.Mathlib.Omega.{arith}
 use borrow.Author.Needs.{needs}
@@ -27,14 +26,14 @@ use Rattle.link_sums.proofs.by_flow.add_flow.Reads as add-flow-reads
 use Rattle.link_sums.proofs.is_protected.Reads as is-protected-reads
 
 abbrev Inv-loop : tie.InvT-loop
-Inv-loop network olds news protected₀ others₀ sizes flow₀ protected others flow = record {
+Inv-loop network lasts priors protected₀ others₀ sizes flow₀ protected others flow = record {
   low : flow ≤ sizes .flows;
   protected : Table (networkOf network) flow (counts (networkOf network) Bound.protected) protected;
   others : Table (networkOf network) flow (unprotected (networkOf network)) others;
 }
 
 abbrev μ-loop : tie.MeasureT-loop
-μ-loop network olds news protected₀ others₀ sizes flow₀ protected others flow = sizes .flows - flow
+μ-loop network lasts priors protected₀ others₀ sizes flow₀ protected others flow = sizes .flows - flow
 
 -- in a turn: the flow
 module _ (c : tie.After-is-protected Inv-loop μ-loop) where
@@ -57,21 +56,9 @@ module _ (c : tie.After-is-protected Inv-loop μ-loop) where
   low : f < mostFlows
   low = omega (arith, there, good-range list (begin .pre .0 .0) .flows)
 
-  links : c .before .before .before .before .of .result .links ≡ N .links
-  unfolding networkOf
-  links = ap (λ (n : sizes.Network). n .links) (c .before .before .before .before .of .ensures)
-
   -- there is room for it
-  rooms : (p : ℕ → Bool) (s : List ℕ) → Table N f p s → Room mostSums s × FlowRoom (begin .args .olds .now) × FlowRoom (begin .args .news .now) × (f < mostFlows) × (c .before .before .before .before .of .result .links ≤ mostLinks)
-  unfolding networkOf
-  rooms p s T =
-      let r = good-range list (begin .pre .0 .0) in (
-        table-room N r f p s T (omega (arith, there, movers-flows N (begin .pre .0 .1))),
-        flows-room N r _ _ _ (begin .pre .1 .0) (le-refl _) (r .old),
-        flows-room N r _ _ _ (begin .pre .1 .1 .0) (le-refl _) (r .new),
-        low,
-        omega (arith, links, begin .pre .0 .0 .ranges .sized .counts .links),
-      )
+  room : (p : ℕ → Bool) (s : List ℕ) → Table N f p s → Room mostSums s
+  room p s T = table-room N (good-range list (begin .pre .0 .0)) f p s T (omega (arith, there, movers-flows N (begin .pre .0 .1)))
 
   -- whether it is protected is told by its class
   class-told : counts N Bound.protected f ≡ c .is-protected .result
@@ -81,16 +68,16 @@ of-requires : tie.Need-of-requires Inv-loop μ-loop
 of-requires c κs = head-in _ (c .before .before .before .before .before .pre .0 .0 .ranges .sized .size)
 
 loop-holds : tie.Need-loop-holds Inv-loop μ-loop
-loop-holds c = record { low = omega arith; protected = table-zero _ _ _ (c .before .before .before .before .before .before .pre .1 .1 .1 .0); others = table-zero _ _ _ (c .before .before .before .before .before .before .pre .1 .1 .1 .1) }
+loop-holds c = record { low = omega arith; protected = table-zero _ _ _ (c .before .before .before .before .before .before .pre .1 .1 .0); others = table-zero _ _ _ (c .before .before .before .before .before .before .pre .1 .1 .1) }
 
 is-protected-requires : tie.Need-is-protected-requires Inv-loop μ-loop
 is-protected-requires c κs = (c .before .before .before .before .before .before .before .before .before .pre .0 .0 .ranges .sized, c .before .before .before .of .ensures, omega (arith, c .if1 .taken))
 
 add-flow-requires : tie.Need-add-flow-requires Inv-loop μ-loop
-add-flow-requires c κs = rooms (c .before .before) _ _ (c .before .before .before .before .before .loop .inv .protected)
+add-flow-requires c κs = let b = begin (c .before .before) in ((b .pre .0 .0, b .pre .0 .1, low (c .before .before)), (b .pre .1 .0, room (c .before .before) _ _ (c .before .before .before .before .before .loop .inv .protected)))
 
 add-flow-requires-2 : tie.Need-add-flow-requires-2 Inv-loop μ-loop
-add-flow-requires-2 c κs = rooms (c .before .before) _ _ (c .before .before .before .before .before .loop .inv .others)
+add-flow-requires-2 c κs = let b = begin (c .before .before) in ((b .pre .0 .0, b .pre .0 .1, low (c .before .before)), (b .pre .1 .0, room (c .before .before) _ _ (c .before .before .before .before .before .loop .inv .others)))
 
 add-flow : tie.Need-add-flow Inv-loop μ-loop
 add-flow c = search needs
@@ -103,13 +90,12 @@ loop-again c = let p = (c .before) in
     let e = class-told p in
     let n = N p in
     let k = f p in
-    let take = flow-take n (begin p .pre .0 .1) (good-range (list p) (begin p .pre .0 .0)) k (low p) _ _ (begin p .pre .1 .0) (begin p .pre .1 .1 .0) in
     let tables : Table n (k + 1) (counts n Bound.protected) (c .if2 .protected) × Table n (k + 1) (unprotected n) (c .if2 .others) =
     ⊎-elim
     (λ w. let q = e ∙ w .0 .taken in
-    (rw (w .5) (take _ _ _ _ (c .before .before .before .before .loop .inv .protected) q (links p) (w .2 .ensures)), rw (w .6) (table-skip n k _ _ (c .before .before .before .before .loop .inv .others) (ap not q))))
+    (rw (w .5) (flow-take n k _ _ _ (c .before .before .before .before .loop .inv .protected) q (w .2 .ensures)), rw (w .6) (table-skip n k _ _ (c .before .before .before .before .loop .inv .others) (ap not q))))
     (λ w. let q = e ∙ w .0 .left in
-    (rw (w .5) (table-skip n k _ _ (c .before .before .before .before .loop .inv .protected) q), rw (w .6) (take _ _ _ _ (c .before .before .before .before .loop .inv .others) (ap not q) (links p) (w .2 .ensures))))
+    (rw (w .5) (table-skip n k _ _ (c .before .before .before .before .loop .inv .protected) q), rw (w .6) (flow-take n k _ _ _ (c .before .before .before .before .loop .inv .others) (ap not q) (w .2 .ensures))))
     (c .if2 .came) in
     record { low = omega (arith, c .before .before .if1 .taken); protected = tables .0; others = tables .1 }
 

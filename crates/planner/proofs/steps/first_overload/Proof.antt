@@ -16,7 +16,7 @@ use borrow.Author.Needs.{needs}
 use Rattle.planner.proofs.steps.first_overload.Statement.{statement}
 use Rattle.planner.proofs.steps.first_overload.Tie as tie
 use Rattle.lists.proofs.Network.of.Reads as of-reads
-use Rattle.planner.proofs.steps.is_over.Reads as is-over-reads
+use Rattle.planner.proofs.steps.is_over_in.Reads as is-over-in-reads
 
 abbrev Inv-loop : tie.InvT-loop
 Inv-loop lag network protected all links last place₀ second₀ row link₀ place second link = record {
@@ -54,8 +54,8 @@ steps-holds c = record { low = omega arith; none = (refl, refl); kept = first-ze
 loop-holds : tie.Need-loop-holds Inv-loop μ-loop Inv-steps μ-steps
 loop-holds c = record { low = omega arith; none = c .before .steps .inv .none; kept = first-zero _ }
 
-is-over-requires : tie.Need-is-over-requires Inv-loop μ-loop Inv-steps μ-steps
-is-over-requires c κs = (c .before .before .before .before .before .before .before .before .pre .0, (omega (arith, c .before .before .before .before .before .before .before .before .pre .1, c .before .before .steps-test .taken), omega (arith, c .loop-test .taken, ap (λ (n : counts.Network). n .links) (c .before .before .before .before .of .ensures))))
+is-over-in-requires : tie.Need-is-over-in-requires Inv-loop μ-loop Inv-steps μ-steps
+is-over-in-requires c κs = (c .before .before .before .before .before .before .before .before .pre .0, (omega (arith, c .before .before .before .before .before .before .before .before .pre .1, c .before .before .steps-test .taken), omega (arith, c .loop-test .taken, ap (λ (n : counts.Network). n .links) (c .before .before .before .before .of .ensures))))
 
 add-place : tie.Need-add-place Inv-loop μ-loop Inv-steps μ-steps
 add-place c = search needs
@@ -67,7 +67,7 @@ loop-less : tie.Need-loop-less Inv-loop μ-loop Inv-steps μ-steps
 loop-less c = search needs
 
 loop-again : tie.Need-loop-again Inv-loop μ-loop Inv-steps μ-steps
-loop-again c = record { low = omega arith; none = c .before .before .before .loop .inv .none; kept = links-on _ _ _ (c .before .before .before .loop .link) (c .before .before .before .loop .inv .kept) (sym (c .before .is-over .ensures) ∙ c .if1 .left) }
+loop-again c = record { low = omega arith; none = c .before .before .before .loop .inv .none; kept = links-on _ _ _ (c .before .before .before .loop .link) (c .before .before .before .loop .inv .kept) (sym (c .before .is-over-in .ensures) ∙ c .if1 .left) }
 
 add-row : tie.Need-add-row Inv-loop μ-loop Inv-steps μ-steps
 add-row c = search needs
@@ -98,7 +98,7 @@ returns-2 c = let a = c .before .before .before .before .before .before .before 
     let N = networkOf (a .network .now) in
     let s = c .before .before .before .before .before .steps in
     let i = c .before .before .before .loop in
-    stuck-here (a .lag) N (s .row) (i .link) (s .inv .kept) (i .inv .kept) (sym (c .before .is-over .ensures) ∙ c .if1 .taken) (omega (arith, c .before .before .before .before .steps-test .taken)) (omega (arith, c .before .before .loop-test .taken, same (c .before .before .before .before .before .before)))
+    stuck-here (a .lag) N (s .row) (i .link) (s .inv .kept) (i .inv .kept) (sym (c .before .is-over-in .ensures) ∙ c .if1 .taken) (omega (arith, c .before .before .before .before .steps-test .taken)) (omega (arith, c .before .before .loop-test .taken, same (c .before .before .before .before .before .before)))
 
 pub first-overload-spec : {M : Type 1} → statement M
 first-overload-spec =
@@ -112,7 +112,7 @@ first-overload-spec =
     sub-last
     steps-holds
     loop-holds
-    is-over-requires
+    is-over-in-requires
     add-place
     add-link
     loop-less
