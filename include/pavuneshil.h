@@ -21,6 +21,12 @@
  * of a flow at once, with unit 0 each tunnel for itself. Edition 1 is read as if next equalled rate, and editions 1 and 2 as if
  * unit and held were 0; their lists have no numbers for these.
  *
+ * Planner and checker are given a lag, 1 to 4: how many steps the switches may be behind. With lag 1 each has finished a step
+ * before the next begins, and a window is a step: the row that it leads from and the one that it leads to. With lag w a window
+ * goes from row a to row a + w, or to the last row where that comes sooner; there is one for each a from 0 to steps - w, and one
+ * from row 0 where a plan has fewer steps than w. A tunnel, or with unit 1 a flow, may show any row of a window. What passes with
+ * a lag passes with every smaller one.
+ *
  * The answer is four numbers (the step bound and the desks have other values after PAVUNESHIL_DONE; see there):
  *   { PAVUNESHIL_DONE,    length, 0, 0 }              done; length items of the output were written
  *   { PAVUNESHIL_PLAN,    length, 0, 0 }              a plan; length numbers were written
@@ -42,6 +48,7 @@
  *   13  four jobs of the desk wait already      desk                         0
  *   14  hand-out with nothing waiting           0                            0
  *   18  a set of rules does not fit             switch                       0 old, 1 new
+ *   19  lag is not 1 to 4                       lag                          0
  *   21  count of services out of range          0                            0
  *       rate out of range                       0                            1
  *       demand out of range                     first such service           0
@@ -63,6 +70,15 @@
 #ifdef __cplusplus
 extern "C" {
 #endif
+
+/*
+ * The version of this header. 1, which did not say so, had no lag. A function whose parameters change has another name in the
+ * library from then on, so that what was compiled with the header of another version does not link: pavuneshil_make_plan and
+ * pavuneshil_check_plan are these two there.
+ */
+#define PAVUNESHIL_VERSION 2
+#define pavuneshil_make_plan pavuneshil_make_plan_at_lag
+#define pavuneshil_check_plan pavuneshil_check_plan_at_lag
 
 /* The kinds of answer. */
 #define PAVUNESHIL_DONE 0
@@ -104,29 +120,32 @@ void pavuneshil_write_network(const uint64_t *list, size_t list_len, uint8_t *ou
 void pavuneshil_write_plan(const uint64_t *list, size_t list_len, uint8_t *out, size_t out_len, uint64_t answer[4]);
 
 /*
- * Plans. A plan: out begins with the list of the even plan of fewest steps, 1 to 50, in which no link is overloaded in
- * any step, whichever tunnels, or with unit 1 whichever flows, have moved and whichever have not. A network that keeps its
- * scratch with overrun 0 gets one, given the room, of at most as many steps as pavuneshil_step_bound says.
- * Refused: 2, 3 and 4 of the network's list; then 9; then 10.
+ * Plans. A plan: out begins with the list of the even plan of fewest steps, 1 to 50, in which no link is overloaded,
+ * whichever row of a window each tunnel, or with unit 1 each flow, shows. A network that keeps its scratch with overrun 0
+ * gets one, given the room, of at most ceil(lag x (1000 - scratch) / scratch) steps, if that is 50 or less: with lag 1 as
+ * many as pavuneshil_step_bound says. With overrun it gets one of at most the larger of that and ceil(1000 x lag / overrun),
+ * if that is 50 or less.
+ * Refused: 19; 2, 3 and 4 of the network's list; then 9, the first overload of the 50-step plan with this lag; then 10.
  */
-void pavuneshil_make_plan(const uint64_t *network, size_t network_len, uint64_t *out, size_t out_len,
+void pavuneshil_make_plan(uint64_t lag, const uint64_t *network, size_t network_len, uint64_t *out, size_t out_len,
                           uint64_t answer[4]);
 
 /*
- * Checks anybody's plan, given as lists. Done: no link is overloaded in any step, whichever tunnels, or with unit 1
- * whichever flows, have moved and whichever have not; marks begins with a 0 for each tunnel.
- * Refused: 2, 3 and 4 of the network; 2 and 3 of the plan; 5; 6, the lowest row, then flow; 10, if marks has fewer
- * bytes than there are tunnels; then 7 or 8, the first overload by step, then link, 7 before 8. After 7 and 8 marks
- * begins with a byte for each tunnel, 1 exactly if it crosses the named link and its amount rises in the named step, or
- * with unit 1 the sum of its flow's amounts across that link, else 0: once the marked tunnels, or with unit 1 the flows of
- * the marked tunnels, have moved in that step, and no others, the named link is overloaded.
+ * Checks anybody's plan, given as lists. Done: no link is overloaded, whichever row of a window each tunnel, or with unit 1
+ * each flow, shows; marks begins with a 0 for each tunnel.
+ * Refused: 19; 2, 3 and 4 of the network; 2 and 3 of the plan; 5; 6, the lowest row, then flow; 10, if marks has fewer
+ * bytes than there are tunnels; then 7 or 8, the first overload by step, then link, 7 before 8. The step of an overload in
+ * the window from row a is a + 1. After 7 and 8 marks begins with a byte for each tunnel, 1 exactly if it crosses the named
+ * link and the largest of its amounts in the window exceeds that of row a, or with unit 1 the largest sum of its flow's
+ * amounts across that link, else 0: where each marked tunnel, or with unit 1 the flow of each, shows a row in which it has
+ * the largest, and all others show row a, the named link is overloaded.
  */
-void pavuneshil_check_plan(const uint64_t *network, size_t network_len, const uint64_t *plan, size_t plan_len,
-                           uint8_t *marks, size_t marks_len, uint64_t answer[4]);
+void pavuneshil_check_plan(uint64_t lag, const uint64_t *network, size_t network_len, const uint64_t *plan,
+                           size_t plan_len, uint8_t *marks, size_t marks_len, uint64_t answer[4]);
 
 /*
  * The step bound. { PAVUNESHIL_DONE, steps, 0, 0 }: a network with this scratch and overrun, both in thousandths, that
- * keeps its scratch needs at most so many even steps.
+ * keeps its scratch needs at most so many even steps, with lag 1.
  * Refused: 2 at place 2 where scratch is not 20 to 500; 2 at place 3 where overrun is neither 0 nor 20 to 500.
  */
 void pavuneshil_step_bound(uint64_t scratch, uint64_t overrun, uint64_t answer[4]);

@@ -40,6 +40,9 @@ static const char swap[] = "net=1\n"
                            "old=0\n"
                            "new=10\n";
 
+/* every switch has finished a step before the next begins */
+static const uint64_t lag = 1;
+
 static uint64_t network[PAVUNESHIL_NETWORK_NUMBERS];
 static uint64_t plan[PAVUNESHIL_PLAN_NUMBERS];
 static uint8_t marks[PAVUNESHIL_MARKS];
@@ -63,12 +66,12 @@ int main(void)
         return 1;
     network_len = answer[1];
 
-    pavuneshil_make_plan(network, network_len, plan, PAVUNESHIL_PLAN_NUMBERS, answer);
+    pavuneshil_make_plan(lag, network, network_len, plan, PAVUNESHIL_PLAN_NUMBERS, answer);
     if (refused(answer))
         return 1;
     plan_len = answer[1];
 
-    pavuneshil_check_plan(network, network_len, plan, plan_len, marks, PAVUNESHIL_MARKS, answer);
+    pavuneshil_check_plan(lag, network, network_len, plan, plan_len, marks, PAVUNESHIL_MARKS, answer);
     if (refused(answer))
         return 1;
 

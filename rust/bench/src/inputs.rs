@@ -15,8 +15,9 @@ const OVERRUN: u64 = 100;
 /// The most that a capacity, a rate or a demand may be.
 const AMOUNT: u64 = 10_000_000;
 
-/// A network with the plan that the planner makes for it, as lists and as texts.
+/// A network with the plan that the planner makes for it with a lag, as lists and as texts.
 pub struct Input {
+    pub lag: u64,
     pub network: Vec<u64>,
     pub plan: Vec<u64>,
     pub network_text: Vec<u8>,
@@ -30,8 +31,8 @@ pub struct Input {
 }
 
 impl Input {
-    fn of(network: Vec<u64>, tight: Vec<u64>) -> Input {
-        let plan = second::make_plan_by(&LANDED, &network, ROOM).expect("a plan");
+    fn of(lag: u64, network: Vec<u64>, tight: Vec<u64>) -> Input {
+        let plan = second::make_plan_lag(&LANDED, &network, lag, ROOM).expect("a plan");
         let mut stuck = network.clone();
         let shape = Shape::of(&network);
         let last = shape.cap(shape.links - 1)..shape.cap(shape.links);
@@ -39,6 +40,7 @@ impl Input {
         let text = second::write_network_by(&LANDED, &network, ROOM);
         let network_text = text.expect("a valid network");
         Input {
+            lag,
             remarked_text: remarked(&network_text),
             network_text,
             plan_text: second::write_plan(&plan, ROOM).expect("a valid plan"),
@@ -63,16 +65,16 @@ fn remarked(text: &[u8]) -> Vec<u8> {
 }
 
 /// So many networks of 64 links, 32 flows and 96 tunnels, each tunnel over so many links, for
-/// which the plan of fewest steps has 50: of edition 3 where a `unit` is given, else of edition 1. Of one
-/// seed they differ in that alone, and with `unit` 1 in the capacities.
-pub fn largest(count: usize, hops: u32, unit: Option<u64>, seed: u64) -> Vec<Input> {
+/// which the plan of fewest steps with this lag has 50: of edition 3 where a `unit` is given, else of edition
+/// 1. Of one seed they differ in that alone, and by lag and with `unit` 1 in the capacities.
+pub fn largest(count: usize, hops: u32, unit: Option<u64>, lag: u64, seed: u64) -> Vec<Input> {
     let mut rng = Rng::new(seed);
     let mut inputs = Vec::new();
     while inputs.len() < count {
-        let Some((network, tight)) = network(&mut rng, hops, unit) else {
+        let Some((network, tight)) = network(&mut rng, hops, unit, lag) else {
             continue;
         };
-        let input = Input::of(network, tight);
+        let input = Input::of(lag, network, tight);
         if input.plan[2] == STEPS {
             inputs.push(input);
         }
@@ -81,14 +83,14 @@ pub fn largest(count: usize, hops: u32, unit: Option<u64>, seed: u64) -> Vec<Inp
 }
 
 /// The swap: two flows of 10 Mbit/s change places on two links of 15.
-pub fn swap() -> Input {
+pub fn swap(lag: u64) -> Input {
     let network = |cap| {
         vec![
             1, 333, 0, 2, 2, 4, cap, cap, 0, 10, 0, 10, //
             0, 1, 10, 0, 0, 2, 0, 10, 1, 2, 10, 0, 1, 1, 0, 10,
         ]
     };
-    Input::of(network(15), network(14))
+    Input::of(lag, network(15), network(14))
 }
 
 /// Three parts of a rate, any of them 0 now and then.
@@ -107,9 +109,9 @@ fn via(rng: &mut Rng, hops: u32) -> u64 {
     set
 }
 
-/// A network in which every link has just what the even plan of 50 steps needs, and the same with
-/// one less on the link that needs its capacity latest. `None` where a capacity is out of range.
-fn network(rng: &mut Rng, hops: u32, unit: Option<u64>) -> Option<(Vec<u64>, Vec<u64>)> {
+/// A network in which every link has just what the even plan of 50 steps needs with this lag, and the
+/// same with one less on the link that needs its capacity latest. `None` where a capacity is out of range.
+fn network(rng: &mut Rng, hops: u32, unit: Option<u64>, lag: u64) -> Option<(Vec<u64>, Vec<u64>)> {
     // amounts of all lengths, and the capacities still in range
     let most = 28_000_000 / u64::from(hops) / 8;
     let mut flows = Vec::new();
@@ -135,17 +137,18 @@ fn network(rng: &mut Rng, hops: u32, unit: Option<u64>) -> Option<(Vec<u64>, Vec
     let mut latest = (0, 0);
     for link in 0..LINKS {
         let (mut cap, mut at) = (0, 0);
-        for step in 1..=STEPS {
+        for first in 0..=STEPS - lag {
             let (mut protected, mut all) = (0, 0);
-            // of each tunnel, or with `unit` 1 of each flow: whether it is protected, and its two sums
+            // of each tunnel, or with `unit` 1 of each flow: whether it is protected, and its sums in the first
+            // row of the window and in the last, of which the larger is the largest of all
             let mut sums = [(false, [0; 2]); TUNNELS];
             for (t, &(flow, via, old, new)) in tunnels.iter().enumerate() {
                 if (via >> link) & 1 == 1 {
                     let row = |a| (STEPS - a) * old + a * new;
                     let sum = &mut sums[if unit == Some(1) { flow as usize } else { t }];
                     sum.0 = flows[flow as usize].0 < 2;
-                    sum.1[0] += row(step - 1);
-                    sum.1[1] += row(step);
+                    sum.1[0] += row(first);
+                    sum.1[1] += row(first + lag);
                 }
             }
             for (of_protected, [earlier, later]) in sums {
@@ -159,7 +162,7 @@ fn network(rng: &mut Rng, hops: u32, unit: Option<u64>) -> Option<(Vec<u64>, Vec
                 .div_ceil(STEPS)
                 .max((1000 * all).div_ceil((1000 + OVERRUN) * STEPS));
             if needed > cap {
-                (cap, at) = (needed, step);
+                (cap, at) = (needed, first);
             }
         }
         if cap == 0 || cap > AMOUNT {
@@ -308,23 +311,35 @@ mod tests {
     fn of_the_largest_size() {
         for hops in [4, 32] {
             for unit in [None, Some(0), Some(1)] {
-                for input in largest(2, hops, unit, 1) {
+                for (lag, input) in [1, 4].into_iter().flat_map(|lag| {
+                    let inputs = largest(2, hops, unit, lag, 1);
+                    inputs.into_iter().map(move |input| (lag, input))
+                }) {
                     // edition 1 has no `unit`, no `held` of a link and no `next` of a flow
                     let more = if unit.is_none() { 1 + LINKS + FLOWS } else { 0 };
                     assert_eq!(input.network.len() + more, pavuneshil::NETWORK_NUMBERS);
                     assert_eq!(input.plan.len(), pavuneshil::PLAN_NUMBERS);
-                    let refused = second::check_plan_by(&LANDED, &input.tight, &input.plan, ROOM);
+                    let check = |network: &[u64], lag| {
+                        second::check_plan_lag(&LANDED, network, &input.plan, lag, ROOM)
+                    };
+                    let accepted = check(&input.network, lag);
+                    assert!(matches!(accepted, second::Checked::Accepted { .. }));
+                    let refused = check(&input.tight, lag);
                     assert!(matches!(refused, second::Checked::Refused { .. }));
+                    let with_more = check(&input.network, lag + 1);
+                    assert!(matches!(with_more, second::Checked::Refused { .. }));
                 }
             }
             // of one seed the tunnels are the same
-            let tunnels = |unit| -> Vec<Vec<u64>> {
-                let inputs = largest(2, hops, unit, 1);
+            let tunnels = |unit, lag| -> Vec<Vec<u64>> {
+                let inputs = largest(2, hops, unit, lag, 1);
                 let last = |list: &Vec<u64>| list[list.len() - 4 * TUNNELS..].to_vec();
                 inputs.iter().map(|input| last(&input.network)).collect()
             };
-            assert_eq!(tunnels(Some(0)), tunnels(None));
-            assert_eq!(tunnels(Some(1)), tunnels(None));
+            for lag in [1, 4] {
+                assert_eq!(tunnels(Some(0), lag), tunnels(None, 1));
+                assert_eq!(tunnels(Some(1), lag), tunnels(None, 1));
+            }
             for tables in tables(2, hops, 1) {
                 assert_eq!(tables.list.len(), pavuneshil::RULES_NUMBERS);
             }

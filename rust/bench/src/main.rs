@@ -13,13 +13,16 @@ use pavuneshil::{
     STAGES, TEXT_BYTES,
 };
 use second::{
-    check_plan_by, make_plan_by, read_network_by, read_plan_by, write_network_by, Checked,
+    check_plan_lag, make_plan_lag, read_network_by, read_plan_by, write_network_by, Checked,
 };
 use std::hint::black_box;
 
 /// The networks of a size, and the seed of the inputs.
 const COUNT: usize = 40;
 const SEED: u64 = 431;
+
+/// Planner and checker are measured with lag 1 and with this one.
+const MOST_LAG: u64 = 4;
 
 fn row(name: &str, calls: usize, ours: &mut dyn FnMut(), second: &mut dyn FnMut()) {
     let times = medians(calls, &mut [ours, second]);
@@ -70,115 +73,186 @@ fn agree_checked(ours: Answer, marks: &[u8], second: Checked) {
     }
 }
 
-/// Rows of one set of inputs, each pass going over all of them `repeat` times.
-fn rows(inputs: &[Input], repeat: usize) {
-    let calls = inputs.len() * repeat;
+/// A row of an operation from one slice to another, over a field of the inputs, to so much room; each pass
+/// goes over all inputs `repeat` times.
+fn convert_row<I, O: PartialEq + Copy>(
+    name: &str,
+    (inputs, repeat): (&[Input], usize),
+    pick: fn(&Input) -> &[I],
+    out: &mut [O],
+    room: fn(&Input) -> usize,
+    ours: impl Fn(&[I], &mut [O]) -> Answer,
+    second: impl Fn(&[I], usize) -> Result<Vec<O>, second::Refusal>,
+) {
+    for input in inputs {
+        let answer = ours(pick(input), &mut out[..room(input)]);
+        agree(answer, out, second(pick(input), room(input)));
+    }
+    row(
+        name,
+        inputs.len() * repeat,
+        &mut || {
+            for input in (0..repeat).flat_map(|_| inputs) {
+                black_box(ours(black_box(pick(input)), &mut out[..room(input)]));
+            }
+        },
+        &mut || {
+            for input in (0..repeat).flat_map(|_| inputs) {
+                black_box(second(black_box(pick(input)), room(input))).ok();
+            }
+        },
+    );
+}
+
+/// A row of the checker, on the network itself or another that the input has.
+fn check_row(
+    name: &str,
+    (inputs, repeat): (&[Input], usize),
+    pick: fn(&Input) -> &[u64],
+    room: usize,
+) {
+    let mut marks = [0u8; MARKS];
+    for input in inputs {
+        let (lag, network, plan) = (input.lag, pick(input), &input.plan);
+        let answer = pavuneshil::check_plan(lag, network, plan, &mut marks[..room]);
+        let second = check_plan_lag(&LANDED, network, plan, lag, room);
+        agree_checked(answer, &marks, second);
+    }
+    row(
+        name,
+        inputs.len() * repeat,
+        &mut || {
+            for input in (0..repeat).flat_map(|_| inputs) {
+                black_box(pavuneshil::check_plan(
+                    black_box(input.lag),
+                    black_box(pick(input)),
+                    black_box(&input.plan),
+                    &mut marks[..room],
+                ));
+            }
+        },
+        &mut || {
+            for input in (0..repeat).flat_map(|_| inputs) {
+                black_box(check_plan_lag(
+                    &LANDED,
+                    black_box(pick(input)),
+                    black_box(&input.plan),
+                    black_box(input.lag),
+                    room,
+                ));
+            }
+        },
+    );
+}
+
+/// Rows of the texts of one set of inputs.
+fn text_rows(inputs: (&[Input], usize)) {
     let mut numbers = vec![0u64; PLAN_NUMBERS];
     let mut text = vec![0u8; TEXT_BYTES];
-    let mut marks = [0u8; MARKS];
+    let second_read = |text: &[u8], room| read_network_by(&LANDED, text, room);
+    let second_write = |list: &[u64], room| write_network_by(&LANDED, list, room);
+    for (name, pick) in [
+        (
+            "read_network",
+            (|input| &input.network_text) as fn(&Input) -> &[u8],
+        ),
+        ("read_network, 32 remarks of 80 bytes", |input| {
+            &input.remarked_text
+        }),
+    ] {
+        convert_row(
+            name,
+            inputs,
+            pick,
+            &mut numbers,
+            |_| PLAN_NUMBERS,
+            pavuneshil::read_network,
+            second_read,
+        );
+    }
+    convert_row(
+        "read_plan",
+        inputs,
+        |input| &input.plan_text,
+        &mut numbers,
+        |_| PLAN_NUMBERS,
+        pavuneshil::read_plan,
+        |text: &[u8], room| read_plan_by(&LANDED, text, room),
+    );
+    for (name, room) in [
+        ("write_network", (|_| TEXT_BYTES) as fn(&Input) -> usize),
+        ("write_network, room exact", |input| {
+            input.network_text.len()
+        }),
+    ] {
+        convert_row(
+            name,
+            inputs,
+            |input| &input.network,
+            &mut text,
+            room,
+            pavuneshil::write_network,
+            second_write,
+        );
+    }
+    for (name, room) in [
+        ("write_plan", (|_| TEXT_BYTES) as fn(&Input) -> usize),
+        ("write_plan, room exact", |input| input.plan_text.len()),
+    ] {
+        convert_row(
+            name,
+            inputs,
+            |input| &input.plan,
+            &mut text,
+            room,
+            pavuneshil::write_plan,
+            second::write_plan,
+        );
+    }
+}
 
-    // an operation from one slice to another, over a field of the inputs
-    macro_rules! convert {
-        ($name:expr, $operation:ident, $field:ident, $out:ident, $room:expr) => {
-            let room: fn(&Input) -> usize = $room;
-            for input in inputs {
-                let room = room(input);
-                let answer = pavuneshil::$operation(&input.$field, &mut $out[..room]);
-                agree(answer, &$out, $operation(&input.$field, room));
-            }
-            row(
-                $name,
-                calls,
-                &mut || {
-                    for input in (0..repeat).flat_map(|_| inputs) {
-                        black_box(pavuneshil::$operation(
-                            black_box(&input.$field),
-                            &mut $out[..room(input)],
-                        ));
-                    }
-                },
-                &mut || {
-                    for input in (0..repeat).flat_map(|_| inputs) {
-                        black_box($operation(black_box(&input.$field), room(input))).ok();
-                    }
-                },
-            );
-        };
+/// Rows of the planner and the checker, with the lag that the inputs were made for.
+fn plan_rows(inputs: (&[Input], usize)) {
+    let mut numbers = vec![0u64; PLAN_NUMBERS];
+    let lag = inputs.0[0].lag;
+    let with_lag = match lag {
+        1 => String::new(),
+        _ => format!(", lag {lag}"),
+    };
+    for (name, pick) in [
+        (
+            "make_plan",
+            (|input| &input.network) as fn(&Input) -> &[u64],
+        ),
+        ("make_plan, refused 9", |input| &input.stuck),
+    ] {
+        convert_row(
+            &format!("{name}{with_lag}"),
+            inputs,
+            pick,
+            &mut numbers,
+            |_| PLAN_NUMBERS,
+            |list, out| pavuneshil::make_plan(lag, list, out),
+            |list: &[u64], room| make_plan_lag(&LANDED, list, lag, room),
+        );
     }
-    macro_rules! check {
-        ($name:expr, $network:ident, $room:expr) => {
-            for input in inputs {
-                let answer =
-                    pavuneshil::check_plan(&input.$network, &input.plan, &mut marks[..$room]);
-                agree_checked(
-                    answer,
-                    &marks,
-                    check_plan_by(&LANDED, &input.$network, &input.plan, $room),
-                );
-            }
-            row(
-                $name,
-                calls,
-                &mut || {
-                    for input in (0..repeat).flat_map(|_| inputs) {
-                        black_box(pavuneshil::check_plan(
-                            black_box(&input.$network),
-                            black_box(&input.plan),
-                            &mut marks[..$room],
-                        ));
-                    }
-                },
-                &mut || {
-                    for input in (0..repeat).flat_map(|_| inputs) {
-                        black_box(check_plan_by(
-                            &LANDED,
-                            black_box(&input.$network),
-                            black_box(&input.plan),
-                            $room,
-                        ));
-                    }
-                },
-            );
-        };
+    let of = |name: &str| format!("{name}{with_lag}");
+    check_row(
+        &of("check_plan, accepted"),
+        inputs,
+        |input| &input.network,
+        MARKS,
+    );
+    check_row(
+        &of("check_plan, refused 7 or 8"),
+        inputs,
+        |input| &input.tight,
+        MARKS,
+    );
+    if lag == 1 {
+        let name = "check_plan, judging alone (no marks, 10)";
+        check_row(name, inputs, |input| &input.network, 0);
     }
-    // the second implementation's, by the rules that have landed
-    let read_network = |text: &[u8], room| read_network_by(&LANDED, text, room);
-    let read_plan = |text: &[u8], room| read_plan_by(&LANDED, text, room);
-    let write_network = |list: &[u64], room| write_network_by(&LANDED, list, room);
-    let make_plan = |list: &[u64], room| make_plan_by(&LANDED, list, room);
-    let write_plan = second::write_plan;
-    convert!("read_network", read_network, network_text, numbers, |_| {
-        PLAN_NUMBERS
-    });
-    convert!(
-        "read_network, 32 remarks of 80 bytes",
-        read_network,
-        remarked_text,
-        numbers,
-        |_| PLAN_NUMBERS
-    );
-    convert!("read_plan", read_plan, plan_text, numbers, |_| PLAN_NUMBERS);
-    convert!("write_network", write_network, network, text, |_| {
-        TEXT_BYTES
-    });
-    convert!(
-        "write_network, room exact",
-        write_network,
-        network,
-        text,
-        |input| input.network_text.len()
-    );
-    convert!("write_plan", write_plan, plan, text, |_| TEXT_BYTES);
-    convert!("write_plan, room exact", write_plan, plan, text, |input| {
-        input.plan_text.len()
-    });
-    convert!("make_plan", make_plan, network, numbers, |_| PLAN_NUMBERS);
-    convert!("make_plan, refused 9", make_plan, stuck, numbers, |_| {
-        PLAN_NUMBERS
-    });
-    check!("check_plan, accepted", network, MARKS);
-    check!("check_plan, refused 7 or 8", tight, MARKS);
-    check!("check_plan, judging alone (no marks, 10)", network, 0);
 }
 
 /// A row of rule tables: an operation on what is picked of them, to as much output as there is room for.
@@ -368,11 +442,18 @@ fn main() {
             println!(
                 "-- {COUNT} networks of 64 links, 32 flows, 96 tunnels; 50 steps; {name} a tunnel; {edition}"
             );
-            rows(&inputs::largest(COUNT, hops, unit, SEED), 1);
+            let inputs = inputs::largest(COUNT, hops, unit, 1, SEED);
+            text_rows((&inputs, 1));
+            plan_rows((&inputs, 1));
+            // the same but for the capacities, which are those of a plan of 50 steps again
+            plan_rows((&inputs::largest(COUNT, hops, unit, MOST_LAG, SEED), 1));
         }
     }
     println!("-- the swap");
-    rows(&[inputs::swap()], 500);
+    let swap = [inputs::swap(1)];
+    text_rows((&swap, 500));
+    plan_rows((&swap, 500));
+    plan_rows((&[inputs::swap(MOST_LAG)], 500));
 
     let shares = inputs::shares(4096, SEED);
     println!("-- {} pairs of scratch and overrun", shares.len());

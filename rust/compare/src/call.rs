@@ -73,6 +73,29 @@ fn named(refusal: Refusal) -> String {
     format!("refusal {}{cause}", refusal.number)
 }
 
+/// What the second implementation answers, as the kinds of cases name it.
+fn named_answer<T>(answer: &Result<Vec<T>, second::Refusal>, good: &str) -> String {
+    match answer {
+        Ok(_) => good.to_string(),
+        Err(refusal) => named(told(*refusal)),
+    }
+}
+
+/// An answer that depends on the lag, with the edition and the lag.
+pub fn by_lag(answer: &str, edition: Option<&str>, lag: u64) -> String {
+    format!("{}, lag {lag}", by_edition(answer, edition))
+}
+
+/// An answer of the planner or the checker: by edition and lag where it depends on the lag, by edition where
+/// it does not; and 19 with what the answer is with lag 1.
+fn with_lag(answer: &str, edition: Option<&str>, lag: u64, with_lag_1: &str) -> String {
+    match answer {
+        "plan" | "done" | "refusal 7" | "refusal 8" | "refusal 9" => by_lag(answer, edition, lag),
+        "refusal 19" => format!("{answer} before {with_lag_1}"),
+        _ => by_edition(answer, edition),
+    }
+}
+
 /// An answer with the edition by which its network was judged; by none, the answer itself.
 pub fn by_edition(answer: &str, edition: Option<&str>) -> String {
     match edition {
@@ -117,12 +140,13 @@ fn lend<T: Copy + PartialEq + Debug>(
     Ok(())
 }
 
-/// An operation from one slice to another, held against the second implementation's.
+/// An operation from one slice to another, held against the second implementation's. An answer is counted as
+/// `called` says, of the answer and the room.
 #[allow(clippy::too_many_arguments)]
 fn convert<I: Copy + PartialEq + Debug, O: Copy + PartialEq + Debug>(
     rng: &mut Rng,
     name: &str,
-    edition: Option<&str>,
+    called: impl Fn(&str, usize) -> String,
     input: &[I],
     make: fn(u64) -> O,
     ours: impl Fn(&[I], &mut [O]) -> Answer,
@@ -150,8 +174,13 @@ fn convert<I: Copy + PartialEq + Debug, O: Copy + PartialEq + Debug>(
         Answer::Plan(_) => "plan".to_string(),
         Answer::Refused(refusal) => named(refusal),
     };
-    let answer = by_edition(&answer, edition);
+    let answer = called(&answer, room);
     Ok(Reached::one(name, &answer, room_name(room, needed.ok())))
+}
+
+/// An answer by the edition of the network, or by none.
+fn of_edition(edition: Option<&'static str>) -> impl Fn(&str, usize) -> String {
+    move |answer, _| by_edition(answer, edition)
 }
 
 fn number(n: u64) -> u64 {
@@ -167,7 +196,7 @@ pub fn read_network(rng: &mut Rng) -> Outcome {
     convert(
         rng,
         "read_network",
-        inputs::edition_of_text(&text),
+        of_edition(inputs::edition_of_text(&text)),
         &text,
         number,
         pavuneshil::read_network,
@@ -181,7 +210,7 @@ pub fn read_plan(rng: &mut Rng) -> Outcome {
     convert(
         rng,
         "read_plan",
-        None,
+        of_edition(None),
         &text,
         number,
         pavuneshil::read_plan,
@@ -191,11 +220,11 @@ pub fn read_plan(rng: &mut Rng) -> Outcome {
 }
 
 pub fn write_network(rng: &mut Rng) -> Outcome {
-    let list = inputs::any_network_list(rng);
+    let list = inputs::any_network_list(rng, 1);
     convert(
         rng,
         "write_network",
-        inputs::edition_of_list(&list),
+        of_edition(inputs::edition_of_list(&list)),
         &list,
         byte,
         pavuneshil::write_network,
@@ -209,7 +238,7 @@ pub fn write_plan(rng: &mut Rng) -> Outcome {
     convert(
         rng,
         "write_plan",
-        None,
+        of_edition(None),
         &list,
         byte,
         pavuneshil::write_plan,
@@ -219,36 +248,48 @@ pub fn write_plan(rng: &mut Rng) -> Outcome {
 }
 
 pub fn make_plan(rng: &mut Rng) -> Outcome {
-    let list = inputs::any_network_list(rng);
+    let lag = inputs::lag(rng);
+    let list = inputs::any_network_list(rng, lag);
+    let edition = inputs::edition_of_list(&list);
     convert(
         rng,
         "make_plan",
-        inputs::edition_of_list(&list),
+        |answer, room| {
+            let with_lag_1 = second::make_plan_by(&LANDED, &list, room);
+            with_lag(answer, edition, lag, &named_answer(&with_lag_1, "plan"))
+        },
         &list,
         number,
-        pavuneshil::make_plan,
-        |list, room| second::make_plan_by(&LANDED, list, room),
+        |list, out| pavuneshil::make_plan(lag, list, out),
+        |list, room| second::make_plan_lag(&LANDED, list, lag, room),
         Answer::Plan,
     )
+    .map_err(|why| format!("{why}, lag {lag}"))
 }
 
-pub fn check_plan(rng: &mut Rng) -> Outcome {
-    let (network, plan) = inputs::pair(rng);
-    let tunnels = if network.first() == Some(&3) { 6 } else { 5 };
-    let needed = network.get(tunnels).map_or(0, |&count| count.min(96)) as usize;
-    let room = room(rng, Some(needed), needed);
-    let (expected, written) = match second::check_plan_by(&LANDED, &network, &plan, room) {
+/// The second implementation's check, as an answer and the marks that it puts.
+fn second_check(lag: u64, network: &[u64], plan: &[u64], room: usize) -> (Answer, Vec<u8>) {
+    match second::check_plan_lag(&LANDED, network, plan, lag, room) {
         Checked::Accepted { marks } => (Answer::Done(marks.len()), marks),
         Checked::Refused { refusal, marks } => {
             (Answer::Refused(told(refusal)), marks.unwrap_or_default())
         }
-    };
+    }
+}
+
+pub fn check_plan(rng: &mut Rng) -> Outcome {
+    let lag = inputs::lag(rng);
+    let (network, plan) = inputs::pair(rng, lag);
+    let tunnels = if network.first() == Some(&3) { 6 } else { 5 };
+    let needed = network.get(tunnels).map_or(0, |&count| count.min(96)) as usize;
+    let room = room(rng, Some(needed), needed);
+    let (expected, written) = second_check(lag, &network, &plan, room);
     let given = (network.clone(), plan.clone());
     lend(
         rng,
         byte,
         room,
-        |marks| pavuneshil::check_plan(&given.0, &given.1, marks),
+        |marks| pavuneshil::check_plan(lag, &given.0, &given.1, marks),
         expected,
         &written,
     )
@@ -259,12 +300,18 @@ pub fn check_plan(rng: &mut Rng) -> Outcome {
             Err("the input was changed".to_string())
         }
     })
-    .map_err(|why| format!("check_plan: {why}: {network:?} {plan:?}"))?;
-    let (answer, counts) = match expected {
-        Answer::Refused(refusal) => (named(refusal), matches!(refusal.number, 7 | 8 | 10)),
-        _ => ("done".to_string(), true),
+    .map_err(|why| format!("check_plan: {why}: {network:?} {plan:?}, lag {lag}"))?;
+    let named_check = |answer| match answer {
+        Answer::Refused(refusal) => named(refusal),
+        _ => "done".to_string(),
     };
-    let answer = by_edition(&answer, inputs::edition_of_list(&network));
+    let counts = match expected {
+        Answer::Refused(refusal) => matches!(refusal.number, 7 | 8 | 10),
+        _ => true,
+    };
+    let with_lag_1 = named_check(second_check(1, &network, &plan, room).0);
+    let edition = inputs::edition_of_list(&network);
+    let answer = with_lag(&named_check(expected), edition, lag, &with_lag_1);
     let how = room_name(room, counts.then_some(needed));
     Ok(Reached::one("check_plan", &answer, how))
 }
@@ -300,7 +347,7 @@ pub fn share(rng: &mut Rng) -> Outcome {
     convert(
         rng,
         name,
-        None,
+        of_edition(None),
         &demands,
         number,
         |demands, out| pavuneshil::share(rate, demands, out),
@@ -315,7 +362,7 @@ pub fn read_rules(rng: &mut Rng) -> Outcome {
     convert(
         rng,
         "read_rules",
-        None,
+        of_edition(None),
         &text,
         number,
         pavuneshil::read_rules,
@@ -329,7 +376,7 @@ pub fn write_rules(rng: &mut Rng) -> Outcome {
     convert(
         rng,
         "write_rules",
-        None,
+        of_edition(None),
         &list,
         byte,
         pavuneshil::write_rules,
@@ -352,7 +399,7 @@ pub fn stage_rules(rng: &mut Rng) -> Outcome {
     convert(
         rng,
         name,
-        None,
+        of_edition(None),
         &list,
         number,
         pavuneshil::stage_rules,

@@ -2,7 +2,7 @@
 
 use crate::LANDED;
 use second::gen::*;
-use second::{write_network_by, write_plan, write_rules};
+use second::{even_plan_by, write_network_by, write_plan, write_rules};
 
 const ROOM: usize = usize::MAX;
 
@@ -19,45 +19,69 @@ const KEYS: [&str; 26] = [
     "room", "kind", "unit", "held",
 ];
 
+/// The lags that there are.
+pub const LAGS: [u64; 4] = [1, 2, 3, 4];
+
+/// A lag, mostly one that there is; else one beside these, or one whose lowest bits are one of them.
+pub fn lag(rng: &mut Rng) -> u64 {
+    match rng.below(20) {
+        0 => rng.pick(&[0, 5]),
+        1 => rng.pick(&[
+            0,
+            5,
+            6,
+            8,
+            257,
+            (1 << 32) + 1,
+            (1 << 32) + 4,
+            1 << 63,
+            u64::MAX,
+        ]),
+        _ => rng.pick(&LAGS),
+    }
+}
+
 /// A valid network of any size, of any edition.
 pub fn network(rng: &mut Rng) -> Vec<u64> {
+    network_at(rng, 1)
+}
+
+/// One whose capacities are mostly near what an even plan needs with this lag, or with lag 1 where there is
+/// no such lag.
+pub fn network_at(rng: &mut Rng, lag: u64) -> Vec<u64> {
+    let lag = if LAGS.contains(&lag) { lag } else { 1 };
     match rng.below(20) {
-        0..=4 => edition_1(rng),
+        0..=4 => edition_1(rng, lag),
         // one that says the same in a later edition
-        5 => to_edition(&edition_1(rng), 2),
-        6 => to_edition(&edition_1(rng), 3),
-        7..=11 => edition_2(rng),
-        _ => edition_3(rng),
+        5 => to_edition(&edition_1(rng, lag), 2),
+        6 => to_edition(&edition_1(rng, lag), 3),
+        7..=11 => of_edition(rng, 2, lag),
+        _ => edition_3(rng, lag),
     }
 }
 
 /// One of edition 1, the largest more often than `any_network` has them.
-fn edition_1(rng: &mut Rng) -> Vec<u64> {
+fn edition_1(rng: &mut Rng, lag: u64) -> Vec<u64> {
     match rng.below(50) {
-        0 => maximal(rng),
-        1..=20 => tiny(rng),
+        0 => maximal_of(rng, 1, lag),
+        1..=20 => tiny_of(rng, 1, lag),
+        21..=30 => of_edition(rng, 1, lag),
         _ => any_network(rng),
     }
-}
-
-/// One of edition 2, in the same sizes. Of its flows that have tunnels some grow, some shrink and
-/// some stay, and now and then one begins or ends: a rate of 0.
-fn edition_2(rng: &mut Rng) -> Vec<u64> {
-    of_edition(rng, 2)
 }
 
 /// One of edition 3, in the same sizes, and with `unit` 0 and 1: half of them with flows that have
 /// several tunnels over the same links. Of some links a crew holds nothing, of some a little, of some
 /// all.
-pub fn edition_3(rng: &mut Rng) -> Vec<u64> {
+pub fn edition_3(rng: &mut Rng, lag: u64) -> Vec<u64> {
     let mut list = match rng.below(50) {
-        0..=1 => bundled(rng, 64, 32, 96),
+        0..=1 => bundled(rng, lag, 64, 32, 96),
         2..=14 => {
             let (links, flows, tunnels) = (rng.between(1, 8), rng.between(1, 6), 16);
-            bundled(rng, links, flows, tunnels)
+            bundled(rng, lag, links, flows, tunnels)
         }
-        15..=25 => tiny_bundled(rng),
-        _ => of_edition(rng, 3),
+        15..=25 => tiny_bundled(rng, lag),
+        _ => of_edition(rng, 3, lag),
     };
     if rng.percent(30) {
         list[3] = 1;
@@ -68,15 +92,17 @@ pub fn edition_3(rng: &mut Rng) -> Vec<u64> {
     list
 }
 
-fn of_edition(rng: &mut Rng, edition: u64) -> Vec<u64> {
+/// One of an edition, in all sizes. From edition 2 on, of its flows that have tunnels some grow, some shrink
+/// and some stay, and now and then one begins or ends: a rate of 0.
+fn of_edition(rng: &mut Rng, edition: u64, lag: u64) -> Vec<u64> {
     let with_overrun = rng.percent(50);
     match rng.below(50) {
-        0 => maximal_of(rng, edition, 1),
+        0 => maximal_of(rng, edition, lag),
         1 => to_edition(&no_flows(rng), edition),
         2..=6 => full_of(rng, edition),
         7..=13 => keeping_scratch_of(rng, edition, with_overrun),
-        14..=22 => medium_of(rng, edition, 1),
-        _ => tiny_of(rng, edition, 1),
+        14..=22 => medium_of(rng, edition, lag),
+        _ => tiny_of(rng, edition, lag),
     }
 }
 
@@ -88,16 +114,16 @@ fn hold_all(rng: &mut Rng, list: &mut [u64]) {
 }
 
 /// Up to 3 links, 3 flows and 7 tunnels, of which every choice of flows can be tried.
-pub fn tiny_bundled(rng: &mut Rng) -> Vec<u64> {
+pub fn tiny_bundled(rng: &mut Rng, lag: u64) -> Vec<u64> {
     let (links, flows, tunnels) = (rng.between(1, 3), rng.between(1, 3), rng.between(2, 7));
-    bundled(rng, links, flows, tunnels)
+    bundled(rng, lag, links, flows, tunnels)
 }
 
 /// A network of edition 3 whose flows have several tunnels over the same links, between which they
 /// shift their amounts, in up to so many tunnels. Most links have just what an even plan of some
-/// number of steps needs by the network's `unit`, or one less, or what it needs by the other `unit`;
-/// now and then one link alone, often the last, and the others have more.
-fn bundled(rng: &mut Rng, links: u64, flows: u64, tunnels: u64) -> Vec<u64> {
+/// number of steps needs with the lag by the network's `unit`, or one less, or what it needs by the other
+/// `unit`; now and then one link alone, often the last, and the others have more.
+fn bundled(rng: &mut Rng, lag: u64, links: u64, flows: u64, tunnels: u64) -> Vec<u64> {
     let top = rng.pick(&[4, 20, 1000, AMOUNT / 100]);
     let overrun = rng.pick(&[0, 0, 20, 100, 500]);
     let unit = u64::from(rng.percent(70));
@@ -141,18 +167,19 @@ fn bundled(rng: &mut Rng, links: u64, flows: u64, tunnels: u64) -> Vec<u64> {
     list.extend(lines.concat());
     let shape = Shape::of(&list);
     let steps = rng.pick(&[1, 1, 2, 2, 3, 4, 7, 50]);
+    let even = even_plan_by(&LANDED, &list, steps);
     let alone = match rng.below(6) {
         0 => Some(shape.links - 1),
         1 => Some(rng.below(links) as usize),
         _ => None,
     };
     for link in 0..shape.links {
-        let of_unit = needed(&list, link, steps, unit == 1);
+        let of_unit = needed(&list, &even, link, lag, unit == 1);
         let cap = match rng.below(12) {
             _ if alone.is_some_and(|alone| alone != link) => 3 * of_unit,
             0..=6 => of_unit,
             7 => of_unit.saturating_sub(1),
-            8..=9 => needed(&list, link, steps, unit == 0),
+            8..=9 => needed(&list, &even, link, lag, unit == 0),
             10 => of_unit + rng.below(3),
             _ => rng.below(2 * top + 1),
         };
@@ -170,40 +197,83 @@ fn bundled(rng: &mut Rng, links: u64, flows: u64, tunnels: u64) -> Vec<u64> {
     list
 }
 
-/// The least capacity of a link that the even plan of so many steps needs, by choices of flows or of
-/// tunnels.
-fn needed(list: &[u64], link: usize, steps: u64, by_flows: bool) -> u64 {
+/// A tunnel's amount in a row of the plan, counted in parts.
+pub fn amount(network: &[u64], plan: &[u64], tunnel: usize, row: u64) -> u64 {
+    let line = Shape::of(network).tunnel(tunnel);
+    let (parts, steps) = (plan[1], plan[2]);
+    if row == 0 {
+        parts * network[line + 2]
+    } else if row == steps {
+        parts * network[line + 3]
+    } else {
+        plan[4 + ((row - 1) * plan[3]) as usize + tunnel]
+    }
+}
+
+/// The least capacity of a link that a plan needs with a lag, by choices of flows or of tunnels.
+fn needed(list: &[u64], plan: &[u64], link: usize, lag: u64, by_flows: bool) -> u64 {
+    needed_first(list, plan, link, lag, by_flows).0
+}
+
+/// The same, and the first row of the first window that needs it.
+fn needed_first(list: &[u64], plan: &[u64], link: usize, lag: u64, by_flows: bool) -> (u64, u64) {
     let shape = Shape::of(list);
-    let movers = shape.flows.max(shape.tunnels);
-    let mut most = 0;
-    for step in 1..=steps {
+    let (parts, steps) = (plan[1], plan[2]);
+    let line = |t: usize| &list[shape.tunnel(t)..];
+    let protected = |flow: u64| list[shape.class(flow as usize)] < 2;
+    // of each tunnel or flow: whether it is protected, and what it has on the link in each row
+    let mut movers = vec![(false, vec![0; steps as usize + 1]); shape.flows.max(shape.tunnels)];
+    for t in (0..shape.tunnels).filter(|&t| (line(t)[1] >> link) & 1 == 1) {
+        let mover = &mut movers[if by_flows { line(t)[0] as usize } else { t }];
+        mover.0 = protected(line(t)[0]);
+        for (row, sum) in mover.1.iter_mut().enumerate() {
+            *sum += amount(list, plan, t, row as u64);
+        }
+    }
+    let mut most = (0, 0);
+    for first in 0..=steps.saturating_sub(lag) {
+        let window = first as usize..=(first + lag).min(steps) as usize;
         let (mut protected, mut all) = (0, 0);
-        let mut sums = vec![[0; 2]; movers];
-        for (t, line) in list[shape.tunnel(0)..].chunks(4).enumerate() {
-            if (line[1] >> link) & 1 == 1 {
-                let mover = if by_flows { line[0] as usize } else { t };
-                for (later, sum) in sums[mover].iter_mut().enumerate() {
-                    let row = step - 1 + later as u64;
-                    *sum += (steps - row) * line[2] + row * line[3];
-                }
-            }
-        }
-        for (mover, sum) in sums.into_iter().enumerate() {
-            let worst = sum[0].max(sum[1]);
-            let flow = match by_flows {
-                true => mover,
-                false if mover < shape.tunnels => list[shape.tunnel(mover)] as usize,
-                false => continue,
-            };
+        for (of_protected, sums) in &movers {
+            let worst = sums[window.clone()].iter().max().expect("a row");
             all += worst;
-            if flow < shape.flows && list[shape.class(flow)] < 2 {
-                protected += worst;
-            }
+            protected += if *of_protected { *worst } else { 0 };
         }
-        let with_overrun = (1000 * all).div_ceil((1000 + list[2]) * steps);
-        most = most.max(protected.div_ceil(steps)).max(with_overrun);
+        let with_overrun = (1000 * all).div_ceil((1000 + list[2]) * parts);
+        let cap = protected.div_ceil(parts).max(with_overrun);
+        if cap > most.0 {
+            most = (cap, first);
+        }
     }
     most
+}
+
+/// Gives every link just what the plan needs with this lag; mostly one link has one less, often the one that
+/// needs it latest, and now and then the others have more. For a plan of the network.
+fn fit(rng: &mut Rng, network: &mut [u64], plan: &[u64], lag: u64) {
+    let shape = Shape::of(network);
+    let needed: Vec<(u64, u64)> = (0..shape.links)
+        .map(|link| needed_first(network, plan, link, lag, shape.unit))
+        .collect();
+    let short = match rng.below(4) {
+        0 => None,
+        1 => Some(rng.below(shape.links as u64) as usize),
+        _ => (0..shape.links).max_by_key(|&link| needed[link].1),
+    };
+    let more = rng.percent(50);
+    for (link, (cap, _)) in needed.into_iter().enumerate() {
+        let cap = match Some(link) == short {
+            true => cap.saturating_sub(1),
+            false if more => 3 * cap,
+            false => cap,
+        };
+        let at = shape.cap(link);
+        network[at] = cap.min(AMOUNT);
+        if shape.edition == 3 {
+            network[at + 1] = network[at + 1].min(AMOUNT - network[at]);
+            network[at] += network[at + 1];
+        }
+    }
 }
 
 /// What an answer is counted by: the edition of the network, and in edition 3 whether its `unit` is 1.
@@ -310,8 +380,8 @@ fn damaged(rng: &mut Rng, list: &[u64]) -> Vec<u64> {
 }
 
 /// A network's list, two in five valid.
-pub fn any_network_list(rng: &mut Rng) -> Vec<u64> {
-    let list = network(rng);
+pub fn any_network_list(rng: &mut Rng, lag: u64) -> Vec<u64> {
+    let list = network_at(rng, lag);
     match rng.below(20) {
         0..=7 => list,
         8..=10 => off_rate(rng, list),
@@ -394,15 +464,21 @@ fn off_held(rng: &mut Rng, mut list: Vec<u64>) -> Vec<u64> {
     list
 }
 
-/// A network and a plan, mostly both valid and mostly made for each other.
-pub fn pair(rng: &mut Rng) -> (Vec<u64>, Vec<u64>) {
-    let network = network(rng);
+/// A network and a plan, mostly both valid and mostly made for each other, the capacities often for the plan
+/// and this lag.
+pub fn pair(rng: &mut Rng, lag: u64) -> (Vec<u64>, Vec<u64>) {
+    let mut network = network_at(rng, lag);
     let plan = match rng.below(20) {
         0..=1 => stray_plan(rng),
         2..=4 => broken_plan(rng, &network),
         5..=7 => at_an_end(rng, &network),
         8..=9 => any_even_plan(rng, &network),
-        _ => any_plan(rng, &network),
+        10..=14 => any_plan(rng, &network),
+        _ => {
+            let plan = any_plan(rng, &network);
+            fit(rng, &mut network, &plan, lag.clamp(1, 4));
+            plan
+        }
     };
     match rng.below(40) {
         0..=1 => (damaged(rng, &network), plan),
@@ -743,7 +819,7 @@ fn rules_lines(list: &[u64], switches: usize) -> Vec<u8> {
 #[cfg(test)]
 mod tests {
     use super::*;
-    use second::{check_plan_by, Checked};
+    use second::{check_plan_by, check_plan_lag, Checked};
 
     /// All editions come up, in all sizes; of the flows of editions 2 and 3 those that grow, shrink and
     /// stay, that begin and end, and that have no tunnels.
@@ -788,12 +864,13 @@ mod tests {
         let mut rng = Rng::new(15);
         let mut seen = [[0; 6]; 2];
         for _ in 0..4000 {
-            let list = edition_3(&mut rng);
+            let list = edition_3(&mut rng, 1);
             let shape = Shape::of(&list);
+            let at_once = [1, 1, 1, shape.tunnels as u64];
             for link in 0..shape.links {
                 let (cap, held) = (list[shape.cap(link)], list[shape.cap(link) + 1]);
                 assert!(held <= cap);
-                let carries = needed(&list, link, 1, shape.unit) > 0;
+                let carries = needed(&list, &at_once, link, 1, shape.unit) > 0;
                 let kind = match (held, cap - held) {
                     (0, 0) => 0,
                     (0, _) => 1,
@@ -817,7 +894,7 @@ mod tests {
         let (mut several, mut against) = (0, 0);
         let mut verdicts = [0; 4];
         for _ in 0..2000 {
-            let network = with_unit(&edition_3(&mut rng), 1);
+            let network = with_unit(&edition_3(&mut rng, 1), 1);
             let shape = Shape::of(&network);
             let mut common = [false; 2];
             for (link, flow) in (0..shape.links).flat_map(|l| (0..shape.flows).map(move |f| (l, f)))
@@ -846,40 +923,127 @@ mod tests {
         assert!(verdicts.iter().all(|&count| count > 100), "{verdicts:?}");
     }
 
-    /// A link has just what the even plan needs: one less, and the plan is refused. By flows and by
-    /// tunnels.
+    /// Whether a plan passes with a lag.
+    fn passes(network: &[u64], plan: &[u64], lag: u64) -> bool {
+        let checked = check_plan_lag(&LANDED, network, plan, lag, ROOM);
+        matches!(checked, Checked::Accepted { .. })
+    }
+
+    /// A link has just what the plan needs with the lag: one less, and the plan is refused. By flows and by
+    /// tunnels, for even plans and any others.
     #[test]
     fn just_what_is_needed() {
         let mut rng = Rng::new(17);
-        let mut seen = 0;
-        for i in 0..1000 {
-            let mut list = with_unit(&tiny_bundled(&mut rng), i % 2);
+        let mut seen = [0; 4];
+        for i in 0..2000 {
+            let lag = LAGS[i % 4];
+            let mut list = with_unit(&tiny_bundled(&mut rng, lag), i as u64 / 4 % 2);
             let shape = Shape::of(&list);
-            let steps = rng.between(1, 6);
+            let plan = match i / 8 % 2 {
+                0 => even_plan_by(&LANDED, &list, 1 + i as u64 % 7),
+                _ => any_plan(&mut rng, &list),
+            };
             for link in 0..shape.links {
-                list[shape.cap(link)] = needed(&list, link, steps, shape.unit);
+                list[shape.cap(link)] = needed(&list, &plan, link, lag, shape.unit);
                 list[shape.cap(link) + 1] = 0;
             }
-            let plan = second::even_plan_by(&LANDED, &list, steps);
-            let passes = |list: &[u64]| {
-                let checked = check_plan_by(&LANDED, list, &plan, ROOM);
-                matches!(checked, Checked::Accepted { .. })
-            };
-            assert!(passes(&list), "{list:?}");
+            assert!(passes(&list, &plan, lag), "{list:?} {plan:?}");
             for cap in (0..shape.links).map(|link| shape.cap(link)) {
                 if list[cap] > 0 {
-                    seen += 1;
+                    seen[i % 4] += 1;
                     let mut less = list.clone();
                     less[cap] -= 1;
-                    assert!(!passes(&less), "{less:?}");
+                    assert!(!passes(&less, &plan, lag), "{less:?} {plan:?}");
                     // and so if a crew holds it
                     let mut held = list.clone();
                     held[cap + 1] = 1;
-                    assert!(!passes(&held), "{held:?}");
+                    assert!(!passes(&held, &plan, lag), "{held:?} {plan:?}");
                 }
             }
         }
-        assert!(seen > 500);
+        assert!(seen.iter().all(|&count| count > 500), "{seen:?}");
+    }
+
+    /// All lags come up, and lags that there are not. It is common that a plan passes with its lag and not with
+    /// one more, that it passes with one less alone, and that the first overload is in the first window, in
+    /// the last, and between; that a plan has fewer steps than the lag, as many, and more; and that the largest
+    /// of a marked tunnel or flow is in the last row of the window, and that it is before.
+    #[test]
+    fn kinds_of_lags() {
+        let mut rng = Rng::new(19);
+        let mut lags = [0; 6];
+        let mut none = [0; 3];
+        let mut verdicts = [[0; 5]; 4];
+        let mut lengths = [[0; 3]; 3];
+        let mut largest = [[0; 2]; 6];
+        for _ in 0..20_000 {
+            let lag = lag(&mut rng);
+            lags[lag.min(5) as usize] += 1;
+            none[0] += u64::from(lag == 5);
+            none[1] += u64::from(lag > 5 && lag < 1 << 32);
+            none[2] += u64::from(lag > 1 << 32);
+            let (network, plan) = pair(&mut rng, lag);
+            let (number, place, link, marks) =
+                match check_plan_lag(&LANDED, &network, &plan, lag, ROOM) {
+                    Checked::Accepted { .. } => (0, 0, 0, Vec::new()),
+                    Checked::Refused { refusal, marks } => {
+                        let marks = marks.unwrap_or_default();
+                        (refusal.number, refusal.place, refusal.second, marks)
+                    }
+                };
+            if !matches!(number, 0 | 7 | 8) {
+                continue;
+            }
+            let steps = plan[2];
+            let last = steps.saturating_sub(lag) + 1;
+            let seen = &mut verdicts[lag as usize - 1];
+            match number {
+                0 => seen[0] += u64::from(lag == 4 || !passes(&network, &plan, lag + 1)),
+                _ => seen[1] += u64::from(lag == 1 || passes(&network, &plan, lag - 1)),
+            }
+            if number > 0 && last > 2 {
+                seen[2] += u64::from(place == 1);
+                seen[3] += u64::from(place > 1 && place < last);
+                seen[4] += u64::from(place == last);
+            }
+            if lag == 1 {
+                continue;
+            }
+            let length = match steps.cmp(&lag) {
+                std::cmp::Ordering::Less => 0,
+                std::cmp::Ordering::Equal => 1,
+                std::cmp::Ordering::Greater => 2,
+            };
+            lengths[lag as usize - 2][length] += 1;
+            let shape = Shape::of(&network);
+            let flow = |t: usize| network[shape.tunnel(t)];
+            let crosses = |t: usize| (network[shape.tunnel(t) + 1] >> link) & 1 == 1;
+            for t in (0..marks.len()).filter(|&t| marks[t] == 1) {
+                let sum = |row| -> u64 {
+                    let with_it = (0..shape.tunnels)
+                        .filter(|&u| crosses(u) && (t == u || shape.unit && flow(t) == flow(u)));
+                    with_it.map(|u| amount(&network, &plan, u, row)).sum()
+                };
+                let window = place - 1..=(place - 1 + lag).min(steps);
+                let most = window.clone().map(sum).max().expect("a row");
+                let kind = 3 * usize::from(shape.unit) + lag as usize - 2;
+                largest[kind][usize::from(sum(*window.end()) == most)] += 1;
+            }
+        }
+        assert!(lags.iter().all(|&count| count > 500), "{lags:?}");
+        assert!(none.iter().all(|&count| count > 200), "{none:?}");
+        assert!(
+            verdicts.concat().iter().all(|&count| count > 25),
+            "{verdicts:?}"
+        );
+        assert!(
+            lengths.concat().iter().all(|&count| count > 100),
+            "{lengths:?}"
+        );
+        assert!(
+            largest.concat().iter().all(|&count| count > 100),
+            "{largest:?}"
+        );
     }
 
     /// What tells the edition of a text, and what does not.

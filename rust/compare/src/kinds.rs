@@ -1,15 +1,15 @@
 //! The kinds of cases, and the answers that each of them has to reach.
 
-use crate::call::by_edition;
+use crate::call::{by_edition, by_lag};
 use crate::{call, choices, desks, Outcome};
-use compare::inputs::EDITIONS;
+use compare::inputs::{EDITIONS, LAGS};
 use second::gen::Rng;
 use std::collections::{BTreeMap, BTreeSet};
 
 /// A kind of cases.
 pub struct Kind {
     pub name: &'static str,
-    /// So many cases of every 23 are of it: every operation comes up, the cheap ones more often.
+    /// So many cases of every 25 are of it: every operation comes up, the cheap ones more often.
     share: u64,
     /// One case.
     pub case: fn(&mut Rng) -> Outcome,
@@ -18,6 +18,9 @@ pub struct Kind {
     answers: &'static [&'static str],
     /// Those that it gives of networks of every edition, and of those of edition 3 also with `unit` 1.
     of_each_edition: &'static [&'static str],
+    /// Those that depend on the lag: it gives them of networks of every edition, in the same way, with
+    /// every lag.
+    of_each_lag: &'static [&'static str],
 }
 
 const DESKS: &[&str] = &[
@@ -48,6 +51,7 @@ pub static KINDS: [Kind; 14] = [
             "refusal 4, new",
             "refusal 10",
         ],
+        of_each_lag: &[],
     },
     Kind {
         name: "read_plan",
@@ -61,6 +65,7 @@ pub static KINDS: [Kind; 14] = [
             "refusal 10",
         ],
         of_each_edition: &[],
+        of_each_lag: &[],
     },
     Kind {
         name: "write_network",
@@ -75,6 +80,7 @@ pub static KINDS: [Kind; 14] = [
             "refusal 4, new",
             "refusal 10",
         ],
+        of_each_lag: &[],
     },
     Kind {
         name: "write_plan",
@@ -82,29 +88,53 @@ pub static KINDS: [Kind; 14] = [
         case: call::write_plan,
         answers: &["done", "refusal 2, plan", "refusal 3, plan", "refusal 10"],
         of_each_edition: &[],
+        of_each_lag: &[],
     },
     Kind {
         name: "make_plan",
         share: 2,
         case: call::make_plan,
-        answers: &["refusal 2, network", "refusal 3, network"],
+        answers: &[
+            "refusal 2, network",
+            "refusal 3, network",
+            "refusal 19 before plan",
+            "refusal 19 before refusal 2, network",
+            "refusal 19 before refusal 3, network",
+            "refusal 19 before refusal 4, old",
+            "refusal 19 before refusal 4, new",
+            "refusal 19 before refusal 9",
+            "refusal 19 before refusal 10",
+        ],
         of_each_edition: &[
-            "plan",
             "refusal 2, network",
             "refusal 3, network",
             "refusal 4, old",
             "refusal 4, new",
-            "refusal 9",
             "refusal 10",
         ],
+        of_each_lag: &["plan", "refusal 9"],
     },
     Kind {
         name: "check_plan",
         share: 3,
         case: call::check_plan,
-        answers: &["refusal 2, network", "refusal 3, network"],
+        answers: &[
+            "refusal 2, network",
+            "refusal 3, network",
+            "refusal 19 before done",
+            "refusal 19 before refusal 2, network",
+            "refusal 19 before refusal 3, network",
+            "refusal 19 before refusal 4, old",
+            "refusal 19 before refusal 4, new",
+            "refusal 19 before refusal 2, plan",
+            "refusal 19 before refusal 3, plan",
+            "refusal 19 before refusal 5",
+            "refusal 19 before refusal 6",
+            "refusal 19 before refusal 7",
+            "refusal 19 before refusal 8",
+            "refusal 19 before refusal 10",
+        ],
         of_each_edition: &[
-            "done",
             "refusal 2, network",
             "refusal 3, network",
             "refusal 4, old",
@@ -113,10 +143,9 @@ pub static KINDS: [Kind; 14] = [
             "refusal 3, plan",
             "refusal 5",
             "refusal 6",
-            "refusal 7",
-            "refusal 8",
             "refusal 10",
         ],
+        of_each_lag: &["done", "refusal 7", "refusal 8"],
     },
     Kind {
         name: "step_bound",
@@ -124,13 +153,15 @@ pub static KINDS: [Kind; 14] = [
         case: call::step_bound,
         answers: &["steps", "refusal 2, scratch", "refusal 2, overrun"],
         of_each_edition: &[],
+        of_each_lag: &[],
     },
     Kind {
         name: "every choice",
-        share: 1,
+        share: 3,
         case: choices::hold,
         answers: &[],
-        of_each_edition: &["done", "refusal 7", "refusal 8", "plan", "refusal 9"],
+        of_each_edition: &[],
+        of_each_lag: &["done", "refusal 7", "refusal 8", "plan", "refusal 9"],
     },
     Kind {
         name: "desks from the empty state",
@@ -138,6 +169,7 @@ pub static KINDS: [Kind; 14] = [
         case: desks::from_empty,
         answers: DESKS,
         of_each_edition: &[],
+        of_each_lag: &[],
     },
     Kind {
         name: "desks from any parts",
@@ -145,6 +177,7 @@ pub static KINDS: [Kind; 14] = [
         case: desks::from_any_parts,
         answers: DESKS,
         of_each_edition: &[],
+        of_each_lag: &[],
     },
     Kind {
         name: "share",
@@ -158,6 +191,7 @@ pub static KINDS: [Kind; 14] = [
             "refusal 10",
         ],
         of_each_edition: &[],
+        of_each_lag: &[],
     },
     Kind {
         name: "read_rules",
@@ -171,6 +205,7 @@ pub static KINDS: [Kind; 14] = [
             "refusal 10",
         ],
         of_each_edition: &[],
+        of_each_lag: &[],
     },
     Kind {
         name: "write_rules",
@@ -178,6 +213,7 @@ pub static KINDS: [Kind; 14] = [
         case: call::write_rules,
         answers: &["done", "refusal 2, rules", "refusal 3, rules", "refusal 10"],
         of_each_edition: &[],
+        of_each_lag: &[],
     },
     Kind {
         name: "stage_rules",
@@ -192,6 +228,7 @@ pub static KINDS: [Kind; 14] = [
             "refusal 10",
         ],
         of_each_edition: &[],
+        of_each_lag: &[],
     },
 ];
 
@@ -239,12 +276,16 @@ impl Tally {
 }
 
 impl Kind {
-    /// Its answers, those of each edition that has landed among them.
+    /// Its answers, those of each edition that has landed and of each lag among them.
     fn all_answers(&self) -> Vec<String> {
         let mut answers: Vec<String> = self.answers.iter().map(|a| a.to_string()).collect();
         for edition in EDITIONS {
             let of_it = self.of_each_edition.iter();
             answers.extend(of_it.map(|answer| by_edition(answer, Some(edition))));
+            for lag in LAGS {
+                let of_it = self.of_each_lag.iter();
+                answers.extend(of_it.map(|answer| by_lag(answer, Some(edition), lag)));
+            }
         }
         answers
     }
@@ -279,14 +320,14 @@ mod tests {
     /// The cases of a seed stay the same as long as their kinds do.
     #[test]
     fn kinds_of_cases() {
-        let names: Vec<&str> = (0..23).map(|number| KINDS[kind_of(number)].name).collect();
+        let names: Vec<&str> = (0..25).map(|number| KINDS[kind_of(number)].name).collect();
         for (number, name) in [(0, "read_network"), (2, "read_network"), (3, "read_plan")] {
             assert_eq!(names[number], name);
         }
-        for (number, name) in [(14, "step_bound"), (20, "write_rules"), (22, "stage_rules")] {
+        for (number, name) in [(14, "step_bound"), (22, "write_rules"), (24, "stage_rules")] {
             assert_eq!(names[number], name);
         }
-        assert_eq!(kind_of(23 * 1000 + 7), kind_of(7));
+        assert_eq!(kind_of(25 * 1000 + 7), kind_of(7));
     }
 
     fn tally(answers: &[&str], differing: u64) -> Tally {
@@ -331,6 +372,24 @@ mod tests {
             let faults = kind.faults(&tally(&others, 0), true);
             assert_eq!(faults.len(), kind.of_each_edition.len());
             assert!(faults[0].contains(&format!("done, {edition}")));
+        }
+    }
+
+    /// An answer that one lag does not reach, of networks of one edition, is missing.
+    #[test]
+    fn each_lag_reaches_its_answers() {
+        let kind = KINDS.iter().find(|kind| kind.name == "check_plan");
+        let kind = kind.expect("a kind");
+        let answers = kind.all_answers();
+        for lag in LAGS {
+            for edition in EDITIONS {
+                let missing = format!("refusal 8, {edition}, lag {lag}");
+                assert!(answers.contains(&missing));
+                let others = answers.iter().map(|answer| answer.as_str());
+                let others: Vec<_> = others.filter(|&answer| answer != missing).collect();
+                let faults = kind.faults(&tally(&others, 0), true);
+                assert_eq!(faults, [format!("no case reached {missing}")]);
+            }
         }
     }
 

@@ -7,7 +7,8 @@ use second::Rules;
 pub mod inputs;
 
 /// The rules that the second implementation goes by: what has landed and changes an answer to the
-/// same call, remarks (i), editions 2 (v) and 3 (vii), turns (ix) and a desk's own numbers (x).
+/// same call, remarks (i), editions 2 (v) and 3 (vii), turns (ix) and a desk's own numbers (x). The lag (xi)
+/// is given with each call.
 pub const LANDED: Rules = Rules {
     remarks: true,
     newest_edition: 3,

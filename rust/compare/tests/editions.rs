@@ -240,9 +240,9 @@ fn the_first_row_outside_then_the_first_flow() {
     // 6 comes before 7, and before 10 for the marks
     let full = exchange(0, 0, 0);
     assert_eq!(check(&full, &[1, 2, 2, 2, 30, 19]), refused_at(6, 1, 1));
-    let answer = pavuneshil::check_plan(&network, &[1, 2, 2, 2, 30, 19], &mut []);
+    let answer = pavuneshil::check_plan(1, &network, &[1, 2, 2, 2, 30, 19], &mut []);
     assert_eq!(answer, Answer::Refused(refused(6, 1, 1)));
-    let answer = pavuneshil::check_plan(&network, &[1, 2, 2, 2, 30, 20], &mut []);
+    let answer = pavuneshil::check_plan(1, &network, &[1, 2, 2, 2, 30, 20], &mut []);
     assert_eq!(answer, Answer::Refused(refused(10, 2, 0)));
 }
 

@@ -32,7 +32,7 @@ fn plan(steps: u64, row: u64) -> Vec<u64> {
 
 fn check(network: &[u64], plan: &[u64], expected: Answer, marks: [u8; 2]) {
     let mut lent = [7; 3];
-    let answer = pavuneshil::check_plan(network, plan, &mut lent);
+    let answer = pavuneshil::check_plan(1, network, plan, &mut lent);
     assert_eq!(answer, expected, "{network:?} {plan:?}");
     assert_eq!(lent, [marks[0], marks[1], 7], "{network:?} {plan:?}");
     let theirs = match second::check_plan_by(&LANDED, network, plan, lent.len()) {

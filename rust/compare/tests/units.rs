@@ -358,7 +358,7 @@ fn marks_of_a_flow() {
     assert_eq!(check(&of(0, 21), &at_once(8)), refusal);
     // 10 comes before 7, with the number of tunnels, and nothing is marked
     let mut marks = [7; 7];
-    let answer = pavuneshil::check_plan(&of(1, 13), &at_once(8), &mut marks);
+    let answer = pavuneshil::check_plan(1, &of(1, 13), &at_once(8), &mut marks);
     assert_eq!(answer, Answer::Refused(refused(10, 8, 0)));
     assert_eq!(marks, [7; 7]);
 }
@@ -892,7 +892,7 @@ fn what_passes_by_tunnels_passes_by_flows() {
     let mut rng = Rng::new(701);
     let (mut verdicts, mut plans) = ([0; 4], [0; 4]);
     for i in 0..6000 {
-        let network = inputs::edition_3(&mut rng);
+        let network = inputs::edition_3(&mut rng, 1);
         let (by_tunnels, by_flows) = (with_unit(&network, 0), with_unit(&network, 1));
         let plan_of = match i % 8 {
             0 => broken_plan(&mut rng, &network),
@@ -942,7 +942,7 @@ fn held_capacity_is_not_there() {
     let mut rng = Rng::new(702);
     let (mut refusals, mut passed) = (0, 0);
     for i in 0..3000 {
-        let network = inputs::edition_3(&mut rng);
+        let network = inputs::edition_3(&mut rng, 1);
         let shape = Shape::of(&network);
         let mut less = network.clone();
         for cap in (0..shape.links).map(|link| shape.cap(link)) {

@@ -18,12 +18,17 @@
 //! of flows; with `unit` 0 each tunnel for itself. Edition 1 is read as if `next` equalled `rate`, and
 //! editions 1 and 2 as if `unit` and `held` were 0; their lists have no numbers for these.
 //!
+//! Planner and checker are given a lag, 1 to 4: how many steps a switch may be behind. With lag 1
+//! every switch has finished a step before the next begins. With a larger lag w a tunnel, or with
+//! `unit` 1 a flow, may show any row of a window, from some row a to row a + w, or to the last row
+//! where that comes sooner. What passes with a lag passes with every smaller one.
+//!
 //! ```
 //! use pavuneshil::{make_plan, Answer};
 //! // one link of 15 Mbit/s, no flows, no tunnels
 //! let network = [1, 333, 0, 1, 0, 0, 15];
 //! let mut plan = [0; pavuneshil::PLAN_NUMBERS];
-//! assert_eq!(make_plan(&network, &mut plan), Answer::Plan(4));
+//! assert_eq!(make_plan(1, &network, &mut plan), Answer::Plan(4));
 //! assert_eq!(plan[..4], [1, 1, 1, 0]);
 //! ```
 
@@ -32,6 +37,11 @@
 mod desks;
 
 pub use desks::{Accepted, Desks, Handed};
+
+/// The version of what callers of the library are built against, in C `PAVUNESHIL_VERSION`: 1 had no
+/// lag. A function whose parameters change gets another name in the library, so that what was built
+/// against another version does not link.
+pub const VERSION: u64 = 2;
 
 /// No valid network's list, of any edition, has more numbers.
 pub const NETWORK_NUMBERS: usize = 7 + 2 * 64 + 3 * 32 + 4 * 96;
@@ -65,15 +75,16 @@ pub struct Refusal {
     /// tunnels, 6 a row in which a flow's sum is not between parts × the lesser and parts × the
     /// greater of its two rates, 7 protected overload, 8 overload of all classes, 9 no even plan
     /// of 1 to 50 steps, 10 lent output too short, 12 no such desk, 13 four jobs of the desk wait
-    /// already, 14 hand-out with nothing waiting, 18 a set of rules that does not fit, 21 count of
-    /// services, rate or demand out of range.
+    /// already, 14 hand-out with nothing waiting, 18 a set of rules that does not fit, 19 a lag that
+    /// is not 1 to 4, 21 count of services, rate or demand out of range.
     pub number: u64,
     /// The line, in a text counted with the remarks; the flow, row or step; the length needed for 10;
-    /// the desk for 12 and 13; 0 for 14; the switch for 18; for 21 the first service, counted from 1,
-    /// whose demand is out of range, 0 for count and rate.
+    /// the desk for 12 and 13; 0 for 14; the switch for 18; the lag for 19; for 21 the first service,
+    /// counted from 1, whose demand is out of range, 0 for count and rate.
     pub place: u64,
     /// 0 network, 1 plan and 2 rules for 1, 2 and 3; 1 for 5; 0 old and 1 new for 4 and 18; the flow
-    /// for 6; the link for 7, 8 and 9; 0 for 10, 12, 13 and 14; 1 for a rate out of range in 21, else 0.
+    /// for 6; the link for 7, 8 and 9; 0 for 10, 12, 13, 14 and 19; 1 for a rate out of range in 21,
+    /// else 0.
     pub second: u64,
 }
 
@@ -127,14 +138,16 @@ mod archive {
             out_len: usize,
             answer: *mut [u64; 4],
         );
-        pub fn pavuneshil_make_plan(
+        pub fn pavuneshil_make_plan_at_lag(
+            lag: u64,
             network: *const u64,
             network_len: usize,
             out: *mut u64,
             out_len: usize,
             answer: *mut [u64; 4],
         );
-        pub fn pavuneshil_check_plan(
+        pub fn pavuneshil_check_plan_at_lag(
+            lag: u64,
             network: *const u64,
             network_len: usize,
             plan: *const u64,
@@ -266,35 +279,68 @@ pub fn write_plan(list: &[u64], out: &mut [u8]) -> Answer {
     convert!(pavuneshil_write_plan, list, out)
 }
 
-/// Makes the even plan of fewest steps for a network's list. Refusals 2 to 4, 9 and 10.
-pub fn make_plan(network: &[u64], out: &mut [u64]) -> Answer {
-    convert!(pavuneshil_make_plan, network, out)
+/// Makes the even plan of fewest steps for a network's list that is safe with this lag. Refusals 19, 2
+/// to 4, 9 and 10.
+///
+/// ```
+/// use pavuneshil::{make_plan, Answer};
+/// // two flows of 10 change places on two links of 15
+/// let mut network = vec![1, 333, 0, 2, 2, 4, 15, 15, 0, 10, 0, 10];
+/// network.extend([0, 1, 10, 0, 0, 2, 0, 10, 1, 2, 10, 0, 1, 1, 0, 10]);
+/// let mut plan = [0; pavuneshil::PLAN_NUMBERS];
+/// for (lag, steps) in [(1, 2), (2, 4), (3, 6), (4, 8)] {
+///     assert!(matches!(make_plan(lag, &network, &mut plan), Answer::Plan(_)));
+///     assert_eq!(plan[2], steps);
+/// }
+/// ```
+pub fn make_plan(lag: u64, network: &[u64], out: &mut [u64]) -> Answer {
+    let mut four = UNWRITTEN;
+    // Sound: as in `convert`.
+    unsafe {
+        archive::pavuneshil_make_plan_at_lag(
+            lag,
+            network.as_ptr(),
+            network.len(),
+            out.as_mut_ptr(),
+            out.len(),
+            &mut four,
+        );
+    }
+    answer(four)
 }
 
-/// Checks anybody's plan against a network. Done: no choice of tunnels, or with `unit` 1 of flows, in
-/// any step overloads a link, and the marks, one for each tunnel, are 0. Refusals 2 to 8 and 10;
-/// after 7 and 8 the marked tunnels, with `unit` 1 the flows of the marked tunnels, showing the later
-/// row while all others show the earlier, overload the link named. A mark is 1 where a tunnel crosses
-/// that link and its amount rises in that step, with `unit` 1 the sum of its flow's amounts across
-/// that link.
+/// Checks anybody's plan against a network, with this lag. Done: no choice of a row of a window for each
+/// tunnel, or with `unit` 1 for each flow, overloads a link, and the marks, one for each tunnel, are 0.
+/// Refusals 19, 2 to 8 and 10; after 7 and 8 in step a + 1 the link named is overloaded once the marked
+/// tunnels, with `unit` 1 the flows of the marked tunnels, show the row of the window from row a in which
+/// they have the most on it, and all others row a. A mark is 1 where a tunnel crosses that link and the
+/// largest of its amounts in the window exceeds that of row a, with `unit` 1 the largest sum of its
+/// flow's amounts across that link. With lag 1 the window has two rows, those that the step leads from
+/// and to.
 ///
 /// ```
 /// use pavuneshil::{check_plan, Answer};
 /// // a flow of 10 moves from a tunnel over link 0 to one over links 0 and 1, of 15 each, at once
 /// let mut network = [3, 333, 0, 0, 2, 1, 2, 15, 0, 15, 0, 0, 10, 10, 0, 1, 10, 0, 0, 3, 0, 10];
 /// let mut marks = [0; 2];
-/// let answer = check_plan(&network, &[1, 1, 1, 2], &mut marks);
+/// let answer = check_plan(1, &network, &[1, 1, 1, 2], &mut marks);
 /// assert!(matches!(answer, Answer::Refused(refusal) if refusal.number == 7));
 /// assert_eq!(marks, [0, 1]);
+/// // half at a time, and with switches that may be a step behind
+/// let halves = [1, 2, 2, 2, 10, 10];
+/// assert_eq!(check_plan(1, &network, &halves, &mut marks), Answer::Done(2));
+/// let answer = check_plan(2, &network, &halves, &mut marks);
+/// assert!(matches!(answer, Answer::Refused(refusal) if refusal.number == 7));
 /// // with unit 1 both tunnels change at once
 /// network[3] = 1;
-/// assert_eq!(check_plan(&network, &[1, 1, 1, 2], &mut marks), Answer::Done(2));
+/// assert_eq!(check_plan(2, &network, &halves, &mut marks), Answer::Done(2));
 /// ```
-pub fn check_plan(network: &[u64], plan: &[u64], marks: &mut [u8]) -> Answer {
+pub fn check_plan(lag: u64, network: &[u64], plan: &[u64], marks: &mut [u8]) -> Answer {
     let mut four = UNWRITTEN;
     // Sound: as in `convert`.
     unsafe {
-        archive::pavuneshil_check_plan(
+        archive::pavuneshil_check_plan_at_lag(
+            lag,
             network.as_ptr(),
             network.len(),
             plan.as_ptr(),
@@ -307,7 +353,7 @@ pub fn check_plan(network: &[u64], plan: &[u64], marks: &mut [u8]) -> Answer {
     answer(four)
 }
 
-/// How many even steps suffice for a network that keeps its scratch. Refusal 2.
+/// How many even steps suffice for a network that keeps its scratch, with lag 1. Refusal 2.
 pub fn step_bound(scratch: u64, overrun: u64) -> StepBound {
     let mut four = UNWRITTEN;
     // Sound: `four` is live for the call, and the function has no precondition.

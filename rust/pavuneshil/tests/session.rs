@@ -29,7 +29,7 @@ fn session_in_full() {
     assert_eq!(read_network(text, &mut network), Answer::Done(28));
     assert_eq!(network[..28], swap(15, 0, 0));
     let mut plan = [0; PLAN_NUMBERS];
-    assert_eq!(make_plan(&network[..28], &mut plan), Answer::Plan(8));
+    assert_eq!(make_plan(1, &network[..28], &mut plan), Answer::Plan(8));
     let mut printed = [0; TEXT_BYTES];
     let Answer::Done(length) = write_plan(&plan[..8], &mut printed) else {
         panic!("a plan is written");
@@ -41,7 +41,7 @@ fn session_in_full() {
     assert_eq!(again[..8], plan[..8]);
     let mut marks = [7; MARKS];
     assert_eq!(
-        check_plan(&network[..28], &plan[..8], &mut marks),
+        check_plan(1, &network[..28], &plan[..8], &mut marks),
         Answer::Done(4)
     );
     assert_eq!(marks[..5], [0, 0, 0, 0, 7]);
@@ -66,10 +66,13 @@ fn rates_that_change() {
     ];
     assert_eq!(network, list);
     let mut plan = [0; PLAN_NUMBERS];
-    assert_eq!(make_plan(network, &mut plan), Answer::Plan(6));
+    assert_eq!(make_plan(1, network, &mut plan), Answer::Plan(6));
     assert_eq!(plan[..6], [1, 2, 2, 2, 30, 30]);
     let mut marks = [7; 2];
-    assert_eq!(check_plan(network, &plan[..6], &mut marks), Answer::Done(2));
+    assert_eq!(
+        check_plan(1, network, &plan[..6], &mut marks),
+        Answer::Done(2)
+    );
     assert_eq!(marks, [0, 0]);
     let mut printed = [0; TEXT_BYTES];
     assert_eq!(
@@ -81,14 +84,14 @@ fn rates_that_change() {
     let mut marks = [7; 2];
     for (row, refusal) in [([19, 30], refused(6, 1, 0)), ([30, 41], refused(6, 1, 1))] {
         let plan = [1, 2, 2, 2, row[0], row[1]];
-        assert_eq!(check_plan(network, &plan, &mut marks), refusal);
+        assert_eq!(check_plan(1, network, &plan, &mut marks), refusal);
     }
     assert_eq!(marks, [7, 7]);
     // flow 1 misses its next rate, and there is no edition 4
     network[12] = 11;
-    assert_eq!(make_plan(network, &mut plan), refused(4, 1, 1));
+    assert_eq!(make_plan(1, network, &mut plan), refused(4, 1, 1));
     network[0] = 4;
-    assert_eq!(make_plan(network, &mut plan), refused(2, 1, 0));
+    assert_eq!(make_plan(1, network, &mut plan), refused(2, 1, 0));
 }
 
 /// Edition 3: a flow moves from a tunnel over link 0 to one over links 0 and 1; a crew holds 5 of the
@@ -114,25 +117,31 @@ fn whole_flows_and_held_capacity() {
     );
     assert_eq!(printed[..text.len()], text[..]);
     let mut plan = [0; PLAN_NUMBERS];
-    assert_eq!(make_plan(network, &mut plan), Answer::Plan(4));
+    assert_eq!(make_plan(1, network, &mut plan), Answer::Plan(4));
     assert_eq!(plan[..4], [1, 1, 1, 2]);
     let mut marks = [7; 3];
     let at_once = [1, 1, 1, 2];
-    assert_eq!(check_plan(network, &at_once, &mut marks), Answer::Done(2));
+    assert_eq!(
+        check_plan(1, network, &at_once, &mut marks),
+        Answer::Done(2)
+    );
     assert_eq!(marks, [0, 0, 7]);
     // each tunnel for itself: 20 on link 0, of which a crew holds 5
     network[3] = 0;
-    assert_eq!(make_plan(network, &mut plan), Answer::Plan(6));
+    assert_eq!(make_plan(1, network, &mut plan), Answer::Plan(6));
     assert_eq!(plan[..6], [1, 2, 2, 2, 10, 10]);
-    assert_eq!(check_plan(network, &at_once, &mut marks), refused(7, 1, 0));
+    assert_eq!(
+        check_plan(1, network, &at_once, &mut marks),
+        refused(7, 1, 0)
+    );
     assert_eq!(marks, [0, 1, 7]);
     // all that link 0 has, and more than it has
     network[8] = 20;
-    assert_eq!(make_plan(network, &mut plan), refused(9, 1, 0));
+    assert_eq!(make_plan(1, network, &mut plan), refused(9, 1, 0));
     network[8] = 21;
-    assert_eq!(make_plan(network, &mut plan), refused(2, 9, 0));
+    assert_eq!(make_plan(1, network, &mut plan), refused(2, 9, 0));
     network[3] = 2;
-    assert_eq!(make_plan(network, &mut plan), refused(2, 4, 0));
+    assert_eq!(make_plan(1, network, &mut plan), refused(2, 4, 0));
 }
 
 #[test]
@@ -141,7 +150,7 @@ fn edges() {
         assert_eq!(step_bound(scratch, 0), StepBound::Steps(steps));
     }
     let mut plan = [0; PLAN_NUMBERS];
-    let mut steps = |network: &[u64]| match make_plan(network, &mut plan) {
+    let mut steps = |network: &[u64]| match make_plan(1, network, &mut plan) {
         Answer::Plan(_) => Ok(plan[2]),
         other => Err(other),
     };
@@ -153,10 +162,41 @@ fn edges() {
     assert_eq!(steps(&swap(10, 2, 20)), Ok(50));
     let mut marks = [9; 4];
     assert_eq!(
-        check_plan(&swap(15, 0, 0), &[1, 1, 1, 4], &mut marks),
+        check_plan(1, &swap(15, 0, 0), &[1, 1, 1, 4], &mut marks),
         refused(7, 1, 0)
     );
     assert_eq!(marks, [0, 0, 0, 1]);
+}
+
+/// The swap at cap 15: with lag w the two flows may be w steps apart, so that w times as many are needed.
+#[test]
+fn agents_that_fall_behind() {
+    let network = swap(15, 0, 0);
+    let mut plan = [0; PLAN_NUMBERS];
+    let mut marks = [7; 4];
+    for (lag, steps) in [(1, 2), (2, 4), (3, 6), (4, 8)] {
+        let length = 4 + 4 * (steps as usize - 1);
+        let answer = make_plan(lag, &network, &mut plan);
+        assert_eq!(answer, Answer::Plan(length));
+        assert_eq!(plan[..4], [1, steps, steps, 4]);
+        let plan = &plan[..length];
+        for other in 1..=4 {
+            let answer = check_plan(other, &network, plan, &mut marks);
+            if other <= lag {
+                assert_eq!((answer, marks), (Answer::Done(4), [0; 4]));
+            } else {
+                assert_eq!((answer, marks), (refused(7, 1, 0), [0, 0, 0, 1]));
+            }
+        }
+    }
+    // no other lag, whatever else there is
+    let (mut out, mut marks) = ([5; 2], [5; 2]);
+    for lag in [0, 5, u64::MAX] {
+        assert_eq!(make_plan(lag, &[], &mut out), refused(19, lag, 0));
+        let answer = check_plan(lag, &network, &[], &mut marks);
+        assert_eq!(answer, refused(19, lag, 0));
+    }
+    assert_eq!((out, marks), ([5; 2], [5; 2]));
 }
 
 #[test]
@@ -164,9 +204,9 @@ fn refusals_leave_all_as_it_was() {
     let mut out = [5; 28];
     assert_eq!(read_network(b"", &mut out), refused(3, 1, 0));
     assert_eq!(read_plan(b"plan=2\n", &mut out), refused(2, 1, 1));
-    assert_eq!(make_plan(&[], &mut out), refused(3, 1, 0));
-    assert_eq!(make_plan(&swap(11, 0, 0), &mut out), refused(10, 40, 0));
-    assert_eq!(make_plan(&swap(15, 0, 0), &mut []), refused(10, 8, 0));
+    assert_eq!(make_plan(1, &[], &mut out), refused(3, 1, 0));
+    assert_eq!(make_plan(1, &swap(11, 0, 0), &mut out), refused(10, 40, 0));
+    assert_eq!(make_plan(1, &swap(15, 0, 0), &mut []), refused(10, 8, 0));
     assert_eq!(out, [5; 28]);
     let two = |place| {
         StepBound::Refused(Refusal {

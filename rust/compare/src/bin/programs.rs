@@ -25,7 +25,7 @@ const INPUTS: u64 = 150;
 const SEED: u64 = 20_131_009;
 
 /// What the second implementation's programs are told: the seventh request, edition 3, has landed, and
-/// none after it that changes what the programs print.
+/// none after it that changes what the programs print. Both plan and check with lag 1.
 const REQUESTS: &str = "7";
 
 fn argument(name: &str) -> Option<&str> {
@@ -188,7 +188,7 @@ fn said(program: &str, output_closed: bool) -> String {
 
 /// A text of a pair of lists that are mostly valid, or one damaged.
 fn texts(rng: &mut Rng) -> (Vec<u8>, Vec<u8>) {
-    let (network, plan) = inputs::pair(rng);
+    let (network, plan) = inputs::pair(rng, 1);
     let network = match write_network_by(&LANDED, &network, usize::MAX) {
         Ok(text) if rng.percent(90) => text,
         _ => inputs::network_text(rng),

@@ -54,31 +54,39 @@ pub fn write(list: &[u64]) -> Result<Vec<u8>, Refusal> {
 }
 
 pub fn plan(network: &[u64]) -> Result<Vec<u64>, Refusal> {
+    plan_lag(1, network)
+}
+
+pub fn plan_lag(lag: u64, network: &[u64]) -> Result<Vec<u64>, Refusal> {
     let mut out = [0; PLAN_NUMBERS];
-    let answer = pavuneshil::make_plan(network, &mut out);
+    let answer = pavuneshil::make_plan(lag, network, &mut out);
     assert!(!matches!(answer, Answer::Done(_)));
     same(
         answer,
         &out,
-        second::make_plan_by(&LANDED, network, PLAN_NUMBERS),
+        second::make_plan_lag(&LANDED, network, lag, PLAN_NUMBERS),
     )
 }
 
 /// The checker's verdict: none, or a refusal; and the marks that it put.
 pub fn check(network: &[u64], plan: &[u64]) -> (Option<Refusal>, Vec<u8>) {
+    check_lag(1, network, plan)
+}
+
+pub fn check_lag(lag: u64, network: &[u64], plan: &[u64]) -> (Option<Refusal>, Vec<u8>) {
     let mut lent = [7; MARKS];
-    let verdict = match pavuneshil::check_plan(network, plan, &mut lent) {
+    let verdict = match pavuneshil::check_plan(lag, network, plan, &mut lent) {
         Answer::Done(_) => None,
         Answer::Refused(refusal) => Some(refusal),
         Answer::Plan(_) => panic!("no plan is made"),
     };
-    let theirs = match second::check_plan_by(&LANDED, network, plan, MARKS) {
+    let theirs = match second::check_plan_lag(&LANDED, network, plan, lag, MARKS) {
         Checked::Accepted { marks } => (None, marks),
         Checked::Refused { refusal, marks } => (Some(told(refusal)), marks.unwrap_or_default()),
     };
     let put = lent.iter().take_while(|&&mark| mark != 7).count();
     let ours = (verdict, lent[..put].to_vec());
-    assert_eq!(ours, theirs, "{network:?} {plan:?}");
+    assert_eq!(ours, theirs, "lag {lag}, {network:?} {plan:?}");
     assert!(lent[put..].iter().all(|&mark| mark == 7));
     ours
 }
