@@ -3,24 +3,25 @@ ghost use mathlib.Core.Path.{_≡_};
 ghost use Prim.Native.Nat.{_+_, _/_, _≤_, _<_};
 ghost use lib.Dec.{ltb};
 ghost use lib.ListN.{length};
-ghost use Rattle.model.specs.Limits.{mostLinks, mostTunnels};
+ghost use Rattle.model.specs.Limits.{mostLinks, mostTunnels, mostLag};
 ghost use Rattle.model.specs.Rule.{firstOverload};
-ghost use Rattle.lists.specs.Lists.{at, networkOf, planSizes, planOf};
-ghost use Rattle.loads.specs.Tables.{blockSteps, loadAt, LoadsWithin};
-ghost use Rattle.amounts.specs.Rows.{Checkable, AmountTable};
+ghost use Rattle.lists.specs.Lists.{at, networkSizes, networkOf, planOf};
+ghost use Rattle.loads.specs.Tables.{blockSteps, loadAt, AmountTable, LoadsWithin};
+ghost use Rattle.amounts.specs.Rows.{Checkable};
 ghost use Rattle.overloads.specs.Inner.{overNumber, foundOf};
-ghost use Rattle.overloads.specs.Blocks.{TunnelColumns, InBlock, Gathers};
-use crate::flows;
+ghost use Rattle.overloads.specs.Blocks.{TunnelColumns, InWindow, InBlock, Gathers};
 use amounts::columns;
 use amounts::columns::LINKS;
 use amounts::columns::TUNNELS;
 use amounts::rows;
 use lists::Network;
 use lists::PlanSizes;
+use loads::flows;
 use loads::gather;
 use loads::gather::AMOUNTS;
 use loads::gather::LOADS;
-use loads::gather::STEPS;
+use loads::gather::ROWS;
+use loads::windows;
 
 // The first overload: the number of its refusal, the row that its step leads from, and its link.
 pub enum Found {
@@ -51,40 +52,64 @@ fn over(capacities: &[u64], raised: &[u64], loads: &[u64], l: usize, k: usize) -
     refusal_number(capacities[l], raised[l], protected, all)
 }
 
-// The loads in the block of the step from row i, gathered where a block begins with it.
+// How many times the amounts of a block are widened. Those of a tunnel are at first the larger of two rows.
+fn times_widened(network: &[u64], reach: usize) -> usize
+    requires { ⌜ GoodNetwork (now network) × (1 ≤ reach) ⌝ }
+    ensures { λ r. ⌜ r ≡ timesWidened (networkOf (now (network .entry))) reach ⌝ }
+{
+    if Network::by_flow(network) { reach } else { reach - 1 }
+}
+
+// The loads in the block of the step from row i, which is step k of it, gathered where the block begins.
 fn block_loads(
     network: &[u64],
     plan: &[u64],
     vias: &[u64],
     classes: &[u64],
     i: usize,
+    k: usize,
+    times: usize,
     amounts: &mut [u64],
     loads: &mut [u64],
 )
-    requires { ⌜ Checkable (now network) (now plan) × (i < planSizes (now plan) .steps) × TunnelColumns (now network) (now vias) (now classes) × AmountTable (now network) (now amounts) × InBlock (networkOf (now network)) (planOf (now plan)) i (now loads) ⌝ }
-    ensures { λ _. ⌜ AmountTable (now (network .entry)) (now (amounts .exit)) ⌝ }
-    ensures { λ _. ⌜ Gathers (networkOf (now (network .entry))) (planOf (now (plan .entry))) (i / blockSteps) (now (loads .exit)) ⌝ }
+    requires { ⌜ Checkable (now network) (now plan) × InWindow (now plan) i reach × TunnelColumns (now network) (now vias) (now classes) × AmountTable (networkSizes (now network) .tunnels) (now amounts) × InBlock reach (networkOf (now network)) (planOf (now plan)) i (now loads) ⌝ }
+    ensures { λ _. ⌜ AmountTable (networkSizes (now (network .entry)) .tunnels) (now (amounts .exit)) ⌝ }
+    ensures { λ _. ⌜ Gathers reach (networkOf (now (network .entry))) (planOf (now (plan .entry))) (i / blockSteps) (now (loads .exit)) ⌝ }
 {
-    if i % STEPS != 0 {
+    if k != 0 {
         return;
     }
     if Network::by_flow(network) {
-        flows::flow_loads(network, plan, vias, i, amounts, loads);
+        rows::row_amounts(network, plan, i, amounts);
+        flows::gather_flows(network, vias, times, amounts, loads);
         return;
     }
     let sizes = Network::of(network);
-    rows::worst_amounts(network, plan, i, amounts);
+    rows::larger_amounts(network, plan, i, amounts);
+    windows::widen_all(times, sizes.tunnels, amounts);
     gather::gather(sizes.links, vias, classes, sizes.tunnels, amounts, loads);
 }
 
+// The step of a block after step k: the first of the next block, where the block has no more.
+fn next_in_block(k: usize, steps: usize) -> usize
+    requires { ⌜ k < steps ⌝ }
+    ensures { λ r. ⌜ r ≡ cond (ltb (k + 1) steps) (k + 1) 0 ⌝ }
+{
+    let next = k + 1;
+    if next < steps { next } else { 0 }
+}
+
 // Steps ascending, links ascending; the first overload ends the check.
-pub fn first_overload(network: &[u64], plan: &[u64]) -> Found
-    requires { ⌜ Checkable (now network) (now plan) ⌝ }
-    ensures { λ r. ⌜ r ≡ foundOf (firstOverload 1 (networkOf (now (network .entry))) (planOf (now (plan .entry)))) ⌝ }
+pub fn first_overload(lag: u64, network: &[u64], plan: &[u64]) -> Found
+    requires { ⌜ Checkable (now network) (now plan) × (1 ≤ lag) × (lag ≤ mostLag) ⌝ }
+    ensures { λ r. ⌜ r ≡ foundOf (firstOverload lag (networkOf (now (network .entry))) (planOf (now (plan .entry)))) ⌝ }
 {
     let links = Network::of(network).links;
     let sizes = PlanSizes::of(plan);
-    let steps = sizes.steps;
+    let reach = rows::reach(lag, plan);
+    let steps = sizes.steps - reach + 1;
+    let times = times_widened(network, reach);
+    let in_block = ROWS - times;
     let mut vias = [0u64; TUNNELS];
     let mut classes = [0u64; TUNNELS];
     let mut capacities = [0u64; LINKS];
@@ -95,9 +120,9 @@ pub fn first_overload(network: &[u64], plan: &[u64]) -> Found
     let mut loads = [0u64; LOADS];
     let mut found = Found::Nothing;
     let mut i = 0;
+    let mut k = 0;
     'steps: while i < steps {
-        block_loads(network, plan, &vias, &classes, i, &mut amounts, &mut loads);
-        let k = i % STEPS;
+        block_loads(network, plan, &vias, &classes, i, k, times, &mut amounts, &mut loads);
         let mut l = 0;
         while l < links {
             let number = over(&capacities, &raised, &loads, l, k);
@@ -108,6 +133,7 @@ pub fn first_overload(network: &[u64], plan: &[u64]) -> Found
             l += 1;
         }
         i += 1;
+        k = next_in_block(k, in_block);
     }
     found
 }
