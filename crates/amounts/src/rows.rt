@@ -1,13 +1,13 @@
 // The amounts in the rows of a plan, and those of a block of steps in a table.
 ghost use mathlib.Core.Path.{_≡_};
-ghost use Prim.Native.Nat.{_+_, _≤_, _<_, min};
+ghost use Prim.Native.Nat.{suc, _+_, _≤_, _<_, min};
 ghost use lib.ListN.{length};
 ghost use Rattle.model.specs.Limits.{mostLag};
 ghost use Rattle.model.specs.Net;
 ghost use Rattle.lists.specs.Lists.{networkSizes, networkOf, planSizes, planOf};
 ghost use Rattle.lists.specs.Good.{GoodPlan};
 ghost use Rattle.loads.specs.Tables.{blockRows, amountsSize, AmountTable};
-ghost use Rattle.amounts.specs.Rows.{Checkable, Placed, RowAmounts};
+ghost use Rattle.amounts.specs.Rows.{Checkable, largerRow, Placed, RowAmounts};
 use lists::Network;
 use lists::PlanSizes;
 use loads::gather;
