@@ -12,23 +12,15 @@ use Rattle.model.proofs.Rows.{row-first, row-last, row-between, row-cases}
 use Rattle.lists.specs.Lists.{at, networkSizes, flowAt, heldOf, networkOf, planSizes, rowAt, planOf, mostPlan}
 use Rattle.lists.specs.declared.Network.{Network}
 use Rattle.lists.specs.Good.{GoodNetwork}
-use Rattle.lists.proofs.Positions.{LinkPlace, FlowPlace, TunnelPlace, row-in, short-plan}
-use Rattle.loads.specs.Claim.{worstAmount}
+use Rattle.lists.proofs.Positions.{LinkPlace, TunnelPlace, row-in, short-plan}
 use Rattle.amounts.specs.Columns.{classOf, capacity, raised}
-use Rattle.amounts.specs.Rows.{Checkable}
+use Rattle.amounts.specs.Rows.{Checkable, largerRow}
 
 in-parts : (parts m : ℕ) → parts ≤ mostSteps → m ≤ mostAmount → parts * m ≤ mostAmount * mostSteps
 in-parts parts m h k = let q : parts * m ≤ mostSteps * mostAmount = mul-le-mul h k in omega arith
 
 -- the numbers of tunnel t, where they are known to begin at i
 module _ (l : List ℕ) (g : GoodNetwork l) (t i : ℕ) (p : TunnelPlace l t i) where
-  pub flow-here : at l i ≡ networkOf l .flow t
-  unfolding networkOf
-  flow-here = ap (at l) (p .here)
-
-  pub flow-low : at l i < networkSizes l .flows
-  flow-low = subst (λ (k : ℕ). at l k < networkSizes l .flows) (sym (p .here)) (g .ranges .tunnels .flow t (p .there))
-
   pub via-here : at l (i + 1) ≡ networkOf l .via t
   unfolding networkOf
   via-here = ap (λ (k : ℕ). at l (k + 1)) (p .here)
@@ -43,11 +35,6 @@ module _ (l : List ℕ) (g : GoodNetwork l) (t i : ℕ) (p : TunnelPlace l t i) 
 
     pub new-fits : parts * at l (i + 3) < 2 ^ 64
     new-fits = rw (p .here) (omega (arith, in-parts parts _ h (g .ranges .tunnels .new t (p .there))))
-
--- the class of flow f, where it is known to stand at i
-pub flow-class : (l : List ℕ) (f i : ℕ) → FlowPlace l f i → at l i ≡ networkOf l .class f
-unfolding networkOf
-flow-class l f i p = ap (at l) (p .here)
 
 module _ (l p : List ℕ) (k : Checkable l p) where
   -- the first row and the last are the network's amounts, in parts
@@ -81,9 +68,9 @@ module _ (l p : List ℕ) (k : Checkable l p) where
       let j : rowAt (planSizes p) a + t < length p = omega (arith, row-in p (k .plan) a z m, k .tunnels) in
       rw (row-between (networkOf l) (planOf p) a t z m) (le-trans (k .plan .amounts _ i j) (omega (arith, k .plan .parts))))
 
-  pub worst-small : (i t : ℕ) → i < planSizes p .steps → t < networkSizes l .tunnels → worstAmount (networkOf l) (planOf p) i t ≤ mostAmount * mostSteps
-  unfolding worstAmount
-  worst-small i t h ht = max-le (row-small i t (omega arith) ht) (row-small (suc i) t h ht)
+  pub larger-small : (i t : ℕ) → i < planSizes p .steps → t < networkSizes l .tunnels → largerRow (networkOf l) (planOf p) i t ≤ mostAmount * mostSteps
+  unfolding largerRow
+  larger-small i t h ht = max-le (row-small i t (omega arith) ht) (row-small (suc i) t h ht)
 
 -- what code has read of the sizes
 pub own-tunnel : (l : List ℕ) (n : Network) (t : ℕ) → n ≡ networkSizes l → t < networkSizes l .tunnels → t < n .tunnels

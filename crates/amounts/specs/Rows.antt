@@ -1,12 +1,13 @@
--- The amounts in the rows of a plan, in tables of a block of steps. No promise of the product cites these.
-use Prim.Native.Nat.{ℕ, _+_, _<_}
+-- The amounts in the rows of a plan, in tables of a block. No promise of the product cites these.
+use Prim.Native.Nat.{ℕ, suc, _+_, _<_, max}
 use mathlib.Core.Path.{_≡_}
 use mathlib.Core.Logic.{_≢_}
 use mathlib.Core.List.{List}
 use lib.ListN.{length}
+use Rattle.model.specs.Net.{Net, Plan, row}
 use Rattle.lists.specs.Lists.{at, networkSizes, planSizes}
 use Rattle.lists.specs.Good.{GoodNetwork, GoodPlan}
-use Rattle.loads.specs.Tables.{blockSteps, amountsSize, amountAt, AmountsWithin}
+use Rattle.loads.specs.Tables.{blockRows, numberAt, AmountTable}
 
 -- a network and a plan that are good, of the same number of tunnels
 pub record Checkable (n p : List ℕ) : Type 0 where
@@ -14,18 +15,17 @@ pub record Checkable (n p : List ℕ) : Type 0 where
   pub plan : GoodPlan p
   pub tunnels : planSizes p .tunnels ≡ networkSizes n .tunnels
 
--- a table of amounts, of whatever steps
-pub record AmountTable (l amounts : List ℕ) : Type 0 where
-  pub size : length amounts ≡ amountsSize
-  pub within : AmountsWithin amounts (networkSizes l .tunnels)
+-- the larger of a tunnel's amounts before and after the step from row i
+unfoldable pub largerRow : Net → Plan → ℕ → ℕ → ℕ
+largerRow N P i t = max (row N P i t) (row N P (suc i) t)
 
--- step k of the block has the amounts x of the first n tunnels, and the other steps have what they had
+-- row k of the block has the amounts x of the first n tunnels, and the other rows have what they had
 pub record Placed (x : ℕ → ℕ) (n k : ℕ) (s s′ : List ℕ) : Type 0 where
   pub size : length s′ ≡ length s
-  pub here : (t : ℕ) → t < n → at s′ (amountAt t k) ≡ x t
-  pub others : (t j : ℕ) → j < blockSteps → j ≢ k → at s′ (amountAt t j) ≡ at s (amountAt t j)
+  pub here : (t : ℕ) → t < n → at s′ (numberAt t k) ≡ x t
+  pub others : (t j : ℕ) → j < blockRows → j ≢ k → at s′ (numberAt t j) ≡ at s (numberAt t j)
 
--- the first m steps of the block have the amounts x a of the steps from row i on, each by the row a that it leads from, as many as the plan has
-pub record StepAmounts (x : ℕ → ℕ → ℕ) (l p : List ℕ) (i m : ℕ) (amounts : List ℕ) : Type 0 where
-  pub table : AmountTable l amounts
-  pub each : (t k : ℕ) → t < networkSizes l .tunnels → k < m → i + k < planSizes p .steps → at amounts (amountAt t k) ≡ x (i + k) t
+-- the first m rows of the block have the amounts x a of n tunnels from row i on, for the rows a before the end
+pub record RowAmounts (x : ℕ → ℕ → ℕ) (n end i m : ℕ) (amounts : List ℕ) : Type 0 where
+  pub table : AmountTable n amounts
+  pub each : (t k : ℕ) → t < n → k < m → i + k < end → at amounts (numberAt t k) ≡ x (i + k) t

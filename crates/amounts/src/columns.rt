@@ -1,16 +1,14 @@
-// Columns: one number for each tunnel, for each flow or for each link, at the front of an array.
+// Columns: one number for each tunnel, or for each link, at the front of an array.
 ghost use Prim.Native.Nat.{_+_, _*_, _/_, _≤_};
 ghost use lib.ListN.{length};
-ghost use Rattle.model.specs.Limits.{mostLinks, mostFlows, mostTunnels, mostSteps};
+ghost use Rattle.model.specs.Limits.{mostLinks, mostTunnels, mostSteps};
 ghost use Rattle.lists.specs.Lists.{networkSizes, networkOf};
 ghost use Rattle.lists.specs.Good.{GoodNetwork};
 ghost use Rattle.amounts.specs.Columns.{Holds, classOf, capacity, raised};
 use lists::Network;
 
-// The most tunnels, flows and links, for which every column has room.
+// The most tunnels and links, for which every column has room.
 pub const TUNNELS: usize = Network::TUNNELS as usize;
-
-pub const FLOWS: usize = Network::FLOWS as usize;
 
 pub const LINKS: usize = Network::LINKS as usize;
 
@@ -27,32 +25,6 @@ pub fn tunnels(network: &[u64], vias: &mut [u64], classes: &mut [u64])
         vias[t] = network[at + Network::VIA];
         classes[t] = network[sizes.flow_at(network[at] as usize)];
         t += 1;
-    }
-}
-
-// The flow of each tunnel.
-pub fn tunnel_flows(network: &[u64], flows: &mut [u64])
-    requires { ⌜ GoodNetwork (now network) × (mostTunnels ≤ length (now flows)) ⌝ }
-    ensures { λ _. ⌜ Holds (now (flows .exit)) (networkSizes (now (network .entry)) .tunnels) (networkOf (now (network .entry)) .flow) ⌝ }
-{
-    let sizes = Network::of(network);
-    let mut t = 0;
-    while t < sizes.tunnels {
-        flows[t] = network[sizes.tunnel_at(t)];
-        t += 1;
-    }
-}
-
-// The class of each flow.
-pub fn flow_classes(network: &[u64], classes: &mut [u64])
-    requires { ⌜ GoodNetwork (now network) × (mostFlows ≤ length (now classes)) ⌝ }
-    ensures { λ _. ⌜ Holds (now (classes .exit)) (networkSizes (now (network .entry)) .flows) (networkOf (now (network .entry)) .class) ⌝ }
-{
-    let sizes = Network::of(network);
-    let mut f = 0;
-    while f < sizes.flows {
-        classes[f] = network[sizes.flow_at(f)];
-        f += 1;
     }
 }
 

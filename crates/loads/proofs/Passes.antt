@@ -7,14 +7,16 @@ use native.Mathlib.Omega.{arith}
 use native.Mathlib.Nat.{le-trans, mul-le-mul-right}
 use native.Mathlib.Numerals.{add-one}
 use lib.Dec.{eqb, leb}
-use Rattle.model.specs.Limits.{mostSteps, mostAmount}
+use lib.ListN.{length}
+use Rattle.model.specs.Limits.{mostLinks, mostTunnels, mostSteps, mostAmount}
 use Rattle.model.specs.Sets.{inSet}
 use Rattle.model.specs.Sum.{sumOver}
 use Rattle.model.proofs.Sums.{sum-both}
 use Rattle.model.proofs.Searches.{cond-most}
 use Rattle.lists.specs.Lists.{at}
 use Rattle.loads.specs.Gathered.{addedOn, gathered}
-use Rattle.loads.specs.Tables.{amountAt, loadAt, partOf, inPart, AmountsWithin, SetAdded, LoadsWithin, Cleared, Loads}
+use Rattle.loads.specs.Tables.{blockRows, numberAt, loadAt, loadsSize, partOf, inPart, AmountTable, SetsWithin, LoadsWithin, Cleared, AddableOn, AddedOn, Loads}
+use Rattle.loads.proofs.Vectors.{added-part}
 
 cond-swap : (a b : Bool) (x : ℕ) → cond (a && b) x 0 ≡ cond b (cond a x 0) 0
 cond-swap true true x = refl
@@ -76,33 +78,41 @@ gathered-parts via class x n l =
     ∙ sym (gathered-sum via (λ t. true) x n l)
 
 module _ (links : ℕ) (vias classes amounts : List ℕ) where
-  pub loads-none : (s : List ℕ) → Cleared links s → Loads links vias classes 0 amounts s
-  loads-none s e = record {
-    size = e .size;
-    each = λ q l k hq hl hk. e .each (loadAt l q k) (omega arith) ∙ sym (gathered-none (at vias) (inPart (at classes) q) (λ t. at amounts (amountAt t k)) l);
+  pub loads-none : (s₀ s : List ℕ) → length s₀ ≡ loadsSize → Cleared (2 * links) s₀ s → Loads links vias classes 0 amounts s
+  loads-none s₀ s h e = record {
+    size = e .size ∙ h;
+    each = λ q l k hq hl hk. e .each (loadAt l q k) (omega arith) ∙ sym (gathered-none (at vias) (inPart (at classes) q) (λ t. at amounts (numberAt t k)) l);
   }
 
-  pub loads-more : (n : ℕ) (s s₁ : List ℕ) → Loads links vias classes n amounts s
-      → SetAdded links (partOf (at classes n)) (inSet (at vias n)) (λ _ k. at amounts (amountAt n k)) s s₁ → Loads links vias classes (n + 1) amounts s₁
+  pub loads-more : (n part : ℕ) (s s₁ : List ℕ) → (part ≡ partOf (at classes n)) × (part < 2) → Loads links vias classes n amounts s
+      → AddedOn links (inSet (at vias n)) (λ _ k. at amounts (numberAt n k)) 2 part s s₁ → Loads links vias classes (n + 1) amounts s₁
   unfolding inPart
-  loads-more n s s₁ g a = record {
+  loads-more n part s s₁ p g a = record {
     size = a .size ∙ g .size;
     each = λ q l k hq hl hk.
-        a .each q l k hq hl hk
-        ∙ ap (λ (y : ℕ). y + cond (eqb (partOf (at classes n)) q && inSet (at vias n) l) (at amounts (amountAt n k)) 0) (g .each q l k hq hl hk)
-        ∙ sym (gathered-more (at vias) (inPart (at classes) q) (λ t. at amounts (amountAt t k)) n l);
+        added-part links part _ _ s s₁ (p .1) a q l k hq hl hk
+        ∙ ap₂ (λ (y o : ℕ). y + cond (eqb o q && inSet (at vias n) l) (at amounts (numberAt n k)) 0) (g .each q l k hq hl hk) (p .0)
+        ∙ sym (gathered-more (at vias) (inPart (at classes) q) (λ t. at amounts (numberAt t k)) n l);
   }
 
-  pub loads-within : (n most : ℕ) (s : List ℕ) → n ≤ most → AmountsWithin amounts n → Loads links vias classes n amounts s → LoadsWithin links most s
-  loads-within n most s h small g = record {
+  pub loads-within : (n m most : ℕ) (s : List ℕ) → n ≤ m → n ≤ most → AmountTable m amounts → Loads links vias classes n amounts s → LoadsWithin links most s
+  loads-within n m most s hm h small g = record {
     size = g .size;
     most = λ q l k hq hl hk.
-        let b = gathered-most (at vias) (inPart (at classes) q) (λ t. at amounts (amountAt t k)) n l (mostAmount * mostSteps) (λ t ht. small .each t k ht hk) in
+        let b = gathered-most (at vias) (inPart (at classes) q) (λ t. at amounts (numberAt t k)) n l (mostAmount * mostSteps) (λ t ht. small .within t k (omega arith) hk) in
         rw (g .each q l k hq hl hk) (le-trans b (mul-le-mul-right (mostAmount * mostSteps) h));
   }
 
   pub loads-at : (n m : ℕ) (s : List ℕ) → n ≡ m → Loads links vias classes n amounts s → Loads links vias classes m amounts s
   loads-at n m s e g = subst (λ (k : ℕ). Loads links vias classes k amounts s) e g
 
-pub fewer-within : (s : List ℕ) (n m : ℕ) → m ≤ n → AmountsWithin s n → AmountsWithin s m
-fewer-within s n m h a = record { each = λ t k ht hk. a .each t k (omega arith) hk }
+  -- a tunnel's amounts can be added
+  pub loads-room : (n t part : ℕ) (s : List ℕ) → t < n → n ≤ mostTunnels → links ≤ mostLinks → part < 2 → SetsWithin links vias n → AmountTable n amounts → Loads links vias classes t amounts s
+      → AddableOn links amounts t (at vias t) s 2 part
+  loads-room n t part s ht hn few hp sets small g = record {
+    few = (few, hp, omega arith);
+    links-of = sets .each t ht;
+    source = record { few = omega arith; room = omega (arith, small .size) };
+    target = record { few = omega arith; room = omega (arith, g .size) };
+    fits = λ l k hl hk. omega (arith, loads-within t n n s (omega arith) (omega arith) small g .most part l k hp hl hk, small .within t k ht hk);
+  }

@@ -1,4 +1,5 @@
 pub mod Gathered
-pub mod Claim
 pub mod Tables
+pub mod Windows
 pub mod Flows
+pub mod Claim

@@ -1,76 +1,70 @@
 // One pass over the tunnels gathers the loads of all links for a block of steps: a tunnel's amounts in these steps, side by
 // side, are a vector, and so are a link's loads. Those of protected tunnels and those of the others are kept apart.
 ghost use mathlib.Core.Path.{_≡_};
-ghost use Prim.Native.Nat.{_+_, _*_, _^_, _≤_, _<_, max};
+ghost use Prim.Native.Nat.{_+_, _*_, _≤_, _<_};
 ghost use lib.ListN.{length};
 ghost use Rattle.model.specs.Limits.{mostLinks, mostTunnels};
 ghost use Rattle.model.specs.Sets.{inSet};
 ghost use Rattle.lists.specs.Lists.{at};
-ghost use Rattle.loads.specs.Tables.{blockSteps, amountsSize, loadsSize, amountAt, loadAt, partOf, AmountsWithin, SetsWithin, Addable, VectorAdded, SetAdded, LoadsWithin, Cleared, Loads};
+ghost use Rattle.loads.specs.Tables.{blockRows, loadsSize, numberAt, loadAt, partOf, AmountTable, SetsWithin, Addable, VectorAdded, AddableOn, AddedOn, Cleared, Loads};
 use lists::Network;
 
-// The steps of a block.
-pub const STEPS: usize = 10;
+// The numbers of a vector: the rows of a block.
+pub const ROWS: usize = 10;
 
 // The numbers of a table of amounts, which has a vector for each tunnel, and of a table of loads, which has two for each link.
-pub const AMOUNTS: usize = STEPS * Network::TUNNELS as usize;
+pub const AMOUNTS: usize = ROWS * Network::TUNNELS as usize;
 
-pub const LOADS: usize = STEPS * 2 * Network::LINKS as usize;
+pub const LOADS: usize = ROWS * 2 * Network::LINKS as usize;
 
-// Where the amount of tunnel t in step k of the block stands.
+// Where the amount of tunnel t in row k of the block stands.
 pub fn amount_at(t: usize, k: usize) -> usize
-    requires { ⌜ (t < mostTunnels) × (k < blockSteps) ⌝ }
-    ensures { λ r. ⌜ r ≡ amountAt t k ⌝ }
+    requires { ⌜ (t < mostTunnels) × (k < blockRows) ⌝ }
+    ensures { λ r. ⌜ r ≡ numberAt t k ⌝ }
 {
-    STEPS * t + k
+    ROWS * t + k
 }
 
 // Where the load of link l in step k of the block stands: part 0 is that of protected tunnels, part 1 that of the others.
 pub fn load_at(l: usize, part: usize, k: usize) -> usize
-    requires { ⌜ (l < mostLinks) × (part < 2) × (k < blockSteps) ⌝ }
+    requires { ⌜ (l < mostLinks) × (part < 2) × (k < blockRows) ⌝ }
     ensures { λ r. ⌜ r ≡ loadAt l part k ⌝ }
 {
-    STEPS * (2 * l + part) + k
+    ROWS * (2 * l + part) + k
 }
 
-// The larger of two amounts.
-pub fn larger(x: u64, y: u64) -> u64
-    ensures { λ r. ⌜ r ≡ max x y ⌝ }
+// Adds vector i of one table to vector j of another.
+pub(crate) fn add_vector(from: &[u64], i: usize, to: &mut [u64], j: usize)
+    requires { ⌜ Addable (now from) i (now to) j ⌝ }
+    ensures { λ _. ⌜ VectorAdded j (λ k. at (now (from .entry)) (numberAt i k)) (now (to .entry)) (now (to .exit)) ⌝ }
 {
-    if x < y { y } else { x }
-}
-
-// Adds vector t of the amounts to vector j of the loads.
-fn add_vector(amounts: &[u64], t: usize, loads: &mut [u64], j: usize)
-    requires { ⌜ Addable (now amounts) t (now loads) j ⌝ }
-    ensures { λ _. ⌜ VectorAdded j (λ k. at (now (amounts .entry)) (amountAt t k)) (now (loads .entry)) (now (loads .exit)) ⌝ }
-{
-    let from = STEPS * t;
-    let to = STEPS * j;
+    let source = ROWS * i;
+    let target = ROWS * j;
     let mut k = 0;
-    while k < STEPS {
-        loads[to + k] += amounts[from + k];
+    while k < ROWS {
+        to[target + k] += from[source + k];
         k += 1;
     }
 }
 
-// Adds a tunnel's amounts to the loads of the links of its set: of the link of the set's lowest bit, which is then cleared,
-// until none is left.
+// Adds a tunnel's amounts to those of each link of its set, whose vector is so many times its number, and so many, on: of the
+// link of the set's lowest bit, which is then cleared, until none is left.
 pub(crate) fn add_tunnel(
     links: usize,
     amounts: &[u64],
     t: usize,
     via: u64,
-    part: usize,
-    loads: &mut [u64],
+    to: &mut [u64],
+    times: usize,
+    on: usize,
 )
-    requires { ⌜ (links ≤ mostLinks) × (t < mostTunnels) × (part < 2) × (via < 2 ^ links) × (length (now amounts) ≡ amountsSize) × AmountsWithin (now amounts) (t + 1) × LoadsWithin links mostTunnels (now loads) ⌝ }
-    ensures { λ _. ⌜ SetAdded links part (inSet via) (λ _ k. at (now (amounts .entry)) (amountAt t k)) (now (loads .entry)) (now (loads .exit)) ⌝ }
+    requires { ⌜ AddableOn links (now amounts) t via (now to) times on ⌝ }
+    ensures { λ _. ⌜ AddedOn links (inSet via) (λ _ k. at (now (amounts .entry)) (numberAt t k)) times on (now (to .entry)) (now (to .exit)) ⌝ }
 {
     let mut set = via;
     while set != 0 {
         let link = u64::trailing_zeros(set) as usize;
-        add_vector(amounts, t, loads, 2 * link + part);
+        add_vector(amounts, t, to, times * link + on);
         set = set & (set - 1);
     }
 }
@@ -82,15 +76,15 @@ pub(crate) fn part_of(class: u64) -> usize
     if class <= 1 { 0 } else { 1 }
 }
 
-// Clears the loads of the first so many links.
-pub(crate) fn clear(links: usize, loads: &mut [u64])
-    requires { ⌜ (links ≤ mostLinks) × (length (now loads) ≡ loadsSize) ⌝ }
-    ensures { λ _. ⌜ Cleared links (now (loads .exit)) ⌝ }
+// Clears the first so many vectors of a table.
+pub(crate) fn clear(vectors: usize, table: &mut [u64])
+    requires { ⌜ (vectors ≤ 2 * mostLinks) × (blockRows * vectors ≤ length (now table)) ⌝ }
+    ensures { λ _. ⌜ Cleared vectors (now (table .entry)) (now (table .exit)) ⌝ }
 {
-    let end = STEPS * 2 * links;
+    let end = ROWS * vectors;
     let mut i = 0;
     while i < end {
-        loads[i] = 0;
+        table[i] = 0;
         i += 1;
     }
 }
@@ -104,13 +98,14 @@ pub fn gather(
     amounts: &[u64],
     loads: &mut [u64],
 )
-    requires { ⌜ (links ≤ mostLinks) × (n ≤ mostTunnels) × (n ≤ length (now vias)) × (n ≤ length (now classes)) × SetsWithin links (now vias) n × (length (now amounts) ≡ amountsSize) × AmountsWithin (now amounts) n × (length (now loads) ≡ loadsSize) ⌝ }
+    requires { ⌜ (links ≤ mostLinks) × (n ≤ mostTunnels) × (n ≤ length (now vias)) × (n ≤ length (now classes)) × SetsWithin links (now vias) n × AmountTable n (now amounts) × (length (now loads) ≡ loadsSize) ⌝ }
     ensures { λ _. ⌜ Loads links (now (vias .entry)) (now (classes .entry)) n (now (amounts .entry)) (now (loads .exit)) ⌝ }
 {
-    clear(links, loads);
+    clear(2 * links, loads);
     let mut t = 0;
     while t < n {
-        add_tunnel(links, amounts, t, vias[t], part_of(classes[t]), loads);
+        let part = part_of(classes[t]);
+        add_tunnel(links, amounts, t, vias[t], loads, 2, part);
         t += 1;
     }
 }

@@ -1,4 +1,5 @@
 // The loads of all links, gathered in one pass over the tunnels, or flow by flow. Inner functions of the checker; they know
-// nothing of rows.
+// nothing of plans.
 pub mod flows;
 pub mod gather;
+pub mod windows;

@@ -3,7 +3,6 @@ use Prim.Native.Nat.{ℕ, zero, suc, _+_, _-_, _*_, _/_, _%_, _^_, _≤_, _<_, m
 use mathlib.Core.Path.{_≡_, refl, sym, ap, ap₂, _∙_, subst, fun-ext}
 use mathlib.Core.Logic.{_≢_}
 use mathlib.Core.Bool.{Bool, true, false, cond, _&&_}
-use mathlib.Core.List.{List}
 use native.Mathlib.Omega.{arith}
 use native.Mathlib.Decide.{decLt}
 use native.Mathlib.Nat.{add-zero, mul-one, mul-assoc, div-one, div-eq-of-lt, div-mul-le-self, div-add-mod', mod-lt, mod-self, zero-div, le-of-eq, lt-of-le-of-lt, lt-of-lt-of-le, lt-of-not-le}
@@ -197,19 +196,19 @@ passed-all via link e l =
           ap (λ (b : Bool). b && inSet via l) (le-ltb l link up) ∙ sym (ap (λ (d : ℕ). eqb d 1) (digits-gone via link l e up)))
     ]
 
--- ---- a loop over a set, on a list: `Done c s` says that in s the work is done for the links that c picks
+-- ---- a loop over a set, on a list or some: `Done c s` says that in s the work is done for the links that c picks
 
 -- it is done for the links of a set below a link, and those from it on are left
-pub record Passing (Done : (ℕ → Bool) → List ℕ → Type 0) (via left : ℕ) (s : List ℕ) : Type 0 where
+pub record Passing {A : Type 0} (Done : (ℕ → Bool) → A → Type 0) (via left : ℕ) (s : A) : Type 0 where
   pub link : ℕ
   pub left-from : left ≡ via / 2 ^ link * 2 ^ link
   pub done : Done (passed via link) s
 
-module _ (Done : (ℕ → Bool) → List ℕ → Type 0) (via : ℕ) where
-  pub passing-start : (s : List ℕ) → Done (λ l. false) s → Passing Done via via s
+module _ {A : Type 0} (Done : (ℕ → Bool) → A → Type 0) (via : ℕ) where
+  pub passing-start : (s : A) → Done (λ l. false) s → Passing Done via via s
   passing-start s d = record { link = 0; left-from = sym (mul-one _ ∙ div-one via); done = subst (λ (c : ℕ → Bool). Done c s) (fun-ext (passed-none via)) d }
 
-  pub passing-on : (left : ℕ) (s s₁ : List ℕ) → via < 2 ^ 64 → left ≢ 0 → Passing Done via left s
+  pub passing-on : (left : ℕ) (s s₁ : A) → via < 2 ^ 64 → left ≢ 0 → Passing Done via left s
       → ((c e : ℕ → Bool) → ((l x : ℕ) → cond (c l) x 0 + cond (eqb l (trailingZeros 64 left)) x 0 ≡ cond (e l) x 0) → Done c s → Done e s₁)
       → Passing Done via (bitAnd left (left - 1)) s₁
   passing-on left s s₁ fits some P more =
@@ -222,7 +221,7 @@ module _ (Done : (ℕ → Bool) → List ℕ → Type 0) (via : ℕ) where
         done = more (passed via l) (passed via (z + 1)) (passed-on via l z (next-from via l left fits e some) (next-below via l left fits e some) (next-set via l left fits e some)) (P .done);
       }
 
-  pub passing-end : (left : ℕ) (s : List ℕ) → Passing Done via left s → left ≡ 0 → Done (inSet via) s
+  pub passing-end : (left : ℕ) (s : A) → Passing Done via left s → left ≡ 0 → Done (inSet via) s
   passing-end left s P z = subst (λ (c : ℕ → Bool). Done c s) (fun-ext (passed-all via (P .link) (none-left via (P .link) (sym (P .left-from) ∙ z)))) (P .done)
 
 -- ---- two sets together

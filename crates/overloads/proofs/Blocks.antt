@@ -1,29 +1,60 @@
 -- Laws of blocks: the loads gathered from their tables of amounts are the rule's.
-use Prim.Native.Nat.{ℕ, suc, _+_, _*_, _/_, _%_, _≤_, _<_}
+use Prim.Native.Nat.{ℕ, suc, _+_, _-_, _*_, _≤_, _<_, min, max}
 use mathlib.Core.Path.{_≡_, refl, sym, ap, ap₂, _∙_, subst}
+use mathlib.Core.Logic.{⊎-elim}
 use mathlib.Core.Bool.{Bool, true, false, cond}
 use mathlib.Core.List.{List}
 use native.Mathlib.Omega.{arith}
+use borrow.Author.Tests.{lt-ltb}
 use lib.Dec.{eqb, leb, ltb}
 use lib.ListN.{length}
-use Rattle.model.specs.Limits.{mostTunnels}
+use Rattle.model.specs.Limits.{mostFlows, mostTunnels, mostLag}
+use Rattle.model.specs.Largest.{largest}
 use Rattle.model.specs.Scan.{Bound}
 use Rattle.model.specs.Net.{Net, Plan, row}
-use Rattle.model.specs.Rule.{byFlow, counts, load, worst}
+use Rattle.model.specs.Rule.{byFlow, counts, load, stepCount, reach, worst}
 use Rattle.model.proofs.Gathered.{counts-by-tunnel, counts-by-flow}
+use Rattle.model.proofs.Largests.{largest-cong}
+use Rattle.model.proofs.Searches.{bool-cases}
 use Rattle.lists.specs.Lists.{at, networkSizes, networkOf, planSizes, planOf}
 use Rattle.loads.specs.Claim.{worstAmount}
 use Rattle.loads.specs.Gathered.{gathered, gatheredByFlow}
-use Rattle.loads.specs.Tables.{blockSteps, amountAt, loadAt, loadsSize, inPart, SetsWithin, LoadsWithin, Loads}
-use Rattle.loads.specs.Flows.{FlowsWithin, Amounts, FlowLoads}
+use Rattle.loads.specs.Tables.{blockRows, numberAt, loadAt, loadsSize, inPart, AmountTable, SetsWithin, LoadsWithin, Loads}
+use Rattle.loads.specs.Windows.{largestAt, WidenedOn}
+use Rattle.loads.specs.Flows.{FlowLoads}
 use Rattle.loads.proofs.Passes.{gathered-cong, gathered-parts, loads-within}
-use Rattle.loads.proofs.ByFlow.{by-flow-cong, by-flow-parts, flows-within}
+use Rattle.loads.proofs.Widening.{largest-pairs}
+use Rattle.loads.proofs.ByFlow.{by-flow-cong, by-flow-parts}
 use Rattle.loads.proofs.Main.{gathering}
 use Rattle.amounts.specs.Columns.{Holds, capacity, raised}
-use Rattle.amounts.specs.Rows.{Checkable, AmountTable, StepAmounts}
+use Rattle.amounts.specs.Rows.{Checkable, largerRow, RowAmounts}
+use Rattle.amounts.proofs.Windows.{window-in, window-reach}
 use Rattle.overloads.specs.Inner.{overNumber}
-use Rattle.overloads.specs.Blocks.{TunnelColumns, Gathers, InBlock}
+use Rattle.overloads.specs.Blocks.{TunnelColumns, timesWidened, blockSteps, Gathers, InBlock, NextInBlock}
 use Rattle.overloads.proofs.Overloads.{overIn, over-same}
+
+-- ---- how many times the amounts are widened
+
+module _ (w : ℕ) (N : Net) (P : Plan) where
+  pub times-tunnel : byFlow N ≡ false → timesWidened w N P ≡ min w (P .steps) - 1
+  unfolding timesWidened
+  times-tunnel e = ap (λ (b : Bool). cond b (min w (P .steps)) (min w (P .steps) - 1)) e
+
+  pub times-flow : byFlow N ≡ true → timesWidened w N P ≡ min w (P .steps)
+  unfolding timesWidened
+  times-flow e = ap (λ (b : Bool). cond b (min w (P .steps)) (min w (P .steps) - 1)) e
+
+  pub times-few : w ≤ mostLag → timesWidened w N P ≤ mostLag
+  times-few h = ⊎-elim (λ e. omega (arith, times-flow e)) (λ e. omega (arith, times-tunnel e)) (bool-cases (byFlow N))
+
+  pub block-few : blockSteps w N P ≤ blockRows
+  unfolding blockSteps
+  block-few = omega arith
+
+  -- a step of the block has its window in it
+  pub block-in : (k : ℕ) → k < blockSteps w N P → k + timesWidened w N P < blockRows
+  unfolding blockSteps
+  block-in k h = omega (arith, h)
 
 -- ---- the loads of a block
 
@@ -35,109 +66,125 @@ pub sets-within : (l p vias : List ℕ) → Checkable l p → Holds vias (networ
 unfolding networkOf
 sets-within l p vias c h = record { each = λ u k. rw (h .each u k) (c .network .ranges .tunnels .via u k .1) }
 
-pub tunnel-flows-within : (l p flows : List ℕ) → Checkable l p → Holds flows (networkSizes l .tunnels) (networkOf l .flow) → FlowsWithin flows (networkSizes l .tunnels)
-unfolding networkOf
-tunnel-flows-within l p flows c h = record { each = λ u k. rw (h .each u k) (omega (arith, c .network .ranges .tunnels .flow u k, c .network .ranges .sized .counts)) }
+-- widened amounts are amounts
+pub widened-table : (n times : ℕ) (c : ℕ → Bool) (amounts wide : List ℕ) → AmountTable n amounts → WidenedOn times c amounts wide → AmountTable n wide
+widened-table n times c amounts wide a v = record { size = v .size ∙ a .size; within = λ t k ht hk. v .most t _ (λ i hi. a .within t i ht hi) k hk }
 
-pub flow-amounts : (l p vias earlier later : List ℕ) → Checkable l p → mostTunnels ≤ length vias → Holds vias (networkSizes l .tunnels) (networkOf l .via) → AmountTable l earlier
-    → AmountTable l later → Amounts (networkSizes l .links) vias earlier later (networkSizes l .tunnels)
-flow-amounts l p vias earlier later c size h a b = record {
-  few = (c .network .ranges .sized .counts .links, c .network .ranges .sized .counts .tunnels, omega (arith, c .network .ranges .sized .counts, size));
-  sets = sets-within l p vias c h;
-  size = (a .size, b .size);
-  within = (a .within, b .within);
-}
-
-module _ (l p : List ℕ) (c : Checkable l p) (i b : ℕ) (e : i ≡ blockSteps * b) where
+module _ (w : ℕ) (l p : List ℕ) (c : Checkable l p) (i : ℕ) where
   abbrev N : Net
   N = networkOf l
 
   abbrev P : Plan
   P = planOf p
 
-  -- a step's amounts, by the row that it leads from
-  amount-in : (x : ℕ → ℕ → ℕ) (amounts : List ℕ) → StepAmounts x l p i blockSteps amounts
-      → (k u : ℕ) → k < blockSteps → blockSteps * b + k < planSizes p .steps → u < networkSizes l .tunnels → at amounts (amountAt u k) ≡ x (blockSteps * b + k) u
-  amount-in x amounts w k u hk hs h = w .each u k h hk (omega (arith, e)) ∙ ap (λ (j : ℕ). x (j + k) u) e
+  module _ (one : byFlow N ≡ false) (some : 1 ≤ w) (vias classes : List ℕ) (t : TunnelColumns l vias classes) (amounts wide loads : List ℕ)
+      (a : RowAmounts (largerRow N P) (networkSizes l .tunnels) (planSizes p .steps) i blockRows amounts)
+      (v : WidenedOn (timesWidened w N P) (λ j. ltb j (networkSizes l .tunnels)) amounts wide)
+      (g : Loads (networkSizes l .links) vias classes (networkSizes l .tunnels) wide loads) where
+    -- the largest of the larger ones of two rows is the largest in the window
+    worst-in : (k u : ℕ) → k < blockSteps w N P → i + k < stepCount w N P → u < networkSizes l .tunnels → at wide (numberAt u k) ≡ worstAmount w N P (i + k) u
+    unfolding worstAmount largerRow largestAt planOf
+    worst-in k u hk hs hu =
+        let m : ℕ = timesWidened w N P in
+        let e : suc m ≡ reach w P (i + k) = omega (arith, times-tunnel w N P one, window-reach w N P (i + k) hs, some, c .plan .steps) in
+        let low : k + m < blockRows = block-in w N P k hk in
+        let end : i + k + min w (P .steps) ≤ P .steps = window-in w N P (i + k) hs in
+        let first : (b : ℕ) → i + (k + b) ≡ i + k + b = λ b. omega arith in
+        let next : (b : ℕ) → suc (i + (k + b)) ≡ i + k + suc b = λ b. omega arith in
+        v .here u k low (lt-ltb u _ hu)
+        ∙ largest-cong m _ _ (λ b hb.
+        a .each u (k + b) hu (omega arith) (omega (arith, e, window-reach w N P (i + k) hs)) ∙ ap₂ (λ (x y : ℕ). max (row N P x u) (row N P y u)) (first b) (next b))
+        ∙ largest-pairs m (λ b. row N P (i + k + b) u)
+        ∙ ap (λ (n : ℕ). largest n (λ b. row N P (i + k + b) u)) e
 
-  module _ (one : byFlow N ≡ false) (vias classes : List ℕ) (t : TunnelColumns l vias classes) (amounts loads : List ℕ)
-      (w : StepAmounts (worstAmount N P) l p i blockSteps amounts) (g : Loads (networkSizes l .links) vias classes (networkSizes l .tunnels) amounts loads) where
-    same : (x : ℕ → Bool) (y : Bound) (m k : ℕ) → k < blockSteps → blockSteps * b + k < planSizes p .steps → ((u : ℕ) → u < networkSizes l .tunnels → x u ≡ counts N y u)
-        → gathered (at vias) x (λ u. at amounts (amountAt u k)) (networkSizes l .tunnels) m ≡ load N y (worst 1 N P (blockSteps * b + k) m)
-    unfolding networkOf planOf
+    same : (x : ℕ → Bool) (y : Bound) (m k : ℕ) → k < blockSteps w N P → i + k < stepCount w N P → ((u : ℕ) → u < networkSizes l .tunnels → x u ≡ counts N y u)
+        → gathered (at vias) x (λ u. at wide (numberAt u k)) (networkSizes l .tunnels) m ≡ load N y (worst w N P (i + k) m)
+    unfolding networkOf
     same x y m k hk hs hx =
-        gathered-cong (at vias) (N .via) x (counts N y) (λ u. at amounts (amountAt u k)) (worstAmount N P (blockSteps * b + k)) (networkSizes l .tunnels) m
+        gathered-cong (at vias) (N .via) x (counts N y) (λ u. at wide (numberAt u k)) (worstAmount w N P (i + k)) (networkSizes l .tunnels) m
         (λ u h. t .via .each u h) hx
-        (λ u h. amount-in (worstAmount N P) amounts w k u hk hs h)
-        ∙ gathering .tunnels N P (blockSteps * b + k) m y hs one
+        (λ u h. worst-in k u hk hs h)
+        ∙ gathering .tunnels w N P (i + k) m y one
 
-    pub gathers : Gathers N P b loads
-    unfolding networkOf planOf inPart counts
-    gathers = record {
-      within = loads-within _ _ _ _ _ _ _ (c .network .ranges .sized .counts .tunnels) (w .table .within) g;
-      protected = λ m k hm hk hs.
-          g .each 0 m k (omega arith) hm hk
-          ∙ same (inPart (at classes) 0) Bound.protected m k hk hs (λ u h. ap (λ (v : ℕ). eqb (cond (leb v 1) 0 1) 0) (t .class .each u h) ∙ part-0 _ ∙ sym (counts-by-tunnel N one u));
-      total = λ m k hm hk hs.
-          ap₂ _+_ (g .each 0 m k (omega arith) hm hk) (g .each 1 m k (omega arith) hm hk)
-          ∙ gathered-parts (at vias) (at classes) (λ u. at amounts (amountAt u k)) (networkSizes l .tunnels) m
-          ∙ same (λ u. true) Bound.total m k hk hs (λ u h. refl);
-    }
+    pub gathers : Gathers w N P i loads
+    unfolding networkOf inPart counts
+    gathers =
+        let few = c .network .ranges .sized .counts in
+        record {
+          within = loads-within _ _ _ _ (networkSizes l .tunnels) (networkSizes l .tunnels) (mostFlows * mostTunnels) _ (omega arith) (omega (arith, few)) (widened-table _ _ _ _ _ (a .table) v) g;
+          protected = λ m k hm hk hs.
+              let low = block-in w N P k hk in
+              g .each 0 m k (omega arith) hm (omega (arith, low))
+              ∙ same (inPart (at classes) 0) Bound.protected m k hk hs (λ u h. ap (λ (z : ℕ). eqb (cond (leb z 1) 0 1) 0) (t .class .each u h) ∙ part-0 _ ∙ sym (counts-by-tunnel N one u));
+          total = λ m k hm hk hs.
+              let low = block-in w N P k hk in
+              ap₂ _+_ (g .each 0 m k (omega arith) hm (omega (arith, low))) (g .each 1 m k (omega arith) hm (omega (arith, low)))
+              ∙ gathered-parts (at vias) (at classes) (λ u. at wide (numberAt u k)) (networkSizes l .tunnels) m
+              ∙ same (λ u. true) Bound.total m k hk hs (λ u h. refl);
+        }
 
-  module _ (whole : byFlow N ≡ true) (vias flows classes : List ℕ) (hv : Holds vias (networkSizes l .tunnels) (N .via)) (hf : Holds flows (networkSizes l .tunnels) (N .flow))
-      (hc : Holds classes (networkSizes l .flows) (N .class)) (earlier later loads : List ℕ)
-      (a : Amounts (networkSizes l .links) vias earlier later (networkSizes l .tunnels))
-      (wb : StepAmounts (row N P) l p i blockSteps earlier) (wa : StepAmounts (λ j. row N P (suc j)) l p i blockSteps later)
-      (g : FlowLoads (networkSizes l .links) vias flows (networkSizes l .tunnels) classes (networkSizes l .flows) earlier later loads) where
-    same-flows : (x : ℕ → Bool) (y : Bound) (m k : ℕ) → k < blockSteps → blockSteps * b + k < planSizes p .steps → ((f : ℕ) → f < networkSizes l .flows → x f ≡ counts N y f)
-        → gatheredByFlow (at vias) (at flows) x (λ u. at earlier (amountAt u k)) (λ u. at later (amountAt u k)) (networkSizes l .tunnels) (networkSizes l .flows) m
-        ≡ load N y (worst 1 N P (blockSteps * b + k) m)
+  module _ (whole : byFlow N ≡ true) (vias : List ℕ) (hv : Holds vias (networkSizes l .tunnels) (N .via)) (amounts loads : List ℕ)
+      (a : RowAmounts (row N P) (networkSizes l .tunnels) (planSizes p .steps + 1) i blockRows amounts) (r : LoadsWithin (networkSizes l .links) (mostFlows * mostTunnels) loads)
+      (g : FlowLoads (networkSizes l .links) vias (N .flow) (networkSizes l .tunnels) (N .class) (networkSizes l .flows) (timesWidened w N P) amounts loads) where
+    abbrev summed : ℕ → ℕ → ℕ → ℕ
+    summed k b u = at amounts (numberAt u (k + b))
+
+    same-flows : (x : ℕ → Bool) (y : Bound) (m k : ℕ) → k < blockSteps w N P → i + k < stepCount w N P → ((f : ℕ) → f < networkSizes l .flows → x f ≡ counts N y f)
+        → gatheredByFlow (at vias) (N .flow) x (timesWidened w N P) (summed k) (networkSizes l .tunnels) (networkSizes l .flows) m ≡ load N y (worst w N P (i + k) m)
     unfolding networkOf planOf
     same-flows x y m k hk hs hx =
-        by-flow-cong (at vias) (N .via) (at flows) (N .flow) x (counts N y) (λ u. at earlier (amountAt u k)) (row N P (blockSteps * b + k)) (λ u. at later (amountAt u k))
-        (row N P (suc (blockSteps * b + k))) (networkSizes l .tunnels) (networkSizes l .flows) m
-        (λ u h. hv .each u h)
-        (λ u h. hf .each u h) hx
-        (λ u h. amount-in (row N P) earlier wb k u hk hs h)
-        (λ u h. amount-in (λ j. row N P (suc j)) later wa k u hk hs h)
-        ∙ gathering .flows N P (blockSteps * b + k) m y hs whole
+        let n : ℕ = timesWidened w N P in
+        let e : n ≡ reach w P (i + k) = times-flow w N P whole ∙ sym (window-reach w N P (i + k) hs) in
+        let low : k + n < blockRows = block-in w N P k hk in
+        let end : i + k + min w (P .steps) ≤ P .steps = window-in w N P (i + k) hs in
+        let there : (b : ℕ) → i + (k + b) ≡ i + k + b = λ b. omega arith in
+        by-flow-cong (at vias) (N .via) (N .flow) x (counts N y) n (summed k) (λ b. row N P (i + k + b)) (networkSizes l .tunnels) (networkSizes l .flows) m
+        (λ u h. hv .each u h) hx
+        (λ b u hb hu. a .each u (k + b) hu (omega arith) (omega (arith, times-flow w N P whole)) ∙ ap (λ (j : ℕ). row N P j u) (there b))
+        ∙ ap (λ (j : ℕ). gatheredByFlow (N .via) (N .flow) (counts N y) j (λ b. row N P (i + k + b)) (networkSizes l .tunnels) (networkSizes l .flows) m) e
+        ∙ gathering .flows w N P (i + k) m y whole
 
-    pub flows-gather : Gathers N P b loads
-    unfolding networkOf planOf inPart counts
+    pub flows-gather : Gathers w N P i loads
+    unfolding networkOf inPart counts
     flows-gather = record {
-      within = flows-within _ _ _ _ _ _ _ _ _ a g (λ u h. rw (hf .each u h) (c .network .ranges .tunnels .flow u h));
+      within = r;
       protected = λ m k hm hk hs.
-          g .each 0 m k (omega arith) hm hk
-          ∙ same-flows (inPart (at classes) 0) Bound.protected m k hk hs (λ f h. ap (λ (v : ℕ). eqb (cond (leb v 1) 0 1) 0) (hc .each f h) ∙ part-0 _ ∙ sym (counts-by-flow N whole f));
+          g .each 0 m k (omega arith) hm (block-in w N P k hk) ∙ same-flows (inPart (N .class) 0) Bound.protected m k hk hs (λ f h. part-0 _ ∙ sym (counts-by-flow N whole f));
       total = λ m k hm hk hs.
-          ap₂ _+_ (g .each 0 m k (omega arith) hm hk) (g .each 1 m k (omega arith) hm hk)
-          ∙ by-flow-parts (at vias) (at flows) (at classes) (λ u. at earlier (amountAt u k)) (λ u. at later (amountAt u k)) (networkSizes l .tunnels) (networkSizes l .flows) m
+          ap₂ _+_ (g .each 0 m k (omega arith) hm (block-in w N P k hk)) (g .each 1 m k (omega arith) hm (block-in w N P k hk))
+          ∙ by-flow-parts (at vias) (N .flow) (N .class) (timesWidened w N P) (summed k) (networkSizes l .tunnels) (networkSizes l .flows) m
           ∙ same-flows (λ f. true) Bound.total m k hk hs (λ f h. refl);
     }
 
 -- ---- from one step to the next
 
-pub in-first : (N : Net) (P : Plan) (s : List ℕ) → length s ≡ loadsSize → InBlock N P 0 s
-in-first N P s e = record { size = e; gathers = λ h. absurd (h refl) }
+module _ (w : ℕ) (N : Net) (P : Plan) where
+  pub in-first : (s : List ℕ) → w ≤ mostLag → length s ≡ loadsSize → InBlock w N P 0 0 s
+  unfolding blockSteps
+  in-first s h e = record { low = (omega arith, omega (arith, times-few w N P h)); size = e; gathers = λ o. absurd (o refl) }
 
-pub in-next : (N : Net) (P : Plan) (i : ℕ) (s : List ℕ) → Gathers N P (i / blockSteps) s → InBlock N P (i + 1) s
-in-next N P i s g = record {
-  size = g .within .size;
-  gathers = λ h. subst (λ (b : ℕ). Gathers N P b s) (omega (arith, h)) g;
-}
+  -- a block begins with its first step
+  pub block-start : (i k : ℕ) (s : List ℕ) → k ≡ 0 → Gathers w N P i s → Gathers w N P (i - k) s
+  block-start i k s e g = let same : i ≡ i - k = omega (arith, e) in subst (λ (b : ℕ). Gathers w N P b s) same g
 
-pub fewer-links : (links m n : ℕ) (s : List ℕ) → m ≤ links → LoadsWithin links n s → LoadsWithin m n s
-fewer-links links m n s h w = record { size = w .size; most = λ q l k hq hl hk. w .most q l k hq (omega arith) hk }
+  pub in-next : (i k r : ℕ) (s : List ℕ) → k ≤ i → NextInBlock k (blockSteps w N P) r → Gathers w N P (i - k) s → InBlock w N P (i + 1) r s
+  in-next i k r s h n g =
+      let same : r ≡ k + 1 → i - k ≡ i + 1 - r = λ e. omega (arith, e) in
+      record {
+        low = (⊎-elim (λ e. omega (arith, e)) (λ e. omega (arith, e)) (n .1), n .0);
+        size = g .within .size;
+        gathers = λ o. ⊎-elim (λ e. subst (λ (b : ℕ). Gathers w N P b s) (same e) g) (λ e. absurd (o e)) (n .1);
+      }
 
 -- ---- the number that is found on a link is the rule's
 
-module _ (N : Net) (P : Plan) (i l : ℕ) (hi : i < P .steps) (hl : l < N .links) (capacities all loads : List ℕ)
-    (hc : Holds capacities (N .links) (capacity N (P .parts))) (ha : Holds all (N .links) (raised N (P .parts))) (g : Gathers N P (i / blockSteps) loads) where
-  pub number-in : overNumber (ltb (at capacities l) (at loads (loadAt l 0 (i % blockSteps)))) (ltb (at all l) (at loads (loadAt l 0 (i % blockSteps)) + at loads (loadAt l 1 (i % blockSteps)))) ≡ overIn N P i l
+module _ (w : ℕ) (N : Net) (P : Plan) (i k l : ℕ) (hi : i < stepCount w N P) (hk : (k ≤ i) × (k < blockSteps w N P)) (hl : l < N .links) (capacities all loads : List ℕ)
+    (hc : Holds capacities (N .links) (capacity N (P .parts))) (ha : Holds all (N .links) (raised N (P .parts))) (g : Gathers w N P (i - k) loads) where
+  pub number-in : overNumber (ltb (at capacities l) (at loads (loadAt l 0 k))) (ltb (at all l) (at loads (loadAt l 0 k) + at loads (loadAt l 1 k))) ≡ overIn w N P i l
   number-in =
-      let e : blockSteps * (i / blockSteps) + i % blockSteps ≡ i = omega arith in
-      let low : i % blockSteps < blockSteps = omega arith in
+      let e : i - k + k ≡ i = omega (arith, hk) in
+      let there : i - k + k < stepCount w N P = subst (λ (j : ℕ). j < stepCount w N P) (sym e) hi in
       ap₂ overNumber
-      (ap₂ ltb (hc .each l hl) (g .protected l (i % blockSteps) hl low (omega arith) ∙ ap (λ (j : ℕ). load N Bound.protected (worst 1 N P j l)) e))
-      (ap₂ ltb (ha .each l hl) (g .total l (i % blockSteps) hl low (omega arith) ∙ ap (λ (j : ℕ). load N Bound.total (worst 1 N P j l)) e))
+      (ap₂ ltb (hc .each l hl) (g .protected l k hl (hk .1) there ∙ ap (λ (j : ℕ). load N Bound.protected (worst w N P j l)) e))
+      (ap₂ ltb (ha .each l hl) (g .total l k hl (hk .1) there ∙ ap (λ (j : ℕ). load N Bound.total (worst w N P j l)) e))
       ∙ over-same N (P .parts) l _ _

@@ -16,14 +16,14 @@ use Rattle.amounts.specs.Columns.{capacity, raised}
 use Rattle.overloads.specs.Inner.{overNumber, overBy, foundOf}
 use Rattle.overloads.specs.declared.steps.Found.the-variants.{At}
 
-module _ (N : Net) (P : Plan) (i l : ℕ) where
+module _ (w : ℕ) (N : Net) (P : Plan) (i l : ℕ) where
   -- the refusal that a link meets in a step, or 0
   abbrev pub overIn : ℕ
-  overIn = overBy N (P .parts) l (load N Bound.protected (worst 1 N P i l)) (load N Bound.total (worst 1 N P i l))
+  overIn = overBy N (P .parts) l (load N Bound.protected (worst w N P i l)) (load N Bound.total (worst w N P i l))
 
-  pub over-none : overIn ≡ 0 → testLink (worstOver 1 N P) i l ≡ none
+  pub over-none : overIn ≡ 0 → testLink (worstOver w N P) i l ≡ none
   unfolding overBy testLink test worstOver onlyIf orElse
-  over-none e = none-of (exceeds N Bound.protected (P .parts) l (load N Bound.protected (worst 1 N P i l))) (exceeds N Bound.total (P .parts) l (load N Bound.total (worst 1 N P i l))) e
+  over-none e = none-of (exceeds N Bound.protected (P .parts) l (load N Bound.protected (worst w N P i l))) (exceeds N Bound.total (P .parts) l (load N Bound.total (worst w N P i l))) e
     where
       none-of : (p t : Bool) → overNumber p t ≡ 0
           → orElse {A = Overload} (onlyIf p (record { bound = Bound.protected; from = i; link = l })) (onlyIf t (record { bound = Bound.total; from = i; link = l })) ≡ none
@@ -31,9 +31,9 @@ module _ (N : Net) (P : Plan) (i l : ℕ) where
       none-of false true e = absurd (omega arith)
       none-of false false e = refl
 
-  pub over-some : overIn ≢ 0 → (o : Overload) × (testLink (worstOver 1 N P) i l ≡ some o) × (foundOf (some o) ≡ At overIn i l)
+  pub over-some : overIn ≢ 0 → (o : Overload) × (testLink (worstOver w N P) i l ≡ some o) × (foundOf (some o) ≡ At overIn i l)
   unfolding overBy testLink test worstOver onlyIf orElse
-  over-some e = some-of (exceeds N Bound.protected (P .parts) l (load N Bound.protected (worst 1 N P i l))) (exceeds N Bound.total (P .parts) l (load N Bound.total (worst 1 N P i l))) e
+  over-some e = some-of (exceeds N Bound.protected (P .parts) l (load N Bound.protected (worst w N P i l))) (exceeds N Bound.total (P .parts) l (load N Bound.total (worst w N P i l))) e
     where
       some-of : (p t : Bool) → overNumber p t ≢ 0
           → (o : Overload)

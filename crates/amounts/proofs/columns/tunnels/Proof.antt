@@ -6,7 +6,8 @@ use Rattle.lists.specs.Lists.{networkOf, at}
 use Rattle.lists.specs.declared.Network as counts
 use Rattle.lists.proofs.Positions.{TunnelPlace, tunnel-place, flow-place, limited, head-in, FlowPlace}
 use Rattle.amounts.specs.Columns.{Holds, classOf}
-use Rattle.amounts.proofs.Good.{flow-low, via-here, class-here}
+use Rattle.amounts.proofs.Good.{via-here, class-here}
+use Rattle.loads.proofs.Places.{flow-low}
 use Rattle.amounts.proofs.Laws.{holds-none, holds-more, holds-at}
 use native.Mathlib.Omega.{arith}
 use borrow.Author.Needs.{needs}
