@@ -41,7 +41,12 @@ fn check_texts(network: &[u8], plan: &[u8]) -> Answer
         return plan_read;
     };
     let mut marks = [0u8; MARKS];
-    product::check_plan(&network_list[..length], &plan_list[..size], &mut marks)
+    product::check_plan(
+        report::LAG,
+        &network_list[..length],
+        &plan_list[..size],
+        &mut marks,
+    )
 }
 
 // Puts what is printed: that the plan is accepted, or the lines of a refusal. Answers how many bytes that is.

@@ -5,8 +5,7 @@ use mathlib.Core.Logic.{_↔_}
 use mathlib.Core.Bool.{true, false}
 use mathlib.Core.List.{List}
 use mathlib.Core.Option.{none, some}
-use Rattle.model.specs.Limits.{mostLag}
-use Rattle.model.specs.Outcome.{good}
+use Rattle.model.specs.Outcome.{good, isLag}
 use Rattle.model.specs.Scan.{Bound, Overload}
 use Rattle.model.specs.Rule.{Choice, overloads, worstOver, stepCount, missedRow, marked}
 use Rattle.lists.specs.Lists.{networkOf, planSizes, planOf}
@@ -15,7 +14,7 @@ use Rattle.forms.specs.Named.{judgeNetwork, judgePlan}
 
 -- "With valid texts or lists, equal `tunnels`, rows that add up and room for the marks", and "a lag w of 1 to 4"
 pub record Reaches (w : ℕ) (n p : List ℕ) (lent : ℕ) : Type 0 where
-  pub lag : (1 ≤ w) × (w ≤ mostLag)
+  pub lag : isLag w ≡ true
   pub network : judgeNetwork n ≡ good n
   pub plan : judgePlan p ≡ good p
   pub tunnels : planSizes p .tunnels ≡ networkOf n .tunnels

@@ -23,7 +23,7 @@ fn plan_text(text: &[u8], out: &mut [u8]) -> Answer
         return read;
     };
     let mut plan = [0u64; PlanSizes::NUMBERS];
-    let made = product::make_plan(&network[..length], &mut plan);
+    let made = product::make_plan(report::LAG, &network[..length], &mut plan);
     let Answer::Plan(size) = made else {
         return made;
     };

@@ -100,12 +100,6 @@ module _ (N : Net) (e : byFlow N ≡ true) (P : Plan) where
       ≡ (crosses N (o .link) t && ltb (flowSum N (across N (o .link) (row N P (o .from))) (N .flow t)) (flowSum N (across N (o .link) (row N P (suc (o .from)))) (N .flow t)))
   mark-flow o t h = mark-today N P o t h ∙ simp (mover-flow N e, on-flow N e)
 
--- ---- one row after the first is as far as a choice can go
-
-row-later : (P : Plan) (i n k : ℕ) → 0 < n → 0 < k → rowIn 1 P i n ≡ rowIn 1 P i k
-unfolding rowIn reach
-row-later P i n k hn hk = omega arith
-
 -- ---- a marked mover is at its largest in the later row
 
 module _ (N : Net) (P : Plan) (o : Overload) (m : ℕ) where
@@ -130,25 +124,6 @@ module _ (N : Net) (P : Plan) (o : Overload) (m : ℕ) where
       (λ e. ap (λ (b : Bool). ltb 0 (cond b peak 0)) e ∙ lt-ltb 0 peak (later e) ∙ sym e)
       (λ e. ap (λ (b : Bool). ltb 0 (cond b peak 0)) e ∙ sym e)
       (bool-cases (moversOf N (mark 1 N P o) m)))
-
--- so the choice in which the movers of the marked tunnels show the later row and all others the earlier shows what the marked choice shows
-module _ (N : Net) (P : Plan) (o : Overload) where
-  abbrev laterRow : ℕ → ℕ
-  laterRow m = cond (moversOf N (mark 1 N P o) m) 1 0
-
-  later-shown : (m : ℕ) → shown 1 N P (o .from) (o .link) laterRow m ≡ shown 1 N P (o .from) (o .link) (marked 1 N P o) m
-  unfolding shown marked atLargest
-  later-shown m =
-      let peak : ℕ = peakAt (reach 1 P (o .from)) (λ k. onLink N (o .link) (row N P (o .from + k)) m) in
-      let at : ℕ → Bool → ℕ = λ n b. onLink N (o .link) (row N P (rowIn 1 P (o .from) (cond b n 0))) m in
-      ⊎-elim
-      (λ e. ap (at 1) e ∙ ap (λ (a : ℕ). onLink N (o .link) (row N P a) m) (row-later P (o .from) 1 peak (omega arith) (later N P o m e)) ∙ sym (ap (at peak) e))
-      (λ e. ap (at 1) e ∙ sym (ap (at peak) e))
-      (bool-cases (moversOf N (mark 1 N P o) m))
-
-  pub later-overloads : (b : Bound) → overloads 1 N P (o .from) (o .link) laterRow b ≡ overloads 1 N P (o .from) (o .link) (marked 1 N P o) b
-  unfolding overloads
-  later-overloads b = ap (exceeds N b (P .parts) (o .link)) (load-cong N b (λ m _. later-shown m))
 
 pub today : Today
 today = record { overload = rule-today; steps = steps-today; worst = worst-today; shown = shown-today; mark = mark-today; marked = marked-today; bound = bound-today }

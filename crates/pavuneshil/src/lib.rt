@@ -85,27 +85,33 @@ pub extern "C" fn pavuneshil_write_plan(list: &[u64], out: &mut [u8], answer: &m
     *answer = numbers(product::write_plan(list, out));
 }
 
-// Makes the even plan of fewest steps for a network's list.
+// Makes the even plan of fewest steps for a network's list, at a lag. The name says that there is one: what was compiled without it does not link.
 #[no_mangle]
-pub extern "C" fn pavuneshil_make_plan(network: &[u64], out: &mut [u64], answer: &mut [u64; 4])
-    ensures { λ _. ⌜ now (answer .exit) ≡ four (plan (withRoom (length (now (out .entry))) (planned (now (network .entry))))) ⌝ }
-    ensures { λ _. ⌜ now (out .exit) ≡ lent (withRoom (length (now (out .entry))) (planned (now (network .entry)))) (now (out .entry)) ⌝ }
+pub extern "C" fn pavuneshil_make_plan_at_lag(
+    lag: u64,
+    network: &[u64],
+    out: &mut [u64],
+    answer: &mut [u64; 4],
+)
+    ensures { λ _. ⌜ now (answer .exit) ≡ four (plan (withRoom (length (now (out .entry))) (planned lag (now (network .entry))))) ⌝ }
+    ensures { λ _. ⌜ now (out .exit) ≡ lent (withRoom (length (now (out .entry))) (planned lag (now (network .entry)))) (now (out .entry)) ⌝ }
 {
-    *answer = numbers(product::make_plan(network, out));
+    *answer = numbers(product::make_plan(lag, network, out));
 }
 
-// Checks anybody's plan against a network, and marks the tunnels that show an overload.
+// Checks anybody's plan against a network, at a lag, and marks the tunnels that show an overload.
 #[no_mangle]
-pub extern "C" fn pavuneshil_check_plan(
+pub extern "C" fn pavuneshil_check_plan_at_lag(
+    lag: u64,
     network: &[u64],
     plan: &[u64],
     marks: &mut [u8],
     answer: &mut [u64; 4],
 )
-    ensures { λ _. ⌜ now (answer .exit) ≡ four (checked (now (network .entry)) (verdict (now (network .entry)) (now (plan .entry)) (length (now (marks .entry))))) ⌝ }
-    ensures { λ _. ⌜ now (marks .exit) ≡ marksAfter (now (network .entry)) (now (plan .entry)) (verdict (now (network .entry)) (now (plan .entry)) (length (now (marks .entry)))) (now (marks .entry)) ⌝ }
+    ensures { λ _. ⌜ now (answer .exit) ≡ four (checked (now (network .entry)) (verdict lag (now (network .entry)) (now (plan .entry)) (length (now (marks .entry))))) ⌝ }
+    ensures { λ _. ⌜ now (marks .exit) ≡ marksAfter lag (now (network .entry)) (now (plan .entry)) (verdict lag (now (network .entry)) (now (plan .entry)) (length (now (marks .entry)))) (now (marks .entry)) ⌝ }
 {
-    *answer = numbers(product::check_plan(network, plan, marks));
+    *answer = numbers(product::check_plan(lag, network, plan, marks));
 }
 
 // The step bound of a network that keeps its scratch.

@@ -7,7 +7,7 @@ use mathlib.Core.List.{List, [], _∷_, _++_}
 use mathlib.Core.Option.{Option, none, some, Option·elim}
 use native.Mathlib.Omega.{arith}
 use lib.Dec.{eqb, leb}
-use Rattle.model.specs.Outcome.{Outcome, good, refused, andThen, Cause, number, unless, Place}
+use Rattle.model.specs.Outcome.{Outcome, good, refused, andThen, Cause, number, unless, isLag, Place}
 use Rattle.model.specs.Scan.{Bound, cause}
 use Rattle.model.specs.Rule as rule
 use Rattle.lists.specs.Lists.{networkOf, planSizes, planOf}
@@ -19,7 +19,7 @@ use Rattle.forms.specs.declared.form.Form.the-variants.{Network, Plan}
 use Rattle.forms.specs.declared.form.Range.{Range}
 use Rattle.forms.specs.declared.form.Field.{Field}
 use Rattle.forms.specs.declared.form.Field.the-variants.{Line, End}
-use Rattle.checker.specs.Check.{judgeRows, judgePair, verdict}
+use Rattle.checker.specs.Check.{judgeRows, judgePair, judged, verdict}
 use Rattle.forms.specs.Named.{judgeNetwork, judgePlan}
 
 -- an outcome that is no refusal by 7 or 8
@@ -76,10 +76,12 @@ pair-all : (n p : List ℕ) → NotOver (judgePair n p)
 pair-all n p =
     then-all (judgeNetwork n) (λ m. andThen (judgePlan p) (judgeRows m)) (judged-network n) (λ m. then-all (judgePlan p) (judgeRows m) (judged-plan p) (rows-all m))
 
-pub verdict-all : (n p : List ℕ) (room : ℕ) → NotOver (verdict n p room)
-verdict-all n p room =
-    then-all (judgePair n p) (λ q. cond (leb (networkOf n .tunnels) room) (good (rule.firstOverload 1 (networkOf n) (planOf q))) (refused Cause.noRoom (networkOf n .tunnels) 0)) (pair-all n p) (λ q.
-    cond-all (leb (networkOf n .tunnels) room) (good (rule.firstOverload 1 (networkOf n) (planOf q))) (refused Cause.noRoom (networkOf n .tunnels) 0) tt (inr (omega arith)))
+pub verdict-all : (w : ℕ) (n p : List ℕ) (room : ℕ) → NotOver (verdict w n p room)
+verdict-all w n p room =
+    cond-all (isLag w) (judged w n p room) (refused Cause.lagOutside w 0)
+    (then-all (judgePair n p) (λ q. cond (leb (networkOf n .tunnels) room) (good (rule.firstOverload w (networkOf n) (planOf q))) (refused Cause.noRoom (networkOf n .tunnels) 0)) (pair-all n p) (λ q.
+    cond-all (leb (networkOf n .tunnels) room) (good (rule.firstOverload w (networkOf n) (planOf q))) (refused Cause.noRoom (networkOf n .tunnels) 0) tt (inr (omega arith))))
+    (inr (omega arith))
 
 -- so a refusal by 7 or 8 is an overload
 pub over-number : (b : Bound) (k : ℕ) → k ≡ number (cause b) → (k < 7) ⊎ (8 < k) → ⊥

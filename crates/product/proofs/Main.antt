@@ -1,6 +1,7 @@
 -- Demand 3 holds.
 use Prim.Native.Nat.{ℕ, suc, _-_, _≤_, _<_}
-use mathlib.Core.Path.{_≡_, refl, sym, ap, ap₂, _∙_, subst, fun-ext}
+use mathlib.Core.Path.{_≡_, refl, sym, ap, ap₂, _∙_, subst}
+use mathlib.Core.Logic.{⊎-elim}
 use mathlib.Core.Bool.{Bool, true, false, cond}
 use mathlib.Core.List.{List, _++_}
 use mathlib.Core.Option.{Option, none, some}
@@ -9,18 +10,20 @@ use borrow.Author.Tests.{le-leb, leb-true}
 use lib.Dec.{eqb, leb}
 use lib.ListN.{length, getD, take, drop, List·getD-append}
 use lib.Seq.{take-append-seam}
-use Rattle.model.specs.Outcome.{Outcome, good, refused, Cause, number}
+use Rattle.model.specs.Limits.{mostSteps}
+use Rattle.model.specs.Outcome.{Outcome, good, refused, Cause, number, isLag}
 use Rattle.model.specs.Net.{Net, Plan}
 use Rattle.model.specs.Scan.{Bound, Overload, cause, step}
-use Rattle.model.specs.Rule.{overloads, mark, moversOf, marked, stepCount}
-use Rattle.model.specs.Even.{keepsScratch, stepBound}
-use Rattle.model.proofs.Movers.{movers-same}
-use Rattle.model.proofs.Today.{later-overloads}
+use Rattle.model.specs.Rule.{Choice, overloads, mark, atLargest, marked, stepCount}
+use Rattle.model.specs.Even.{keepsScratch, stepBound, lagBound}
+use Rattle.model.proofs.Bounded.{bound-today, bound-most}
+use Rattle.model.proofs.Searches.{bool-cases}
 use Rattle.lists.specs.Lists.{networkOf, planOf}
 use Rattle.lists.specs.Answers.{withRoom, plan, lent}
 use Rattle.lists.specs.declared.Answer.the-variants.{Done, Plan as Planned, Refused}
 use Rattle.forms.specs.Read.{judgeList}
 use Rattle.forms.specs.declared.form.Form.{Form}
+use Rattle.forms.proofs.Good.{good-network}
 use Rattle.forms.proofs.Round.{read-good}
 use Rattle.planner.specs.Planned.{planned}
 use Rattle.planner.proofs.Main as planner
@@ -29,7 +32,7 @@ use Rattle.checker.specs.Inner.{marksOf}
 use Rattle.checker.specs.Claim.{Reaches}
 use Rattle.checker.proofs.Main.{checker}
 use Rattle.product.proofs.Causes.{NotOver, verdict-all, over-number, same-bound}
-use Rattle.model.proofs.Choices.{none-kept}
+use Rattle.model.proofs.Choices.{at-same, none-kept}
 use Rattle.product.specs.Accepted.{Accepted}
 use Rattle.product.specs.Demand3.{Valid, as-list, as-text, byMarks, Returns, Demand3}
 use Rattle.model.proofs.Listed.{listed-length, listed-at}
@@ -86,25 +89,24 @@ mark-at : (m : ℕ → Bool) (n t : ℕ) (rest : List ℕ) → t < n → eqb (ge
 mark-at m n t rest h =
     ap (λ (k : ℕ). eqb k 1) (List·getD-append (marksOf m n) rest 0 t (rw (listed-length {A = ℕ} n (λ i. cond (m i) 1 0)) h) ∙ listed-at n (λ i. cond (m i) 1 0) t h) ∙ bit (m t)
 
-shows-same : (N : Net) (P : Plan) (o : Overload) (marks : List ℕ) → ((t : ℕ) → t < N .tunnels → eqb (getD marks t 0) 1 ≡ mark 1 N P o t)
-    → overloads 1 N P (o .from) (o .link) (λ m. cond (moversOf N (λ t. eqb (getD marks t 0) 1) m) 1 0) (o .bound)
-    ≡ overloads 1 N P (o .from) (o .link) (marked 1 N P o) (o .bound)
-shows-same N P o marks h =
-    ap (λ (c : ℕ → ℕ). overloads 1 N P (o .from) (o .link) c (o .bound)) (fun-ext (λ m. ap (λ (b : Bool). cond b 1 0) (movers-same N _ _ h m)))
-    ∙ later-overloads N P o (o .bound)
+shows-same : (w : ℕ) (N : Net) (P : Plan) (o : Overload) (marks : List ℕ) → ((t : ℕ) → t < N .tunnels → eqb (getD marks t 0) 1 ≡ mark w N P o t)
+    → overloads w N P (o .from) (o .link) (atLargest w N P (o .from) (o .link) (λ t. eqb (getD marks t 0) 1)) (o .bound)
+    ≡ overloads w N P (o .from) (o .link) (marked w N P o) (o .bound)
+unfolding marked
+shows-same w N P o marks h = ap (λ (c : Choice w N P (o .from)). overloads w N P (o .from) (o .link) c (o .bound)) (at-same w N P (o .from) (o .link) _ _ h)
 
 -- what is shown of an overload, in the terms of its answer
-shown-at : (n p marks : List ℕ) (b : Bound) (a l : ℕ) (o : Over (verdict n p (length marks)) b a l)
-    → (o .overload .from < stepCount 1 (networkOf n) (planOf p)) × (o .overload .link < networkOf n .links)
-    × (overloads 1 (networkOf n) (planOf p) (o .overload .from) (o .overload .link) (marked 1 (networkOf n) (planOf p) (o .overload)) (o .overload .bound) ≡ true)
-    → (1 ≤ a) × (a - 1 < stepCount 1 (networkOf n) (planOf p)) × (l < networkOf n .links)
-    × (overloads 1 (networkOf n) (planOf p) (a - 1) l (byMarks n p (a - 1) (marksAfter n p (verdict n p (length marks)) marks)) b ≡ true)
-shown-at n p marks b a l o s =
-    let w = o .overload in
-    let row : a - 1 ≡ w .from = omega (arith, o .from) in
-    let ms : List ℕ = marksAfter n p (verdict n p (length marks)) marks in
-    let em : ms ≡ marksOf (mark 1 (networkOf n) (planOf p) w) (networkOf n .tunnels) ++ drop (networkOf n .tunnels) marks = ap (λ (v : Outcome (Option Overload)). marksAfter n p v marks) (o .found) in
-    let same = shows-same (networkOf n) (planOf p) w ms (λ t h. ap (λ (xs : List ℕ). eqb (getD xs t 0) 1) em ∙ mark-at (mark 1 (networkOf n) (planOf p) w) (networkOf n .tunnels) t _ h) in (
+shown-at : (w : ℕ) (n p marks : List ℕ) (b : Bound) (a l : ℕ) (o : Over (verdict w n p (length marks)) b a l)
+    → (o .overload .from < stepCount w (networkOf n) (planOf p)) × (o .overload .link < networkOf n .links)
+    × (overloads w (networkOf n) (planOf p) (o .overload .from) (o .overload .link) (marked w (networkOf n) (planOf p) (o .overload)) (o .overload .bound) ≡ true)
+    → (1 ≤ a) × (a - 1 < stepCount w (networkOf n) (planOf p)) × (l < networkOf n .links)
+    × (overloads w (networkOf n) (planOf p) (a - 1) l (byMarks w n p (a - 1) l (marksAfter w n p (verdict w n p (length marks)) marks)) b ≡ true)
+shown-at w n p marks b a l o s =
+    let v = o .overload in
+    let row : a - 1 ≡ v .from = omega (arith, o .from) in
+    let ms : List ℕ = marksAfter w n p (verdict w n p (length marks)) marks in
+    let em : ms ≡ marksOf (mark w (networkOf n) (planOf p) v) (networkOf n .tunnels) ++ drop (networkOf n .tunnels) marks = ap (λ (q : Outcome (Option Overload)). marksAfter w n p q marks) (o .found) in
+    let same = shows-same w (networkOf n) (planOf p) v ms (λ t h. ap (λ (xs : List ℕ). eqb (getD xs t 0) 1) em ∙ mark-at (mark w (networkOf n) (planOf p) v) (networkOf n .tunnels) t _ h) in (
       omega (arith, o .from),
       omega (arith, s .0, row),
       omega (arith, s .1, o .link),
@@ -118,36 +120,57 @@ valid form l (as-list e) = e
 valid form l (as-text text e) = read-good form text l e
 
 -- a plan that the planner comes to is answered and written, given the room
-pub returned : (n p out : List ℕ) → planned n ≡ good p → length p ≤ length out → Returns n p out
-returned n p out e h = (simp (e, le-leb (length p) (length out) h), simp (e, le-leb (length p) (length out) h))
+pub returned : (w : ℕ) (n p out : List ℕ) → planned w n ≡ good p → length p ≤ length out → Returns w n p out
+returned w n p out e h = (simp (e, le-leb (length p) (length out) h), simp (e, le-leb (length p) (length out) h))
 
+bounded-lag : (w : ℕ) (n : List ℕ) → isLag w ≡ true → Valid Form.Network n → keepsScratch (networkOf n) ≡ true → lagBound w (networkOf n .scratch) (networkOf n .overrun) ≤ mostSteps
+    → (p : List ℕ) × (planOf p .steps ≤ lagBound w (networkOf n .scratch) (networkOf n .overrun)) × ((out : List ℕ) → length p ≤ length out → Returns w n p out)
+bounded-lag w n lag v k most = let b = planner.claim .bounded w n lag (valid Form.Network n v) k most in (b .0, b .3, λ out h. returned w n (b .0) out (b .1) h)
+
+-- the case of a lag of 1
 bounded : (n : List ℕ) → Valid Form.Network n → keepsScratch (networkOf n) ≡ true
-    → (p : List ℕ) × (planOf p .steps ≤ stepBound (networkOf n .scratch) (networkOf n .overrun)) × ((out : List ℕ) → length p ≤ length out → Returns n p out)
-bounded n v k = let b = planner.claim .bounded n (valid Form.Network n v) k in (b .0, b .3, λ out h. returned n (b .0) out (b .1) h)
+    → (p : List ℕ) × (planOf p .steps ≤ stepBound (networkOf n .scratch) (networkOf n .overrun)) × ((out : List ℕ) → length p ≤ length out → Returns 1 n p out)
+unfolding networkOf
+bounded n v k =
+    let g = good-network n n (valid Form.Network n v) .1 .ranges in
+    let e = bound-today (networkOf n .scratch) (networkOf n .overrun) (omega (arith, g .scratch .0)) (omega (arith, g .scratch .1)) in
+    let b = bounded-lag 1 n refl v k (omega (arith, e, bound-most (networkOf n .scratch) (networkOf n .overrun) (g .scratch .0) (g .overrun))) in
+    (b .0, omega (arith, e, b .1), b .2)
 
 -- and what the planner returns is what it comes to
-pub returns-planned : (n p out : List ℕ) → Returns n p out → planned n ≡ good p
-returns-planned n p out r =
-    let w = room-planned (planned n) (length out) (length p) (r .0) in
-    let q : w .0 ≡ p = same-front p (w .0) out (w .3) (sym (ap (λ (o : Outcome (List ℕ)). lent o out) (w .2)) ∙ r .1) in
-    w .1 ∙ ap good q
+pub returns-planned : (w : ℕ) (n p out : List ℕ) → Returns w n p out → planned w n ≡ good p
+returns-planned w n p out r =
+    let s = room-planned (planned w n) (length out) (length p) (r .0) in
+    let q : s .0 ≡ p = same-front p (s .0) out (s .3) (sym (ap (λ (o : Outcome (List ℕ)). lent o out) (s .2)) ∙ r .1) in
+    s .1 ∙ ap good q
 
 -- which there was room for
-pub returns-room : (n p out : List ℕ) → Returns n p out → length p ≤ length out
-returns-room n p out r = room-within (planned n) (length out) (length p) (r .0)
+pub returns-room : (w : ℕ) (n p out : List ℕ) → Returns w n p out → length p ≤ length out
+returns-room w n p out r = room-within (planned w n) (length out) (length p) (r .0)
+
+-- an outcome of the planner other than 19 is that of a lag of 1 to 4
+other-lag : (w : ℕ) (n : List ℕ) (o : Outcome (List ℕ)) → planned w n ≡ o → (refused Cause.lagOutside w 0 ≡ o → ⊥) → isLag w ≡ true
+other-lag w n o e k = ⊎-elim (λ t. t) (λ f. absurd (k (sym (planner.claim .outside w n f) ∙ e))) (bool-cases (isLag w))
+
+pub planned-lag : (w : ℕ) (n p : List ℕ) → planned w n ≡ good p → isLag w ≡ true
+planned-lag w n p e = other-lag w n (good p) e (λ k. let z : _≡_ {A = ℕ} 0 1 = cc in omega arith)
+
+pub nine-lag : (w : ℕ) (n : List ℕ) (a l : ℕ) → planned w n ≡ refused Cause.noEvenPlan a l → isLag w ≡ true
+nine-lag w n a l e = other-lag w n (refused Cause.noEvenPlan a l) e (λ k. let z : _≡_ {A = ℕ} 0 1 = cc in omega arith)
 
 pub demand3 : Demand3
 unfolding stepBound
 demand3 = record {
-  planner = λ n out p r. planner.claim .safe n p (returns-planned n p out r) .choices;
-  checker = λ n p marks k e. checker .safe n p (length marks) (done-none n (verdict n p (length marks)) k e);
-  marked = λ n p marks b a l e.
-      let o = over n (verdict n p (length marks)) b a l (verdict-all n p (length marks)) e in
-      let s = checker .shown n p (length marks) (o .overload) (o .found) in
-      shown-at n p marks b a l o s;
-  found = λ n p marks vn vp et er hr i l hi hl c b w.
-      let f = checker .found n p (length marks) (record { network = valid Form.Network n vn; plan = valid Form.Plan p vp; tunnels = et; rows = er; room = hr }) i l hi hl c b w in
+  planner = λ w n out p r. planner.claim .safe w n p (returns-planned w n p out r) .choices;
+  checker = λ w n p marks k e. checker .safe w n p (length marks) (done-none n (verdict w n p (length marks)) k e);
+  marked = λ w n p marks b a l e.
+      let o = over n (verdict w n p (length marks)) b a l (verdict-all w n p (length marks)) e in
+      let s = checker .shown w n p (length marks) (o .overload) (o .found) in
+      shown-at w n p marks b a l o s;
+  found = λ w n p marks lag vn vp et er hr i l hi hl c b e.
+      let f = checker .found w n p (length marks) (record { lag = lag; network = valid Form.Network n vn; plan = valid Form.Plan p vp; tunnels = et; rows = er; room = hr }) i l hi hl c b e in
       (f .0 .bound, step (f .0), f .0 .link, ap (checked n) (f .1));
+  bounded-lag = bounded-lag;
   bounded = λ n v k z. let r = bounded n v k in (r .0, subst (λ (m : ℕ). planOf (r .0) .steps ≤ stepBound (networkOf n .scratch) m) z (r .1), r .2);
   bounded-overrun = bounded;
 }
@@ -155,7 +178,7 @@ demand3 = record {
 -- ---- what the planner returns, the checker accepts
 
 pub accepted : Accepted
-accepted n p room e h =
-    let s = planner.claim .safe n p e in
-    let r : Reaches n p room = record { network = s .network; plan = s .judged; tunnels = s .tunnels; rows = s .rows; room = h } in
-    ap (checked n) (checker .done n p room .1 (r, none-kept 1 (networkOf n) (planOf p) (s .overload)))
+accepted w n p room e h =
+    let s = planner.claim .safe w n p e in
+    let r : Reaches w n p room = record { lag = planned-lag w n p e; network = s .network; plan = s .judged; tunnels = s .tunnels; rows = s .rows; room = h } in
+    ap (checked n) (checker .done w n p room .1 (r, none-kept w (networkOf n) (planOf p) (s .overload)))

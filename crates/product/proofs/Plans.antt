@@ -8,7 +8,7 @@ use native.Mathlib.Omega.{arith}
 use lib.Dec.{leb}
 use lib.ListN.{length}
 use Rattle.model.specs.Limits.{mostSteps}
-use Rattle.model.specs.Outcome.{Outcome, good, refused, Cause, number, noEvenPlan}
+use Rattle.model.specs.Outcome.{Outcome, good, refused, Cause, number, noEvenPlan, isLag}
 use Rattle.model.specs.Scan.{step}
 use Rattle.model.specs.Rule.{firstOverload, accepted}
 use Rattle.model.specs.Even.{even}
@@ -30,29 +30,28 @@ use Rattle.product.proofs.Main as main
 
 -- ---- an even plan as a list
 
-module _ (n : List ℕ) (room : ℕ) (j : judgeNetwork n ≡ good n) (h : networkOf n .tunnels ≤ room) (q : ℕ) (one : 1 ≤ q) (most : q ≤ mostSteps) where
-  even-verdict : verdict n (evenList (networkOf n) q) room ≡ good (firstOverload 1 (networkOf n) (even (networkOf n) q))
-  even-verdict =
-      let e = planner.even-listed n j q one most in
-      weighed n (evenList (networkOf n) q) room (record { network = j; plan = e .judged; tunnels = e .tunnels; rows = e .rows; room = h }) ∙ ap good (e .overload)
+module _ (w : ℕ) (lag : isLag w ≡ true) (n : List ℕ) (room : ℕ) (j : judgeNetwork n ≡ good n) (h : networkOf n .tunnels ≤ room) where
+  even-verdict : (q : ℕ) → 1 ≤ q → q ≤ mostSteps → verdict w n (evenList (networkOf n) q) room ≡ good (firstOverload w (networkOf n) (even (networkOf n) q))
+  even-verdict q one most =
+      let e = planner.even-listed w n j q one most in
+      weighed w n (evenList (networkOf n) q) room (record { lag = lag; network = j; plan = e .judged; tunnels = e .tunnels; rows = e .rows; room = h }) ∙ ap good (e .overload)
 
-  even-accepted : Accepts n (evenList (networkOf n) q) room ↔ (accepted 1 (networkOf n) (even (networkOf n) q) ≡ true)
-  even-accepted = (
-    λ a. accepted-both 1 (networkOf n) (even (networkOf n) q) .1 (
+  even-accepted : (q : ℕ) → 1 ≤ q → q ≤ mostSteps → Accepts w n (evenList (networkOf n) q) room ↔ (accepted w (networkOf n) (even (networkOf n) q) ≡ true)
+  even-accepted q one most = (
+    λ a. accepted-both w (networkOf n) (even (networkOf n) q) .1 (
       even-adds-up (networkOf n) q (good-network n n j .1 .sums),
-      good-same _ _ (sym even-verdict ∙ main.done-none n (verdict n (evenList (networkOf n) q) room) (networkOf n .tunnels) a),
+      good-same _ _ (sym (even-verdict q one most) ∙ main.done-none n (verdict w n (evenList (networkOf n) q) room) (networkOf n .tunnels) a),
     ),
-    λ a. ap (checked n) (even-verdict ∙ ap good (accepted-both 1 (networkOf n) (even (networkOf n) q) .0 a .1)),
+    λ a. ap (checked n) (even-verdict q one most ∙ ap good (accepted-both w (networkOf n) (even (networkOf n) q) .0 a .1)),
   )
 
--- the model's "none is accepted" is the checker's
-module _ (n : List ℕ) (room : ℕ) (j : judgeNetwork n ≡ good n) (h : networkOf n .tunnels ≤ room) where
-  none-modelled : NoneAccepted n room (λ q. q ≤ mostSteps) → (q : ℕ) → 1 ≤ q → q ≤ mostSteps → accepted 1 (networkOf n) (even (networkOf n) q) ≡ false
+  -- the model's "none is accepted" is the checker's
+  none-modelled : NoneAccepted w n room (λ q. q ≤ mostSteps) → (q : ℕ) → 1 ≤ q → q ≤ mostSteps → accepted w (networkOf n) (even (networkOf n) q) ≡ false
   none-modelled refuses q one most =
-      ⊎-elim (λ t. absurd (refuses q one most (even-accepted n room j h q one most .1 t))) (λ f. f) (bool-cases (accepted 1 (networkOf n) (even (networkOf n) q)))
+      ⊎-elim (λ t. absurd (refuses q one most (even-accepted q one most .1 t))) (λ f. f) (bool-cases (accepted w (networkOf n) (even (networkOf n) q)))
 
-  none-checked : (q : ℕ) → 1 ≤ q → q ≤ mostSteps → accepted 1 (networkOf n) (even (networkOf n) q) ≡ false → Accepts n (evenList (networkOf n) q) room → ⊥
-  none-checked q one most f a = true≢false (sym (even-accepted n room j h q one most .0 a) ∙ f)
+  none-checked : (q : ℕ) → 1 ≤ q → q ≤ mostSteps → accepted w (networkOf n) (even (networkOf n) q) ≡ false → Accepts w n (evenList (networkOf n) q) room → ⊥
+  none-checked q one most f a = true≢false (sym (even-accepted q one most .0 a) ∙ f)
 
 -- ---- refusal 9 is told by its number
 
@@ -93,26 +92,27 @@ told-nine (refused c place second) room a l e =
 
 pub demand2 : Demand2
 demand2 = record {
-  accepts = λ n p room. (
-    λ a. checker .done n p room .0 (main.done-none n (verdict n p room) (networkOf n .tunnels) a),
-    λ h. ap (checked n) (checker .done n p room .1 h),
+  accepts = λ w n p room. (
+    λ a. checker .done w n p room .0 (main.done-none n (verdict w n p room) (networkOf n .tunnels) a),
+    λ h. ap (checked n) (checker .done w n p room .1 h),
   );
-  even-accepted = λ n q room j h one most. even-accepted n room j h q one most;
-  fewest = λ n p out room r h.
-      let e = main.returns-planned n p out r in
-      let f = planner.claim .fewest n p e in
-      let j = planner.claim .safe n p e .network in
-      (f .steps, f .least, f .most, f .list, main.accepted n p room e h, λ q one less. none-checked n room j h q one (omega (arith, f .most)) (f .none-below q one less));
-  nine = λ n out room j h refuses.
-      let w = planner.claim .nine n j (none-modelled n room j h refuses) in
-      let o = w .0 in (
+  even-accepted = λ w n q room lag j h one most. even-accepted w lag n room j h q one most;
+  fewest = λ w n p out room r h.
+      let e = main.returns-planned w n p out r in
+      let f = planner.claim .fewest w n p e in
+      let j = planner.claim .safe w n p e .network in
+      (f .steps, f .least, f .most, f .list, main.accepted w n p room e h, λ q one less. none-checked w (main.planned-lag w n p e) n room j h q one (omega (arith, f .most)) (f .none-below q one less));
+  nine = λ w n out room lag j h refuses.
+      let v = planner.claim .nine w n lag j (none-modelled w lag n room j h refuses) in
+      let o = v .0 in (
         step o,
         o .link,
         o .bound,
-        ap (λ (p : Outcome (List ℕ)). plan (withRoom (length out) p)) (w .2),
-        ap (checked n) (even-verdict n room j h mostSteps (omega arith) (omega arith) ∙ ap good (w .1)),
+        ap (λ (p : Outcome (List ℕ)). plan (withRoom (length out) p)) (v .2),
+        ap (checked n) (even-verdict w lag n room j h mostSteps (omega arith) (omega arith) ∙ ap good (v .1)),
       );
-  nine-only = λ n out room a l e h.
-      let w = planner.claim .nine-only n a l (told-nine (planned n) (length out) a l e) in
-      (w .0, λ q one most. none-checked n room (w .0) h q one most (w .1 q one most));
+  nine-only = λ w n out room a l e h.
+      let k = told-nine (planned w n) (length out) a l e in
+      let v = planner.claim .nine-only w n a l k in
+      (v .0, λ q one most. none-checked w (main.nine-lag w n a l k) n room (v .0) h q one most (v .1 q one most));
 }

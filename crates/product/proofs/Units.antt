@@ -1,12 +1,11 @@
 -- What passes with `unit=0` passes with `unit=1`.
-use Prim.Native.Nat.{ℕ, _+_, _-_, _*_, _≤_, _<_}
+use Prim.Native.Nat.{ℕ, _+_, _-_, _≤_, _<_}
 use mathlib.Core.Path.{_≡_, refl, sym, ap, ap₂, _∙_, fun-ext, subst}
 use mathlib.Core.Logic.{_≢_, ⊎-elim}
 use mathlib.Core.Bool.{true, false, cond, true≢false}
 use mathlib.Core.List.{List}
-use mathlib.Core.Option.{none, some, Option·elim}
+use mathlib.Core.Option.{none}
 use native.Mathlib.Omega.{arith}
-use native.Mathlib.Nat.{le-trans, mul-le-mul-right}
 use lib.Dec.{T, eqb}
 use borrow.Author.Tests.{eqb-true, eq-eqb}
 use Rattle.model.proofs.Searches.{bool-cases}
@@ -17,15 +16,9 @@ use Rattle.model.specs.Outcome.{good}
 use Rattle.model.specs.Rule.{missedRate, accepted}
 use Rattle.model.specs.Weaker.{InFlows}
 use Rattle.model.proofs.Weaker.{weaker, any-unit}
-use Rattle.model.proofs.Rows.{accepted-both}
-use Rattle.model.proofs.Choices.{none-kept, kept-none}
-use Rattle.model.specs.Even.{evenRow, even, fewest}
-use Rattle.model.proofs.Bounded.{fewest-least}
-use Rattle.planner.specs.Planned.{evenList, evenPlan, planned}
-use Rattle.planner.proofs.EvenLists.{list-head, list-length}
-use Rattle.planner.proofs.Judged.{planned-good}
+use Rattle.model.specs.Even.{evenRow, even}
 use Rattle.planner.proofs.Main.{claim}
-use Rattle.lists.specs.Lists.{at, hasHeld, headSize, networkSizes, linkAt, flowAt, tunnelAt, nextIn, heldOf, networkOf, planOf}
+use Rattle.lists.specs.Lists.{at, hasHeld, headSize, networkSizes, linkAt, flowAt, tunnelAt, nextIn, heldOf, networkOf}
 use Rattle.lists.specs.declared.Network as counts
 use Rattle.lists.specs.Good.{LinksIn, FlowsIn, TunnelsIn, GoodNetwork}
 use Rattle.forms.specs.Form.{allows, networkLines}
@@ -38,11 +31,10 @@ use Rattle.forms.proofs.Walks.{judged-good, good-judged}
 use Rattle.judges.specs.Ranges.{HeadIn}
 use Rattle.judges.proofs.InRange.{InRange, in-range-whole, whole-in-range}
 use Rattle.lists.proofs.Positions.{with-unit, head-size, head-least, head-in as head-in-list, link-after, flow-after, tunnel-after}
-use Rattle.product.specs.Demand2.{Accepts}
 use Rattle.product.specs.Units.{UnitZero, unitOne, Units}
-use Rattle.product.specs.Demand3.{Returns}
-use Rattle.product.proofs.Main.{returned, returns-planned, returns-room}
+use Rattle.product.proofs.Main.{returns-planned, planned-lag}
 use Rattle.product.proofs.Plans.{demand2}
+use Rattle.product.proofs.Fewer.{less-accepts, less-returns}
 
 -- a network by its numbers and its functions, which are the same if they are everywhere
 abbrev net : ℕ → ℕ → ℕ → counts.Network → (ℕ → ℕ) → (ℕ → ℕ) → (ℕ → ℕ) → (ℕ → ℕ) → (ℕ → ℕ) → (ℕ → ℕ) → (ℕ → ℕ) → (ℕ → ℕ) → Net
@@ -207,50 +199,23 @@ module _ (n : List ℕ) (z : UnitZero n) (j : judgeNetwork n ≡ good n) where
   tunnels-same = sym (ap (λ (N : Net). N .tunnels) same-net)
 
   -- what passes with `unit=0` passes with `unit=1`
-  passes : (P : Plan) → accepted 1 (networkOf n) P ≡ true → accepted 1 (networkOf (unitOne n)) P ≡ true
-  passes P a = rw same-net (weaker .unit 1 (networkOf n) P in-flows (rw own-unit a))
-
-  accepts : (p : List ℕ) (room : ℕ) → Accepts n p room → Accepts (unitOne n) p room
-  accepts p room a =
-      let r = demand2 .accepts n p room .0 a in
-      let q = accepted-both 1 (networkOf (unitOne n)) (planOf p) .0 (passes (planOf p) (accepted-both 1 (networkOf n) (planOf p) .1 (r .0 .rows, kept-none 1 (networkOf n) (planOf p) (r .1)))) in
-      demand2 .accepts (unitOne n) p room .1 (
-        record { network = judged; plan = r .0 .plan; tunnels = r .0 .tunnels ∙ tunnels-same; rows = q .0; room = omega (arith, tunnels-same, r .0 .room) },
-        none-kept 1 (networkOf (unitOne n)) (planOf p) (q .1),
-      )
+  passes : (w : ℕ) (P : Plan) → accepted w (networkOf n) P ≡ true → accepted w (networkOf (unitOne n)) P ≡ true
+  passes w P a = rw same-net (weaker .unit w (networkOf n) P in-flows (rw own-unit a))
 
   even-same : (q : ℕ) → even (networkOf (unitOne n)) q ≡ even (networkOf n) q
   unfolding even evenRow withUnit
   even-same q = rw same-net refl
 
-  passes-even : (q : ℕ) → accepted 1 (networkOf n) (even (networkOf n) q) ≡ true → accepted 1 (networkOf (unitOne n)) (even (networkOf (unitOne n)) q) ≡ true
-  passes-even q a = subst (λ (P : Plan). accepted 1 (networkOf (unitOne n)) P ≡ true) (sym (even-same q)) (passes (even (networkOf n) q) a)
-
-  even-planned : (q : ℕ) → fewest 1 (networkOf (unitOne n)) ≡ some q → planned (unitOne n) ≡ good (evenList (networkOf (unitOne n)) q)
-  unfolding evenPlan Option·elim
-  even-planned q e = planned-good (unitOne n) judged ∙ rw e refl
-
-  -- fewer steps need no more room
-  module _ (p : List ℕ) (q r : ℕ) (list : p ≡ evenList (networkOf n) q) (less : r ≤ q) where
-    steps-fewer : planOf (evenList (networkOf (unitOne n)) r) .steps ≤ planOf p .steps
-    unfolding planOf
-    steps-fewer = omega (arith, list-head (networkOf (unitOne n)) r .2, ap (λ (l : List ℕ). at l 2) list ∙ list-head (networkOf n) q .2)
-
-    room-fewer : length (evenList (networkOf (unitOne n)) r) ≤ length p
-    room-fewer =
-        let k : r - 1 ≤ q - 1 = omega arith in
-        omega (arith, list-length (networkOf (unitOne n)) r, ap length list, list-length (networkOf n) q, mul-le-mul-right (networkOf n .tunnels) k, ap (λ (t : ℕ). (r - 1) * t) tunnels-same)
-
-  -- the fewest steps are no more
-  fewer : (p out : List ℕ) → Returns n p out → (q : List ℕ) × (planOf q .steps ≤ planOf p .steps) × Returns (unitOne n) q out
-  fewer p out r =
-      let f = claim .fewest n p (returns-planned n p out r) in
-      let s = fewest-least 1 (networkOf (unitOne n)) (f .steps) (f .least) (f .most) (passes-even (f .steps) (f .accepted)) in
-      let q = evenList (networkOf (unitOne n)) (s .0) in
-      (q, steps-fewer p (f .steps) (s .0) (f .list) (s .2), returned (unitOne n) q out (even-planned (s .0) (s .1)) (le-trans (room-fewer p (f .steps) (s .0) (f .list) (s .2)) (returns-room n p out r)))
+  passes-even : (w q : ℕ) → accepted w (networkOf n) (even (networkOf n) q) ≡ true → accepted w (networkOf (unitOne n)) (even (networkOf (unitOne n)) q) ≡ true
+  passes-even w q a = subst (λ (P : Plan). accepted w (networkOf (unitOne n)) P ≡ true) (sym (even-same q)) (passes w (even (networkOf n) q) a)
 
 pub units : Units
 units = record {
-  checker = λ n p room z a. accepts n z (demand2 .accepts n p room .0 a .0 .network) p room a;
-  planner = λ n p out z r. fewer n z (claim .safe n p (returns-planned n p out r) .network) p out r;
+  checker = λ w n p room z a.
+      let r = demand2 .accepts w n p room .0 a .0 in
+      less-accepts w w n (unitOne n) (r .lag) (judged n z (r .network)) (tunnels-same n z (r .network)) (passes n z (r .network) w) p room a;
+  planner = λ w n p out z r.
+      let e = returns-planned w n p out r in
+      let j = claim .safe w n p e .network in
+      less-returns w w n (unitOne n) (planned-lag w n p e) (judged n z j) (tunnels-same n z j) (passes-even n z j w) p out r;
 }

@@ -1,4 +1,4 @@
--- The planner and the checker agree: what the planner returns, the checker accepts.
+-- The planner and the checker agree: what the planner returns, the checker accepts, at the same lag.
 use Prim.Native.Nat.{ℕ, _≤_}
 use mathlib.Core.Path.{_≡_}
 use mathlib.Core.List.{List}
@@ -10,4 +10,4 @@ use Rattle.checker.specs.Check.{verdict, checked}
 
 -- with room for the marks, which are then as many as the tunnels
 abbrev pub Accepted : Type 0
-Accepted = (n p : List ℕ) (room : ℕ) → planned n ≡ good p → networkOf n .tunnels ≤ room → checked n (verdict n p room) ≡ Done (networkOf n .tunnels)
+Accepted = (w : ℕ) (n p : List ℕ) (room : ℕ) → planned w n ≡ good p → networkOf n .tunnels ≤ room → checked n (verdict w n p room) ≡ Done (networkOf n .tunnels)

@@ -1,4 +1,4 @@
--- The edges P1 to P12, and those of rates that change, of whole-flow switches and of held capacity, over the definitions that the contracts cite: one list, one computed test.
+-- The edges P1 to P12, and those of rates that change, of whole-flow switches, of held capacity and of lags, over the definitions that the contracts cite: one list, one computed test.
 use Prim.Native.Nat.{ℕ}
 use mathlib.Core.Bool.{Bool, true, false, _&&_}
 use mathlib.Core.List.{List, [], _∷_, _++_}
@@ -37,21 +37,27 @@ bound scratch = by (boundOf scratch 0)
     by (good q) = bounds q
     by (refused c place second) = refuses (number c) place second []
 
--- the planner's answer, given room, and the number on the plan's `steps` line
-abbrev steps : List ℕ → Told
-steps network = told (plan (withRoom mostPlan (planned network))) (by (planned network))
+-- the planner's answer at a lag, given room, and the number on the plan's `steps` line; and at a lag of 1
+abbrev stepsAt : ℕ → List ℕ → Told
+stepsAt w network = told (plan (withRoom mostPlan (planned w network))) (by (planned w network))
   where
     by : Outcome (List ℕ) → List ℕ
     by (good p) = planOf p .steps ∷ []
     by (refused c place second) = []
 
+abbrev steps : List ℕ → Told
+steps = stepsAt 1
+
 -- the planner's answer, and the whole of the output afterwards
 abbrev make : List ℕ → List ℕ → Told
-make network out = told (plan (withRoom (length out) (planned network))) (lent (withRoom (length out) (planned network)) out)
+make network out = told (plan (withRoom (length out) (planned 1 network))) (lent (withRoom (length out) (planned 1 network)) out)
 
--- the checker's answer to a plan, and the marks afterwards
+-- the checker's answer to a plan at a lag, and the marks afterwards; and at a lag of 1
+abbrev checkAt : ℕ → List ℕ → List ℕ → List ℕ → Told
+checkAt w network p marks = told (checked network (verdict w network p (length marks))) (marksAfter w network p (verdict w network p (length marks)) marks)
+
 abbrev check : List ℕ → List ℕ → List ℕ → Told
-check network p marks = told (checked network (verdict network p (length marks))) (marksAfter network p (verdict network p (length marks)) marks)
+check = checkAt 1
 
 -- the paper's session, with other caps, classes and overrun: scratch, links, flows and tunnels; caps; classes and rates; flow, via, old and new
 abbrev swap : ℕ → ℕ → ℕ → List ℕ
@@ -175,6 +181,23 @@ edges =
     -- held above the capacity before it is refused at its line, and so is a unit above 1
     ∷ edge (steps (swapHeld 0 15 16)) (refuses 2 9 0 [])
     ∷ edge (steps (swapHeld 2 15 0)) (refuses 2 4 0 [])
+    -- (xi): the session's swap at lags of 1 to 4
+    ∷ edge (stepsAt 1 (swap 15 0 0)) (plans 8 (2 ∷ []))
+    ∷ edge (stepsAt 2 (swap 15 0 0)) (plans 16 (4 ∷ []))
+    ∷ edge (stepsAt 3 (swap 15 0 0)) (plans 24 (6 ∷ []))
+    ∷ edge (stepsAt 4 (swap 15 0 0)) (plans 32 (8 ∷ []))
+    -- its plan of 2 steps, at a lag of 2 and more: one window of all rows, in which what comes to link 0 is at its largest in the last
+    ∷ edge (checkAt 2 (swap 15 0 0) (1 ∷ 2 ∷ 2 ∷ 4 ∷ 10 ∷ 10 ∷ 10 ∷ 10 ∷ []) (9 ∷ 9 ∷ 9 ∷ 9 ∷ 9 ∷ [])) (refuses 7 1 0 (0 ∷ 0 ∷ 0 ∷ 1 ∷ 9 ∷ []))
+    ∷ edge (checkAt 4 (swap 15 0 0) (1 ∷ 2 ∷ 2 ∷ 4 ∷ 10 ∷ 10 ∷ 10 ∷ 10 ∷ []) (9 ∷ 9 ∷ 9 ∷ 9 ∷ 9 ∷ [])) (refuses 7 1 0 (0 ∷ 0 ∷ 0 ∷ 1 ∷ 9 ∷ []))
+    -- 9 names the first overload of the plan of 50 steps at this lag, of a window
+    ∷ edge (stepsAt 4 (changing 19 10 20 20)) (refuses 9 43 0 [])
+    -- with `unit=1` the sums of a flow take the place of amounts
+    ∷ edge (stepsAt 4 (longerHeld 1 15 0)) (plans 4 (1 ∷ []))
+    -- a lag outside 1..4, before all else
+    ∷ edge (stepsAt 0 (swap 15 0 0)) (refuses 19 0 0 [])
+    ∷ edge (stepsAt 5 []) (refuses 19 5 0 [])
+    ∷ edge (checkAt 0 [] [] []) (refuses 19 0 0 [])
+    ∷ edge (checkAt 5 (swap 15 0 0) (1 ∷ 2 ∷ 2 ∷ 4 ∷ 10 ∷ 10 ∷ 10 ∷ 10 ∷ []) (9 ∷ 9 ∷ 9 ∷ 9 ∷ [])) (refuses 19 5 0 (9 ∷ 9 ∷ 9 ∷ 9 ∷ []))
     ∷ []
 
 unfoldable pub same : List ℕ → List ℕ → Bool

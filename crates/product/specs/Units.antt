@@ -1,4 +1,4 @@
--- "What passes with `unit=0` passes with `unit=1`": of lists that differ in that number alone, by the checker's and the planner's answers.
+-- "What passes with `unit=0` passes with `unit=1`": of lists that differ in that number alone, by the checker's and the planner's answers at a lag of w.
 use Prim.Native.Nat.{ℕ, _≤_}
 use mathlib.Core.Path.{_≡_}
 use mathlib.Core.List.{List}
@@ -15,6 +15,6 @@ abbrev pub unitOne : List ℕ → List ℕ
 unitOne n = set n 3 1
 
 pub record Units : Type 0 where
-  pub checker : (n p : List ℕ) (room : ℕ) → UnitZero n → Accepts n p room → Accepts (unitOne n) p room
+  pub checker : (w : ℕ) (n p : List ℕ) (room : ℕ) → UnitZero n → Accepts w n p room → Accepts w (unitOne n) p room
   -- and the planner's fewest steps are no more
-  pub planner : (n p out : List ℕ) → UnitZero n → Returns n p out → (q : List ℕ) × (planOf q .steps ≤ planOf p .steps) × Returns (unitOne n) q out
+  pub planner : (w : ℕ) (n p out : List ℕ) → UnitZero n → Returns w n p out → (q : List ℕ) × (planOf q .steps ≤ planOf p .steps) × Returns w (unitOne n) q out

@@ -44,20 +44,20 @@ pub fn write_plan(list: &[u64], out: &mut [u8]) -> Answer
     writers::write::write_plan(list, out)
 }
 
-// Makes the even plan of fewest steps for a network's list.
-pub fn make_plan(network: &[u64], out: &mut [u64]) -> Answer
-    ensures { λ r. ⌜ r ≡ answers.plan (withRoom (length (now (out .entry))) (planned (now (network .entry)))) ⌝ }
-    ensures { λ _. ⌜ now (out .exit) ≡ lent (withRoom (length (now (out .entry))) (planned (now (network .entry)))) (now (out .entry)) ⌝ }
+// Makes the even plan of fewest steps for a network's list, at a lag.
+pub fn make_plan(lag: u64, network: &[u64], out: &mut [u64]) -> Answer
+    ensures { λ r. ⌜ r ≡ answers.plan (withRoom (length (now (out .entry))) (planned lag (now (network .entry)))) ⌝ }
+    ensures { λ _. ⌜ now (out .exit) ≡ lent (withRoom (length (now (out .entry))) (planned lag (now (network .entry)))) (now (out .entry)) ⌝ }
 {
-    planner::make_plan(network, out)
+    planner::make_plan(lag, network, out)
 }
 
-// Checks anybody's plan against a network, and marks the tunnels that show an overload.
-pub fn check_plan(network: &[u64], plan: &[u64], marks: &mut [u8]) -> Answer
-    ensures { λ r. ⌜ r ≡ checked (now (network .entry)) (verdict (now (network .entry)) (now (plan .entry)) (length (now (marks .entry)))) ⌝ }
-    ensures { λ _. ⌜ now (marks .exit) ≡ marksAfter (now (network .entry)) (now (plan .entry)) (verdict (now (network .entry)) (now (plan .entry)) (length (now (marks .entry)))) (now (marks .entry)) ⌝ }
+// Checks anybody's plan against a network, at a lag, and marks the tunnels that show an overload.
+pub fn check_plan(lag: u64, network: &[u64], plan: &[u64], marks: &mut [u8]) -> Answer
+    ensures { λ r. ⌜ r ≡ checked (now (network .entry)) (verdict lag (now (network .entry)) (now (plan .entry)) (length (now (marks .entry)))) ⌝ }
+    ensures { λ _. ⌜ now (marks .exit) ≡ marksAfter lag (now (network .entry)) (now (plan .entry)) (verdict lag (now (network .entry)) (now (plan .entry)) (length (now (marks .entry)))) (now (marks .entry)) ⌝ }
 {
-    checker::check::check_plan(network, plan, marks)
+    checker::check::check_plan(lag, network, plan, marks)
 }
 
 // The step bound of a network that keeps its scratch.

@@ -30,14 +30,14 @@ record Printed (text t : List ℕ) : Type 0 where
   network : List ℕ
   read : readNetwork text ≡ good network
   plan : List ℕ
-  made : planned network ≡ good plan
+  made : planned 1 network ≡ good plan
   judged : judgePlan plan ≡ good plan
   written : t ≡ render form.Plan plan
 
 printed : (text t : List ℕ) → planText text ≡ good t → Printed text t
 printed text t e =
-    let r = then-good (readNetwork text) (λ n. andThen (planned n) writePlan) t e in
-    let p = then-good (planned (r .0)) writePlan t (r .2) in
+    let r = then-good (readNetwork text) (λ n. andThen (planned 1 n) writePlan) t e in
+    let p = then-good (planned 1 (r .0)) writePlan t (r .2) in
     let s = safe (r .0) (p .0) (p .1) in
     record {
       network = r .0;
@@ -56,7 +56,7 @@ composed text t e =
     let few : networkOf n .tunnels ≤ mostTunnels = good-network n n (read-good form.Network text n (w .read)) .1 .ranges .sized .counts .tunnels in
     let again : readPlan t ≡ good (w .plan) = ap readPlan (w .written) ∙ good-read form.Plan (w .plan) (w .judged) in (
       networkOf n .tunnels,
-      ap₂ (λ (a b : Outcome (List ℕ)). onRead a (λ m. onRead b (λ p. checked m (verdict m p mostTunnels)))) (w .read) again ∙ accepted n (w .plan) mostTunnels (w .made) few,
+      ap₂ (λ (a b : Outcome (List ℕ)). onRead a (λ m. onRead b (λ p. checked m (verdict 1 m p mostTunnels)))) (w .read) again ∙ accepted 1 n (w .plan) mostTunnels (w .made) few,
     )
 
 plan-short : (text t : List ℕ) → planText text ≡ good t → length t ≤ mostBytes
@@ -67,8 +67,8 @@ plan-short text t e =
 pub programs : Programs
 programs = record {
   composed = composed;
-  plan-bytes = λ text. ap (λ (o : Outcome (List ℕ)). andThen o (λ n. andThen (planned n) writePlan)) (file-form form.Network .first-bytes text);
+  plan-bytes = λ text. ap (λ (o : Outcome (List ℕ)). andThen o (λ n. andThen (planned 1 n) writePlan)) (file-form form.Network .first-bytes text);
   check-bytes = λ network plan.
-      ap₂ (λ (a b : Outcome (List ℕ)). onRead a (λ n. onRead b (λ p. checked n (verdict n p mostTunnels)))) (file-form form.Network .first-bytes network) (file-form form.Plan .first-bytes plan);
+      ap₂ (λ (a b : Outcome (List ℕ)). onRead a (λ n. onRead b (λ p. checked n (verdict 1 n p mostTunnels)))) (file-form form.Network .first-bytes network) (file-form form.Plan .first-bytes plan);
   plan-room = λ text. fits mostBytes (planText text) (plan-short text);
 }

@@ -38,8 +38,8 @@ network-fits text = fits mostNetwork (readNetwork text) (λ l e. short l (good-n
 pub plan-fits : (text : List ℕ) → withRoom mostPlan (readPlan text) ≡ readPlan text
 plan-fits text = fits mostPlan (readPlan text) (λ l e. plan-length l (read-good form.Plan text l e))
 
-pub planned-fits : (network : List ℕ) → withRoom mostPlan (planned network) ≡ planned network
-planned-fits network = fits mostPlan (planned network) (λ l e. plan-length l (safe network l e .judged))
+pub planned-fits : (network : List ℕ) → withRoom mostPlan (planned 1 network) ≡ planned 1 network
+planned-fits network = fits mostPlan (planned 1 network) (λ l e. plan-length l (safe 1 network l e .judged))
 
 -- ---- what an answer with a length tells: what was given stands at the front
 

@@ -11,9 +11,9 @@ use Rattle.forms.specs.Named.{readNetwork, readPlan, writePlan}
 use Rattle.planner.specs.Planned.{planned}
 use Rattle.checker.specs.Check.{verdict, checked}
 
--- "The planning program reads a network on standard input and prints the plan text": that text, or a refusal
+-- "programs use 1" as the lag. "The planning program reads a network on standard input and prints the plan text": that text, or a refusal
 abbrev pub planText : List ℕ → Outcome (List ℕ)
-planText text = andThen (readNetwork text) (λ network. andThen (planned network) writePlan)
+planText text = andThen (readNetwork text) (λ network. andThen (planned 1 network) writePlan)
 
 -- what comes after a text is read; its refusal is the answer
 abbrev pub onRead : Outcome (List ℕ) → (List ℕ → Answer) → Answer
@@ -22,7 +22,7 @@ onRead (refused c place second) next = Refused (number c) place second
 
 -- what the checking program comes to: "the whole network first, then the whole plan", and then the check, with room for the marks
 abbrev pub checkTexts : List ℕ → List ℕ → Answer
-checkTexts network plan = onRead (readNetwork network) (λ n. onRead (readPlan plan) (λ p. checked n (verdict n p mostTunnels)))
+checkTexts network plan = onRead (readNetwork network) (λ n. onRead (readPlan plan) (λ p. checked n (verdict 1 n p mostTunnels)))
 
 -- ---- what is printed
 

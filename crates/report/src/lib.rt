@@ -1,8 +1,11 @@
-// What the two programs share: the lines of a refusal.
+// What the two programs share: the lag, and the lines of a refusal.
 ghost use Prim.Native.Nat.{_+_, _≤_};
 ghost use lib.ListN.{length};
 ghost use Rattle.lines.specs.Puts.{Puts};
 ghost use Rattle.report.specs.Printed.{decimal, printedLine, refusalLines};
+
+// The lag that the programs use.
+pub const LAG: u64 = 1;
 
 // Puts a number in decimal at a place. This and the functions below answer the place past what they put.
 fn put_decimal(out: &mut [u8], at: usize, v: u64) -> usize

@@ -26,7 +26,7 @@ read-refused (good l) next a e t = absurd (⊎-elim (λ k. omega arith) (λ k. o
 read-refused (refused c place second) next a e t = e
 
 abbrev after-plan : List ℕ → List ℕ → Answer
-after-plan n p = checked n (verdict n p mostTunnels)
+after-plan n p = checked n (verdict 1 n p mostTunnels)
 
 abbrev after-network : List ℕ → List ℕ → Answer
 after-network plan n = onRead (readPlan plan) (after-plan n)

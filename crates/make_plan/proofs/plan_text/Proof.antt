@@ -31,8 +31,8 @@ module _ (c : tie.After-read) where
       let r = c .before .before .before .read-network in
       given-done mostNetwork (readNetwork text) _ _ _ _ (network-fits text) (r .ensures .0) (c .read .given .1) (r .ensures .1)
 
-  then-planned : planText text ≡ andThen (planned network) writePlan
-  then-planned = ap (λ (o : Outcome (List ℕ)). andThen o (λ n. andThen (planned n) writePlan)) (was-read .outcome)
+  then-planned : planText text ≡ andThen (planned 1 network) writePlan
+  then-planned = ap (λ (o : Outcome (List ℕ)). andThen o (λ n. andThen (planned 1 n) writePlan)) (was-read .outcome)
 
 -- the list that was planned
 module _ (c : tie.After-made) where
@@ -42,10 +42,10 @@ module _ (c : tie.After-made) where
   abbrev steps : List ℕ
   steps = take (c .made .given .0 .0) (c .before .before .before .make-plan .last .1 .0)
 
-  was-planned : Given (planned (network before-plan)) (c .made .given .0 .0) (c .before .before .before .make-plan .last .1 .0)
+  was-planned : Given (planned 1 (network before-plan)) (c .made .given .0 .0) (c .before .before .before .make-plan .last .1 .0)
   was-planned =
       let m = c .before .before .before .make-plan in
-      given-plan mostPlan (planned (network before-plan)) _ _ _ _ (planned-fits (network before-plan)) (m .ensures .0) (c .made .given .1) (m .ensures .1)
+      given-plan mostPlan (planned 1 (network before-plan)) _ _ _ _ (planned-fits (network before-plan)) (m .ensures .0) (c .made .given .1) (m .ensures .1)
 
   then-written : planText (text before-plan) ≡ writePlan steps
   then-written = then-planned before-plan ∙ ap (λ (o : Outcome (List ℕ)). andThen o writePlan) (was-planned .outcome)
@@ -70,7 +70,7 @@ returns c =
     let r = c .before .before in
     let a = r .before .before .before .before .args in
     let o = readNetwork (a .text .now) in
-    let next : List ℕ → Outcome (List ℕ) = λ n. andThen (planned n) writePlan in
+    let next : List ℕ → Outcome (List ℕ) = λ n. andThen (planned 1 n) writePlan in
     refused-room (andThen o next) _ (a .out .now) (refused-then o next _ (r .read-network .ensures .0 ∙ ap done (network-fits (a .text .now))) (c .match .keys2)) (c .match .keys2)
 
 array-share-prefix-network : tie.Need-array-share-prefix-network
@@ -93,8 +93,8 @@ returns-2 c =
     let m = c .before .before in
     let r = m .before .before .before .before in
     let out = r .before .before .before .before .before .before .before .args .out .now in
-    same-outcome (andThen (planned (network r)) writePlan) (planText (text r)) _ out _ (then-planned r)
-    (plan-refused (planned (network r)) writePlan _ out (m .make-plan .ensures .0 ∙ ap plan (planned-fits (network r))) (c .match2 .keys2))
+    same-outcome (andThen (planned 1 (network r)) writePlan) (planText (text r)) _ out _ (then-planned r)
+    (plan-refused (planned 1 (network r)) writePlan _ out (m .make-plan .ensures .0 ∙ ap plan (planned-fits (network r))) (c .match2 .keys2))
 
 array-share-prefix-plan : tie.Need-array-share-prefix-plan
 array-share-prefix-plan c = was-planned (c .before) .within

@@ -14,12 +14,17 @@ use native.Mathlib.Omega.{arith}
 use borrow.Author.Needs.{needs}
 use Rattle.checker.proofs.marks.mark_tunnels.Statement.{statement}
 use Rattle.checker.proofs.marks.mark_tunnels.Tie as tie
+use Rattle.amounts.proofs.rows.amount.Reads as amount-reads
+use Rattle.checker.proofs.marks.largest_amount.Reads as largest-amount-reads
+use Rattle.checker.proofs.marks.rises.Reads as rises-reads
+use Rattle.lists.proofs.Network.of.Reads as of-reads
+use Rattle.lists.proofs.Network.tunnel_at.Reads as tunnel-at-reads
 
 abbrev Inv-loop : tie.InvT-loop
-Inv-loop network plan i l marks₀ sizes t₀ marks t = (t ≤ sizes .tunnels) × (length marks ≡ length marks₀) × (marks ≡ marksAt (networkOf network) (planOf plan) i l t ++ drop t marks₀)
+Inv-loop network plan i reach l marks₀ sizes t₀ marks t = (t ≤ sizes .tunnels) × (length marks ≡ length marks₀) × (marks ≡ marksAt reach (networkOf network) (planOf plan) i l t ++ drop t marks₀)
 
 abbrev μ-loop : tie.MeasureT-loop
-μ-loop network plan i l marks₀ sizes t₀ marks t = sizes .tunnels - t
+μ-loop network plan i reach l marks₀ sizes t₀ marks t = sizes .tunnels - t
 
 place : (c : tie.After-tunnel-at Inv-loop μ-loop) → TunnelPlace (c .before .before .before .before .before .before .before .before .args .network .now) (c .before .before .before .loop .t) (c .tunnel-at .result)
 place c = tunnel-place _ (c .before .before .before .before .before .before .before .before .pre .0 .network .ranges .sized) _ (c .before .before .before .before .of .ensures) _ _ (c .before .if1 .taken) (c .tunnel-at .ensures)
@@ -34,25 +39,25 @@ tunnel-at-requires : tie.Need-tunnel-at-requires Inv-loop μ-loop
 tunnel-at-requires c κs = (limited _ (c .before .before .before .before .before .before .before .pre .0 .network .ranges .sized) _ (c .before .before .before .of .ensures), omega (arith, c .if1 .taken))
 
 add-via : tie.Need-add-via Inv-loop μ-loop
-add-via c = record { fits = omega (arith, place c .few) }
+add-via c = record { fits = omega (arith, place (c) .few) }
 
 mul-via : tie.Need-mul-via Inv-loop μ-loop
-mul-via c = record { fits = omega (arith, place c .few) }
+mul-via c = record { fits = omega (arith, place (c) .few) }
 
 shared-slice-read-via : tie.Need-shared-slice-read-via Inv-loop μ-loop
-shared-slice-read-via c = omega (arith, place ((c .before)) .within)
+shared-slice-read-via c = omega (arith, place (c .before) .within)
 
-before-requires : tie.Need-before-requires Inv-loop μ-loop
-before-requires c κs = (c .before .before .before .before .before .before .before .before .before .pre .0, c .before .before .before .before .before .before .before .before .before .pre .2, place ((c .before)) .there)
+amount-requires : tie.Need-amount-requires Inv-loop μ-loop
+amount-requires c κs = (c .before .before .before .before .before .before .before .before .before .pre .0, omega (arith, c .before .before .before .before .before .before .before .before .before .pre .2 .rows), place (c .before) .there)
 
-after-requires : tie.Need-after-requires Inv-loop μ-loop
-after-requires c κs = (c .before .before .before .before .before .before .before .before .before .before .pre .0, c .before .before .before .before .before .before .before .before .before .before .pre .2, place ((c .before .before)) .there)
+largest-amount-requires : tie.Need-largest-amount-requires Inv-loop μ-loop
+largest-amount-requires c κs = (c .before .before .before .before .before .before .before .before .before .before .pre .0, c .before .before .before .before .before .before .before .before .before .before .pre .2 .rows, place (c .before .before) .there)
 
 rises-requires : tie.Need-rises-requires Inv-loop μ-loop
-rises-requires c κs = omega (arith, c .before .before .before .before .before .before .before .before .before .before .before .pre .3, c .before .before .before .before .before .before .before .before .before .before .before .pre .0 .network .ranges .sized .counts)
+rises-requires c κs = omega (arith, c .before .before .before .before .before .before .before .before .before .before .before .pre .2 .link, c .before .before .before .before .before .before .before .before .before .before .before .pre .0 .network .ranges .sized .counts)
 
 slice-write-marks : tie.Need-slice-write-marks Inv-loop μ-loop
-slice-write-marks c = let p = place ((c .before .before .before .before)) in omega (arith, c .before .before .before .before .before .before .before .loop .inv .1, p .there, c .before .before .before .before .before .before .before .before .before .before .before .before .pre .4)
+slice-write-marks c = let p = place (c .before .before .before .before) in omega (arith, c .before .before .before .before .before .before .before .loop .inv .1, p .there, c .before .before .before .before .before .before .before .before .before .before .before .before .pre .2 .room)
 
 add-t : tie.Need-add-t Inv-loop μ-loop
 add-t c = search needs
@@ -62,9 +67,10 @@ loop-less c = search needs
 
 loop-again : tie.Need-loop-again Inv-loop μ-loop
 unfolding planOf
-loop-again c = let p = place ((c .before .before .before .before)) in
-    let m = mark-of-tunnel (networkOf (c .before .before .before .before .before .before .before .before .before .before .before .before .args .network .now)) (planOf (c .before .before .before .before .before .before .before .before .before .before .before .before .args .plan .now)) (c .before .before .before .before .before .before .before .before .before .before .before .before .args .i) (c .before .before .before .before .before .before .before .before .before .before .before .before .args .l) (c .before .before .before .before .before .before .before .loop .t) _ _ _ _ (via-here _ (c .before .before .before .before .before .before .before .before .before .before .before .before .pre .0 .network) _ _ p) (c .rises .ensures) (c .before .before .before .before .before .before .before .before .before .before .before .before .pre .1) (c .before .before .before .before .before .before .before .before .before .before .before .before .pre .2) (c .before .before .before2 .ensures) (c .before .after .ensures) in
-    (omega (arith, c .before .before .before .before .before .if1 .taken), simp length-set (c .before .before .before .before .before .before .before .loop .inv .1), listed-on _ _ _ _ _ (c .before .before .before .before .before .before .before .loop .inv .2) (omega (arith, p .there, c .before .before .before .before .before .before .before .before .before .before .before .before .pre .4)) m)
+loop-again c =
+    let p = place (c .before .before .before .before) in
+    let m = mark-of-tunnel (c .before .before .before .before .before .before .before .before .before .before .before .before .args .reach) (networkOf (c .before .before .before .before .before .before .before .before .before .before .before .before .args .network .now)) (planOf (c .before .before .before .before .before .before .before .before .before .before .before .before .args .plan .now)) (c .before .before .before .before .before .before .before .before .before .before .before .before .args .i) (c .before .before .before .before .before .before .before .before .before .before .before .before .args .l) (c .before .before .before .before .before .before .before .loop .t) _ _ _ _ (via-here _ (c .before .before .before .before .before .before .before .before .before .before .before .before .pre .0 .network) _ _ p) (c .rises .ensures) (c .before .before .before .before .before .before .before .before .before .before .before .before .pre .2 .rows) (c .before .before .before .before .before .before .before .before .before .before .before .before .pre .1) (c .before .before .amount .ensures) (c .before .largest-amount .ensures) in
+    (omega (arith, c .before .before .before .before .before .if1 .taken), simp length-set (c .before .before .before .before .before .before .before .loop .inv .1), listed-on _ _ _ _ _ (c .before .before .before .before .before .before .before .loop .inv .2) (omega (arith, p .there, c .before .before .before .before .before .before .before .before .before .before .before .before .pre .2 .room)) m)
 
 same-length : tie.Need-same-length Inv-loop μ-loop
 same-length c = c .before .before .loop .inv .1
@@ -84,8 +90,8 @@ mark-tunnels-spec =
     add-via
     mul-via
     shared-slice-read-via
-    before-requires
-    after-requires
+    amount-requires
+    largest-amount-requires
     rises-requires
     slice-write-marks
     add-t
