@@ -38,7 +38,7 @@ printed : (text t : List ℕ) → planText text ≡ good t → Printed text t
 printed text t e =
     let r = then-good (readNetwork text) (λ n. andThen (planned 1 n) writePlan) t e in
     let p = then-good (planned 1 (r .0)) writePlan t (r .2) in
-    let s = safe (r .0) (p .0) (p .1) in
+    let s = safe 1 (r .0) (p .0) (p .1) in
     record {
       network = r .0;
       read = r .1;

@@ -40,9 +40,9 @@ module _ (c : tie.After-made) where
   before-plan = c .before .before .before .before .before .before .before
 
   abbrev steps : List ℕ
-  steps = take (c .made .given .0 .0) (c .before .before .before .make-plan .last .1 .0)
+  steps = take (c .made .given .0 .0) (c .before .before .before .make-plan .last .1 .1 .0)
 
-  was-planned : Given (planned 1 (network before-plan)) (c .made .given .0 .0) (c .before .before .before .make-plan .last .1 .0)
+  was-planned : Given (planned 1 (network before-plan)) (c .made .given .0 .0) (c .before .before .before .make-plan .last .1 .1 .0)
   was-planned =
       let m = c .before .before .before .make-plan in
       given-plan mostPlan (planned 1 (network before-plan)) _ _ _ _ (planned-fits (network before-plan)) (m .ensures .0) (c .made .given .1) (m .ensures .1)
