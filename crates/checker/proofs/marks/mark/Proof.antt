@@ -1,18 +1,22 @@
 -- `checker::marks::mark` meets its contract.
 use mathlib.Core.Path.{sym, _∙_}
 use Rattle.lists.proofs.Positions.{head-in}
+use native.Mathlib.Omega.{arith}
 use borrow.Author.Needs.{needs}
 use Rattle.checker.proofs.marks.mark.Statement.{statement}
 use Rattle.checker.proofs.marks.mark.Tie as tie
+use Rattle.checker.proofs.marks.mark_flows.Reads as mark-flows-reads
+use Rattle.checker.proofs.marks.mark_tunnels.Reads as mark-tunnels-reads
+use Rattle.lists.proofs.Network.by_flow.Reads as by-flow-reads
 
 by-flow-requires : tie.Need-by-flow-requires
-by-flow-requires c κs = head-in _ (c .before .before .before .pre .0 .network .ranges .sized .size)
+by-flow-requires c κs = head-in _ (c .before .before .before .pre .pair .network .ranges .sized .size)
 
 mark-flows-requires : tie.Need-mark-flows-requires
-mark-flows-requires c κs = (c .before .before .before .before .before .before .pre .0, sym (c .before .before .by-flow .ensures) ∙ c .before .if1 .taken, c .before .before .before .before .before .before .pre .1, c .before .before .before .before .before .before .pre .2, c .before .before .before .before .before .before .pre .3)
+mark-flows-requires c κs = (c .before .before .before .before .before .before .pre, sym (c .before .before .by-flow .ensures) ∙ c .before .if1 .taken)
 
 mark-tunnels-requires : tie.Need-mark-tunnels-requires
-mark-tunnels-requires c κs = (c .before .before .before .before .before .before .pre .0, sym (c .before .before .by-flow .ensures) ∙ c .before .if1 .left, c .before .before .before .before .before .before .pre .1, c .before .before .before .before .before .before .pre .2, c .before .before .before .before .before .before .pre .3)
+mark-tunnels-requires c κs = (c .before .before .before .before .before .before .pre, sym (c .before .before .by-flow .ensures) ∙ c .before .if1 .left)
 
 same-length : tie.Need-same-length
 same-length c = search needs

@@ -11,7 +11,8 @@ use Rattle.lists.proofs.Positions.{TunnelPlace, tunnel-place, limited, head-in}
 use Rattle.judges.specs.Sums.{Gathered}
 use Rattle.judges.proofs.Gathering.{gathered-none, gathered-more, gathered-fits}
 use Rattle.checker.proofs.Totals.{gathered-at}
-use Rattle.amounts.proofs.Good.{flow-here, flow-low, row-small}
+use Rattle.loads.proofs.Places.{flow-here, flow-low}
+use Rattle.amounts.proofs.Good.{row-small}
 use native.Mathlib.Omega.{arith}
 use borrow.Author.Needs.{needs}
 use Rattle.checker.proofs.sums.row_sums.Statement.{statement}
