@@ -1,27 +1,29 @@
 -- Laws of the list of marks.
 use Prim.Native.Nat.{ℕ, _+_, _*_, _≤_, _<_, min, max}
-use mathlib.Core.Path.{_≡_, refl, sym, ap, ap₂, _∙_, subst, fun-ext}
+use mathlib.Core.Path.{_≡_, refl, sym, ap, ap₂, _∙_, subst}
 use mathlib.Core.Bool.{Bool, true, false, cond, _&&_}
-use mathlib.Core.List.{List, _++_}
+use mathlib.Core.List.{List}
+use native.Mathlib.Omega.{arith}
 use native.Mathlib.Nat.{le-trans, add-zero}
 use native.Mathlib.Numerals.{add-one}
-use native.Mathlib.Omega.{arith}
 use lib.Dec.{ltb}
-use lib.ListN.{length, getD}
+use lib.ListN.{length, getD, set, length-set}
 use Rattle.model.specs.Limits.{mostFlows, mostSteps, mostAmount}
 use Rattle.model.specs.Sets.{inSet}
-use Rattle.model.specs.Net.{Net, Plan, row}
-use Rattle.model.specs.Scan.{Bound, Overload}
-use Rattle.model.specs.Rule.{byFlow, crosses, across, flowSum, onLink, moverOf, stepCount, reach, worst, mark}
-use Rattle.model.proofs.Searches.{cond-most}
 use Rattle.model.specs.Largest.{largest}
+use Rattle.model.specs.Net.{Net, Plan, row}
+use Rattle.model.specs.Scan.{Bound}
+use Rattle.model.specs.Rule.{byFlow, crosses, across, flowSum, stepCount, reach, mark}
+use Rattle.model.proofs.Searches.{cond-most}
 use Rattle.model.proofs.Gathered.{mark-by-tunnel, mark-by-flow}
 use Rattle.judges.specs.Sums.{Gathered}
 use Rattle.judges.proofs.Gathering.{gathered-all}
 use Rattle.lists.specs.Lists.{networkSizes, networkOf, planSizes, planOf}
+use Rattle.loads.proofs.Vectors.{at-same, at-other, last-or}
 use Rattle.amounts.specs.Rows.{Checkable}
 use Rattle.amounts.proofs.Good.{row-small}
-use Rattle.checker.specs.Inner.{marksOf, marksAt, Raised, LargestSums}
+use Rattle.amounts.proofs.Windows.{window-in, window-reach}
+use Rattle.checker.specs.Inner.{Markable, Raised, LargestSums}
 
 -- what a tunnel puts on a link, by its set and its amount
 pub across-of : (N : Net) (l t via amount v : ℕ) (x : ℕ → ℕ) → via ≡ N .via t → amount ≡ x t → v ≡ cond (inSet via l) amount 0 → v ≡ across N l x t
@@ -39,84 +41,85 @@ pub sum-of : (n : List ℕ) (x : ℕ → ℕ) (s : List ℕ) (t f : ℕ) → Gat
 unfolding networkOf
 sum-of n x s t f g e h = gathered-all (networkOf n) x s f g h ∙ ap (flowSum (networkOf n) x) e
 
--- the largest of a number more
-pub largest-on : (f : ℕ → ℕ) (k : ℕ) → max (largest k f) (f (k + 1)) ≡ largest (k + 1) f
+-- ---- the largest amount, and the largest sums
+
+pub largest-none : (f : ℕ → ℕ) (v : ℕ) → v ≡ f 0 → v ≡ largest 0 f
 unfolding largest
-largest-on f k = rw (add-one k) refl
+largest-none f v e = e
 
--- the largest sums, with those of a row more
-pub sums-more : (n : List ℕ) (P : Plan) (i l k : ℕ) (s before after : List ℕ) → LargestSums (networkOf n) P i l k before
-    → Gathered (networkOf n) (across (networkOf n) l (row (networkOf n) P (i + (k + 1)))) (networkSizes n .tunnels) s → Raised s before after → LargestSums (networkOf n) P i l (k + 1) after
-unfolding networkOf
-sums-more n P i l k s before after b g r =
-    record {
-      size = r .size;
-      each = λ f h.
-          r .each f h
-          ∙ ap₂ max (b .each f h) (gathered-all (networkOf n) _ s f g h)
-          ∙ largest-on (sumsOn f) k;
-    }
-  where
-    sumsOn : ℕ → ℕ → ℕ
-    sumsOn f j = flowSum (networkOf n) (across (networkOf n) l (row (networkOf n) P (i + j))) f
+pub largest-more : (k : ℕ) (f : ℕ → ℕ) (u v x : ℕ) → u ≡ largest k f → x ≡ f (k + 1) → v ≡ max u x → v ≡ largest (k + 1) f
+unfolding largest
+largest-more k f u v x h e d = rw (add-one k) (d ∙ ap₂ max h (e ∙ ap f (add-one k)))
 
-pub sums-to : (N : Net) (P : Plan) (i l k r : ℕ) (s : List ℕ) → k ≡ r → LargestSums N P i l k s → LargestSums N P i l r s
-sums-to N P i l k r s e h = subst (λ (m : ℕ). LargestSums N P i l m s) e h
+pub largest-to : (k n : ℕ) (f : ℕ → ℕ) (v : ℕ) → k ≡ n → v ≡ largest k f → v ≡ largest n f
+largest-to k n f v e h = h ∙ ap (λ (m : ℕ). largest m f) e
 
--- of one row alone
-pub sums-one : (n : List ℕ) (P : Plan) (i l : ℕ) (s : List ℕ) → Gathered (networkOf n) (across (networkOf n) l (row (networkOf n) P i)) (networkSizes n .tunnels) s
-    → LargestSums (networkOf n) P i l 0 s
-unfolding networkOf largest
-sums-one n P i l s g =
-    record { size = g .size; each = λ f h. gathered-all (networkOf n) _ s f g h ∙ ap (λ (a : ℕ). flowSum (networkOf n) (across (networkOf n) l (row (networkOf n) P a)) f) (sym (add-zero i)) }
+pub row-zero : (N : Net) (P : Plan) (i t v : ℕ) → v ≡ row N P i t → v ≡ row N P (i + 0) t
+row-zero N P i t v e = e ∙ ap (λ (a : ℕ). row N P a t) (sym (add-zero i))
 
--- that of a tunnel's flow
-pub most-of : (n : List ℕ) (P : Plan) (i l k : ℕ) (s : List ℕ) (t f : ℕ) → LargestSums (networkOf n) P i l k s → f ≡ networkOf n .flow t → f < mostFlows
-    → getD s f 0 ≡ largest k (λ j. flowSum (networkOf n) (across (networkOf n) l (row (networkOf n) P (i + j))) (networkOf n .flow t))
-most-of n P i l k s t f g e h = g .each f h ∙ ap (λ (m : ℕ). largest k (λ j. flowSum (networkOf n) (across (networkOf n) l (row (networkOf n) P (i + j))) m)) e
+pub record Raising (f : ℕ) (sums s s₁ : List ℕ) : Type 0 where
+  pub size : length s₁ ≡ length s
+  pub done : (g : ℕ) → g < f → getD s₁ g 0 ≡ max (getD s g 0) (getD sums g 0)
+  pub rest : (g : ℕ) → f ≤ g → getD s₁ g 0 ≡ getD s g 0
 
--- where so many rows follow row i, they are its window
-window-all : (P : Plan) (i w : ℕ) → i + w ≤ P .steps → reach w P i ≡ w
-unfolding reach
-window-all P i w h = omega arith
+module _ (sums s : List ℕ) where
+  pub raising-none : Raising 0 sums s s
+  raising-none = record { size = refl; done = λ g h. absurd (omega arith); rest = λ g h. refl }
 
--- a tunnel's mark, by its set and by its amounts or its flow's, of which the largest is that of row i and w rows after it
-module _ (w : ℕ) (N : Net) (P : Plan) (i l t via first most m : ℕ) (hv : via ≡ N .via t) (e : m ≡ cond (inSet via l && ltb first most) 1 0) (all : i + w ≤ P .steps) where
-  abbrev here : Overload
-  here = record { bound = Bound.protected; from = i; link = l }
+  pub raising-more : (f v : ℕ) (s₁ : List ℕ) → f < length s₁ → v ≡ max (getD s₁ f 0) (getD sums f 0) → Raising f sums s s₁ → Raising (f + 1) sums s (set s₁ f v)
+  raising-more f v s₁ h e a = record {
+    size = length-set s₁ _ _ ∙ a .size;
+    done = λ g hg.
+        last-or g f hg
+        (λ q. at-same s₁ f g v h q ∙ e ∙ ap (λ (x : ℕ). max x (getD sums f 0)) (a .rest f (omega arith)) ∙ ap (λ (i : ℕ). max (getD s i 0) (getD sums i 0)) (sym q))
+        (λ q. at-other s₁ f g v (λ z. omega arith) ∙ a .done g q);
+    rest = λ g hg. at-other s₁ f g v (λ z. omega arith) ∙ a .rest g (omega arith);
+  }
 
-  mark-of : (u : ℕ) (v : ℕ → ℕ) → mark w N P here t ≡ (crosses N l t && ltb u (largest (reach w P i) v)) → first ≡ u → most ≡ largest w v → m ≡ cond (mark w N P here t) 1 0
+  pub raising-end : (f : ℕ) (s₁ : List ℕ) → mostFlows ≤ f → Raising f sums s s₁ → Raised sums s s₁
+  raising-end f s₁ h a = record { size = a .size; each = λ g hg. a .done g (omega arith) }
+
+module _ (n p : List ℕ) (i l : ℕ) where
+  abbrev N : Net
+  N = networkOf n
+
+  abbrev P : Plan
+  P = planOf p
+
+  pub sums-first : (s : List ℕ) → Gathered N (across N l (row N P i)) (networkSizes n .tunnels) s → LargestSums N P i l 0 s
+  unfolding networkOf largest
+  sums-first s g = record { size = g .size; each = λ f h. gathered-all N _ s f g h ∙ ap (λ (a : ℕ). flowSum N (across N l (row N P a)) f) (sym (add-zero i)) }
+
+  pub sums-more : (k : ℕ) (sums s s₁ : List ℕ) → LargestSums N P i l k s → Gathered N (across N l (row N P (i + (k + 1)))) (networkSizes n .tunnels) sums → Raised sums s s₁ → LargestSums N P i l (k + 1) s₁
+  unfolding networkOf
+  sums-more k sums s s₁ a g r = record {
+    size = r .size ∙ a .size;
+    each = λ f h. largest-more k (λ b. flowSum N (across N l (row N P (i + b))) f) _ _ _ (a .each f h) (gathered-all N _ sums f g h) (r .each f h);
+  }
+
+  pub sums-at : (k m : ℕ) (s : List ℕ) → k ≡ m → LargestSums N P i l k s → LargestSums N P i l m s
+  sums-at k m s e a = subst (λ (b : ℕ). LargestSums N P i l b s) e a
+
+-- ---- a tunnel's mark, by its set and by its amounts or its flow's
+module _ (w : ℕ) (N : Net) (P : Plan) (i l t via first most m r : ℕ) (hi : i < stepCount w N P) (hr : r ≡ min w (P .steps)) (hv : via ≡ N .via t)
+    (e : m ≡ cond (inSet via l && ltb first most) 1 0) where
+  abbrev marked : ℕ
+  marked = cond (mark w N P (record { bound = Bound.protected; from = i; link = l }) t) 1 0
+
+  mark-of : (u : ℕ) (f : ℕ → ℕ) → mark w N P (record { bound = Bound.protected; from = i; link = l }) t ≡ (crosses N l t && ltb u (largest (reach w P i) f)) → first ≡ u → most ≡ largest r f → m ≡ marked
   unfolding crosses
-  mark-of u v s hf hm =
+  mark-of u f s he hl =
       e
-      ∙ ap₂ (λ (a b : Bool). cond (a && b) 1 0) (ap (λ (x : ℕ). inSet x l) hv) (ap₂ ltb hf (hm ∙ ap (λ (k : ℕ). largest k v) (sym (window-all P i w all))))
+      ∙ ap₂ (λ (a b : Bool). cond (a && b) 1 0) (ap (λ (v : ℕ). inSet v l) hv) (ap₂ ltb he (hl ∙ ap (λ (b : ℕ). largest b f) (hr ∙ sym (window-reach w N P i hi))))
       ∙ ap (λ (b : Bool). cond b 1 0) (sym s)
 
-  pub mark-of-tunnel : byFlow N ≡ false → first ≡ row N P i t → most ≡ largest w (λ k. row N P (i + k) t) → m ≡ cond (mark w N P here t) 1 0
-  mark-of-tunnel one hf hm = mark-of _ _ (mark-by-tunnel N one w P here t) hf hm
+  pub mark-of-tunnel : byFlow N ≡ false → first ≡ row N P i t → most ≡ largest r (λ k. row N P (i + k) t) → m ≡ marked
+  mark-of-tunnel one he hl = mark-of _ _ (mark-by-tunnel N one w P _ t) he hl
 
-  pub mark-of-flow : byFlow N ≡ true → first ≡ flowSum N (across N l (row N P i)) (N .flow t) → most ≡ largest w (λ k. flowSum N (across N l (row N P (i + k))) (N .flow t))
-      → m ≡ cond (mark w N P here t) 1 0
-  mark-of-flow whole hf hm = mark-of _ _ (mark-by-flow N whole w P here t) hf hm
+  pub mark-of-flow : byFlow N ≡ true → first ≡ flowSum N (across N l (row N P i)) (N .flow t) → most ≡ largest r (λ k. flowSum N (across N l (row N P (i + k))) (N .flow t)) → m ≡ marked
+  mark-of-flow whole he hl = mark-of _ _ (mark-by-flow N whole w P _ t) he hl
 
--- ---- a lag of more rows than there are is that of all rows
-
-reach-least : (w : ℕ) (P : Plan) (i : ℕ) → i + min w (P .steps) ≤ P .steps → reach (min w (P .steps)) P i ≡ reach w P i
-unfolding reach
-reach-least w P i h = omega arith
-
-pub mark-reach : (w : ℕ) (N : Net) (P : Plan) (o : Overload) (t : ℕ) → o .from + min w (P .steps) ≤ P .steps → mark (min w (P .steps)) N P o t ≡ mark w N P o t
-unfolding mark worst
-mark-reach w N P o t h =
-    ap (λ (n : ℕ). crosses N (o .link) t && ltb (onLink N (o .link) (row N P (o .from)) (moverOf N t)) (largest n (λ k. onLink N (o .link) (row N P (o .from + k)) (moverOf N t))))
-    (reach-least w P (o .from) h)
-
--- the window of a step has as many rows as the code goes through
-pub in-window : (w : ℕ) (N : Net) (P : Plan) (i r : ℕ) → r ≡ min w (P .steps) → i < stepCount w N P → i + r ≤ P .steps
-unfolding stepCount
-in-window w N P i r e h = omega arith
-
-pub marks-reach : (w : ℕ) (N : Net) (P : Plan) (i l r n : ℕ) (rest : List ℕ) → r ≡ min w (P .steps) → i < stepCount w N P → marksAt r N P i l n ++ rest ≡ marksAt w N P i l n ++ rest
-marks-reach w N P i l r n rest e h =
-    let o : Overload = record { bound = Bound.protected; from = i; link = l } in
-    ap (λ (m : ℕ → Bool). marksOf m n ++ rest) (ap (λ (k : ℕ). mark k N P o) e ∙ fun-ext (λ t. mark-reach w N P o t (rw e at (in-window w N P i r e h))))
+-- the window is there
+pub rows-in : (w : ℕ) (n p : List ℕ) (i l r : ℕ) (marks : List ℕ) → Markable w n p i l marks → r ≡ min w (planSizes p .steps) → i + r ≤ planSizes p .steps
+unfolding planOf
+rows-in w n p i l r marks k e = omega (arith, window-in w (networkOf n) (planOf p) i (k .step), e)

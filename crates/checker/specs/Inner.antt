@@ -6,13 +6,14 @@ use mathlib.Core.Bool.{Bool, true, false, cond}
 use mathlib.Core.List.{List}
 use mathlib.Core.Option.{Option, none, some}
 use Rattle.model.specs.Outcome.{Place}
-use Rattle.model.specs.Limits.{mostFlows}
+use Rattle.model.specs.Limits.{mostFlows, mostLag}
 use Rattle.model.specs.Largest.{largest}
 use Rattle.model.specs.Net.{Net, Plan, row}
 use Rattle.model.specs.Scan.{Bound}
-use Rattle.model.specs.Rule.{between, across, flowSum, mark}
+use Rattle.model.specs.Rule.{across, flowSum, between, stepCount, mark}
 use Rattle.model.specs.Listed.{listed}
-use Rattle.lists.specs.Lists.{networkSizes, planSizes}
+use Rattle.lists.specs.Lists.{networkSizes, networkOf, planOf}
+use Rattle.amounts.specs.Rows.{Checkable}
 use Rattle.checker.specs.declared.sums.Missed.{Missed}
 use Rattle.checker.specs.declared.sums.Missed.the-variants as missed
 
@@ -30,22 +31,24 @@ missedOf (some p) = missed.At (p .place) (p .second)
 abbrev pub marksOf : (ℕ → Bool) → ℕ → List ℕ
 marksOf m n = listed n (λ t. cond (m t) 1 0)
 
--- the marks of the window from row i, at a lag of w, on link l
+-- the marks of the window from row i, on link l
 abbrev pub marksAt : ℕ → Net → Plan → ℕ → ℕ → ℕ → List ℕ
 marksAt w N P i l n = marksOf (mark w N P (record { bound = Bound.protected; from = i; link = l })) n
 
--- row i and so many rows after it are there, so is link l, and there is room for the marks
-pub record MarksRoom (n p : List ℕ) (i reach l : ℕ) (marks : List ℕ) : Type 0 where
-  pub rows : i + reach ≤ planSizes p .steps
+-- they can be made: the window and the link are there, and there is room
+pub record Markable (w : ℕ) (n p : List ℕ) (i l : ℕ) (marks : List ℕ) : Type 0 where
+  pub pair : Checkable n p
+  pub lag : w ≤ mostLag
+  pub step : i < stepCount w (networkOf n) (planOf p)
   pub link : l < networkSizes n .links
   pub room : networkSizes n .tunnels ≤ length marks
 
--- each number is the larger of it and that of another list
-pub record Raised (sums before raised : List ℕ) : Type 0 where
-  pub size : length raised ≡ mostFlows
-  pub each : (f : ℕ) → f < mostFlows → getD raised f 0 ≡ max (getD before f 0) (getD sums f 0)
+-- each sum is the larger of two
+pub record Raised (sums s s′ : List ℕ) : Type 0 where
+  pub size : length s′ ≡ length s
+  pub each : (f : ℕ) → f < mostFlows → getD s′ f 0 ≡ max (getD s f 0) (getD sums f 0)
 
--- the largest of what each flow puts on link l in row i and so many rows after it
-pub record LargestSums (N : Net) (P : Plan) (i l reach : ℕ) (sums : List ℕ) : Type 0 where
-  pub size : length sums ≡ mostFlows
-  pub each : (f : ℕ) → f < mostFlows → getD sums f 0 ≡ largest reach (λ k. flowSum N (across N l (row N P (i + k))) f)
+-- the largest sum of each flow on link l in row i and k rows after it
+pub record LargestSums (N : Net) (P : Plan) (i l k : ℕ) (s : List ℕ) : Type 0 where
+  pub size : length s ≡ mostFlows
+  pub each : (f : ℕ) → f < mostFlows → getD s f 0 ≡ largest k (λ a. flowSum N (across N l (row N P (i + a))) f)

@@ -17,7 +17,7 @@ use overloads::steps::Found;
 
 // The steps, and the marks that go with what is found.
 fn check_steps(lag: u64, network: &[u64], plan: &[u64], marks: &mut [u8]) -> Answer
-    requires { ⌜ Checkable (now network) (now plan) × ((1 ≤ lag) × (lag ≤ mostLag)) × (networkSizes (now network) .tunnels ≤ length (now marks)) ⌝ }
+    requires { ⌜ Checkable (now network) (now plan) × (1 ≤ lag) × (lag ≤ mostLag) × (networkSizes (now network) .tunnels ≤ length (now marks)) ⌝ }
     ensures { λ r. ⌜ r ≡ checked (now (network .entry)) (Outcome.good (firstOverload lag (networkOf (now (network .entry))) (planOf (now (plan .entry))))) ⌝ }
     ensures { λ _. ⌜ now (marks .exit) ≡ marksAfter lag (now (network .entry)) (now (plan .entry)) (Outcome.good (firstOverload lag (networkOf (now (network .entry))) (planOf (now (plan .entry))))) (now (marks .entry)) ⌝ }
 {

@@ -5,15 +5,15 @@ ghost use mathlib.Core.List.{_++_};
 ghost use Prim.Native.Nat.{_+_, _≤_, _<_};
 ghost use lib.Dec.{ltb};
 ghost use lib.ListN.{length, drop, replicate};
-ghost use Rattle.model.specs.Limits.{mostLinks, mostFlows, mostLag};
+ghost use Rattle.model.specs.Limits.{mostLinks, mostFlows};
 ghost use Rattle.model.specs.Net;
 ghost use Rattle.model.specs.Largest.{largest};
-ghost use Rattle.model.specs.Rule.{across, byFlow, stepCount};
+ghost use Rattle.model.specs.Rule.{across, byFlow};
 ghost use Rattle.model.specs.Sets.{inSet};
 ghost use Rattle.judges.specs.Sums.{Gathered};
 ghost use Rattle.lists.specs.Lists.{networkSizes, networkOf, planSizes, planOf};
 ghost use Rattle.amounts.specs.Rows.{Checkable};
-ghost use Rattle.checker.specs.Inner.{marksOf, marksAt, MarksRoom, Raised, LargestSums};
+ghost use Rattle.checker.specs.Inner.{marksOf, marksAt, Markable, Raised, LargestSums};
 use amounts::rows;
 use lists::Network;
 use loads::windows;
@@ -57,11 +57,12 @@ fn largest_amount(network: &[u64], plan: &[u64], i: usize, reach: usize, t: usiz
 }
 
 // Marks the tunnels that cross link l and rise in the window from row i, each for itself.
-fn mark_tunnels(network: &[u64], plan: &[u64], i: usize, reach: usize, l: usize, marks: &mut [u8])
-    requires { ⌜ Checkable (now network) (now plan) × (byFlow (networkOf (now network)) ≡ false) × MarksRoom (now network) (now plan) i reach l (now marks) ⌝ }
-    ensures { λ _. ⌜ now (marks .exit) ≡ marksAt reach (networkOf (now (network .entry))) (planOf (now (plan .entry))) i l (networkSizes (now (network .entry)) .tunnels) ++ drop (networkSizes (now (network .entry)) .tunnels) (now (marks .entry)) ⌝ }
+fn mark_tunnels(lag: u64, network: &[u64], plan: &[u64], i: usize, l: usize, marks: &mut [u8])
+    requires { ⌜ Markable lag (now network) (now plan) i l (now marks) × (byFlow (networkOf (now network)) ≡ false) ⌝ }
+    ensures { λ _. ⌜ now (marks .exit) ≡ marksAt lag (networkOf (now (network .entry))) (planOf (now (plan .entry))) i l (networkSizes (now (network .entry)) .tunnels) ++ drop (networkSizes (now (network .entry)) .tunnels) (now (marks .entry)) ⌝ }
 {
     let sizes = Network::of(network);
+    let reach = rows::reach(lag, plan);
     let mut t = 0;
     while t < sizes.tunnels {
         let via = network[sizes.tunnel_at(t) + Network::VIA];
@@ -130,11 +131,12 @@ fn largest_sums(
 }
 
 // Marks the tunnels that cross link l and whose flow's sum on it rises in the window from row i.
-fn mark_flows(network: &[u64], plan: &[u64], i: usize, reach: usize, l: usize, marks: &mut [u8])
-    requires { ⌜ Checkable (now network) (now plan) × (byFlow (networkOf (now network)) ≡ true) × MarksRoom (now network) (now plan) i reach l (now marks) ⌝ }
-    ensures { λ _. ⌜ now (marks .exit) ≡ marksAt reach (networkOf (now (network .entry))) (planOf (now (plan .entry))) i l (networkSizes (now (network .entry)) .tunnels) ++ drop (networkSizes (now (network .entry)) .tunnels) (now (marks .entry)) ⌝ }
+fn mark_flows(lag: u64, network: &[u64], plan: &[u64], i: usize, l: usize, marks: &mut [u8])
+    requires { ⌜ Markable lag (now network) (now plan) i l (now marks) × (byFlow (networkOf (now network)) ≡ true) ⌝ }
+    ensures { λ _. ⌜ now (marks .exit) ≡ marksAt lag (networkOf (now (network .entry))) (planOf (now (plan .entry))) i l (networkSizes (now (network .entry)) .tunnels) ++ drop (networkSizes (now (network .entry)) .tunnels) (now (marks .entry)) ⌝ }
 {
     let sizes = Network::of(network);
+    let reach = rows::reach(lag, plan);
     let mut first = [0u64; FLOWS];
     flow_sums(network, plan, i, l, &mut first);
     let mut largest = first;
@@ -152,14 +154,13 @@ fn mark_flows(network: &[u64], plan: &[u64], i: usize, reach: usize, l: usize, m
 // Marks the tunnels that cross link l and whose largest amount in the window from row i exceeds that of row i, or whose flow's
 // sum does where the switches change a whole flow.
 pub fn mark(lag: u64, network: &[u64], plan: &[u64], i: usize, l: usize, marks: &mut [u8])
-    requires { ⌜ Checkable (now network) (now plan) × (lag ≤ mostLag) × (i < stepCount lag (networkOf (now network)) (planOf (now plan))) × (l < networkSizes (now network) .links) × (networkSizes (now network) .tunnels ≤ length (now marks)) ⌝ }
+    requires { ⌜ Markable lag (now network) (now plan) i l (now marks) ⌝ }
     ensures { λ _. ⌜ now (marks .exit) ≡ marksAt lag (networkOf (now (network .entry))) (planOf (now (plan .entry))) i l (networkSizes (now (network .entry)) .tunnels) ++ drop (networkSizes (now (network .entry)) .tunnels) (now (marks .entry)) ⌝ }
 {
-    let reach = rows::reach(lag, plan);
     if Network::by_flow(network) {
-        mark_flows(network, plan, i, reach, l, marks)
+        mark_flows(lag, network, plan, i, l, marks)
     } else {
-        mark_tunnels(network, plan, i, reach, l, marks)
+        mark_tunnels(lag, network, plan, i, l, marks)
     }
 }
 

@@ -1,6 +1,6 @@
 // The sums of a plan's rows: whether each flow's lies between parts × the lesser and parts × the greater of its rate and its next.
 ghost use mathlib.Core.Path.{_≡_};
-ghost use Prim.Native.Nat.{_*_, _≤_, _<_, min, max};
+ghost use Prim.Native.Nat.{suc, _*_, _≤_, _<_, min, max};
 ghost use mathlib.Core.Bool.{_&&_};
 ghost use lib.Dec.{leb};
 ghost use lib.ListN.{length, replicate};
@@ -24,16 +24,16 @@ pub(crate) enum Missed {
     At(usize, usize),
 }
 
-// The sum of each flow's amounts in row a, in one pass over the tunnels.
-fn row_sums(network: &[u64], plan: &[u64], a: usize, sums: &mut [u64])
-    requires { ⌜ Checkable (now network) (now plan) × (a < planSizes (now plan) .steps) × (now sums ≡ replicate mostFlows 0) ⌝ }
-    ensures { λ _. ⌜ Gathered (networkOf (now (network .entry))) (Net.row (networkOf (now (network .entry))) (planOf (now (plan .entry))) a) (networkSizes (now (network .entry)) .tunnels) (now (sums .exit)) ⌝ }
+// The sum of each flow's amounts in the row after row i, in one pass over the tunnels.
+fn row_sums(network: &[u64], plan: &[u64], i: usize, sums: &mut [u64])
+    requires { ⌜ Checkable (now network) (now plan) × (i < planSizes (now plan) .steps) × (now sums ≡ replicate mostFlows 0) ⌝ }
+    ensures { λ _. ⌜ Gathered (networkOf (now (network .entry))) (Net.row (networkOf (now (network .entry))) (planOf (now (plan .entry))) (suc i)) (networkSizes (now (network .entry)) .tunnels) (now (sums .exit)) ⌝ }
 {
     let sizes = Network::of(network);
     let mut t = 0;
     while t < sizes.tunnels {
         let flow = network[sizes.tunnel_at(t)] as usize;
-        sums[flow] += rows::before(network, plan, a, t);
+        sums[flow] += rows::after(network, plan, i, t);
         t += 1;
     }
 }
@@ -89,7 +89,7 @@ pub(crate) fn missed_row(network: &[u64], plan: &[u64]) -> Missed
     let mut a = 1;
     while a < steps {
         let mut sums = [0u64; FLOWS];
-        row_sums(network, plan, a, &mut sums);
+        row_sums(network, plan, a - 1, &mut sums);
         let f = missed_flow(network, parts, &sums);
         if f < flows {
             return Missed::At(a, f);

@@ -1,11 +1,11 @@
 -- `checker::marks::largest_amount` meets its contract.
-use Prim.Native.Nat.{ℕ, suc, _+_, _-_, _≤_, max}
-use mathlib.Core.Path.{_≡_, ap, ap₂, sym, _∙_}
+use Prim.Native.Nat.{_+_, _≤_, _-_}
+use mathlib.Core.Path.{_≡_, ap, _∙_, sym, subst}
 use native.Mathlib.Nat.{add-zero}
-use Rattle.checker.proofs.Marking.{largest-on}
+use Rattle.model.specs.Largest as model
 use Rattle.model.specs.Net.{row}
-use Rattle.model.specs.Largest
 use Rattle.lists.specs.Lists.{networkOf, planOf}
+use Rattle.checker.proofs.Marking.{largest-none, largest-more, largest-to, row-zero}
 use native.Mathlib.Omega.{arith}
 use borrow.Author.Needs.{needs}
 use Rattle.checker.proofs.marks.largest_amount.Statement.{statement}
@@ -14,7 +14,7 @@ use Rattle.amounts.proofs.rows.amount.Reads as amount-reads
 use Rattle.loads.proofs.windows.larger.Reads as larger-reads
 
 abbrev Inv-loop : tie.InvT-loop
-Inv-loop network plan i reach t largest₀ k₀ largest k = record { low : k ≤ reach; most : largest ≡ Largest.largest k (λ j. row (networkOf network) (planOf plan) (i + j) t) }
+Inv-loop network plan i reach t largest₀ k₀ largest k = record { low : k ≤ reach; highest : largest ≡ model.largest k (λ b. row (networkOf network) (planOf plan) (i + b) t) }
 
 abbrev μ-loop : tie.MeasureT-loop
 μ-loop network plan i reach t largest₀ k₀ largest k = reach - k
@@ -23,8 +23,7 @@ amount-requires : tie.Need-amount-requires Inv-loop μ-loop
 amount-requires c κs = (c .before .before .pre .0, omega (arith, c .before .before .pre .1), c .before .before .pre .2)
 
 loop-holds : tie.Need-loop-holds Inv-loop μ-loop
-unfolding Largest.largest
-loop-holds c = record { low = omega arith; most = c .amount .ensures ∙ ap (λ (a : ℕ). row (networkOf (c .before .before .before .args .network .now)) (planOf (c .before .before .before .args .plan .now)) a (c .before .before .before .args .t)) (sym (add-zero (c .before .before .before .args .i))) }
+loop-holds c = record { low = omega arith; highest = largest-none _ _ (row-zero _ _ _ _ _ (c .amount .ensures)) }
 
 add-k : tie.Need-add-k Inv-loop μ-loop
 add-k c = search needs
@@ -42,16 +41,10 @@ loop-less : tie.Need-loop-less Inv-loop μ-loop
 loop-less c = search needs
 
 loop-again : tie.Need-loop-again Inv-loop μ-loop
-loop-again c = record {
-  low = omega (arith, c .before .before .loop-test .taken);
-  most =
-      c .larger .ensures
-      ∙ ap₂ max (c .before .before .before .loop .inv .most) (c .before .amount2 .ensures)
-      ∙ largest-on (λ j. row (networkOf (c .before .before .before .before .before .before .before .args .network .now)) (planOf (c .before .before .before .before .before .before .before .args .plan .now)) (c .before .before .before .before .before .before .before .args .i + j) (c .before .before .before .before .before .before .before .args .t)) (c .before .before .before .loop .k);
-}
+loop-again c = record { low = omega (arith, c .before .before .loop-test .taken); highest = largest-more _ _ _ _ _ (c .before .before .before .loop .inv .highest) (c .before .amount2 .ensures) (c .larger .ensures) }
 
 returns : tie.Need-returns Inv-loop μ-loop
-returns c = c .before .loop .inv .most ∙ ap (λ (n : ℕ). Largest.largest n (λ j. row (networkOf (c .before .before .before .before .before .args .network .now)) (planOf (c .before .before .before .before .before .args .plan .now)) (c .before .before .before .before .before .args .i + j) (c .before .before .before .before .before .args .t))) (omega (arith, c .before .loop .inv .low, c .loop-test .left))
+returns c = largest-to _ _ _ _ (omega (arith, c .loop-test .left, c .before .loop .inv .low)) (c .before .loop .inv .highest)
 
 pub largest-amount-spec : {M : Type 1} → statement M
 largest-amount-spec =

@@ -1,10 +1,9 @@
 -- `checker::marks::largest_sums` meets its contract.
-use Prim.Native.Nat.{ℕ, suc, _+_, _-_, _≤_, _<_, max}
-use mathlib.Core.Path.{_≡_, refl, ap, ap₂, sym, _∙_}
-use lib.ListN.{length}
+use Prim.Native.Nat.{_+_, _≤_, _-_}
+use mathlib.Core.Path.{_≡_, refl, _∙_, sym}
 use Rattle.lists.specs.Lists.{networkOf, planOf}
 use Rattle.checker.specs.Inner.{LargestSums}
-use Rattle.checker.proofs.Marking.{sums-more, sums-to}
+use Rattle.checker.proofs.Marking.{sums-more, sums-at}
 use native.Mathlib.Omega.{arith}
 use borrow.Author.Needs.{needs}
 use Rattle.checker.proofs.marks.largest_sums.Statement.{statement}
@@ -25,7 +24,7 @@ add-k : tie.Need-add-k Inv-loop μ-loop
 add-k c = search needs
 
 add-flow-sums : tie.Need-add-flow-sums Inv-loop μ-loop
-add-flow-sums c = search needs
+add-flow-sums c = record { fits = omega (arith, c .before .before .before .before .before .pre .1, c .loop-test .taken, c .before .before .before .before .before .pre .0 .plan .steps) }
 
 slice-aggregate-flow-sums : tie.Need-slice-aggregate-flow-sums Inv-loop μ-loop
 slice-aggregate-flow-sums c = search needs
@@ -49,7 +48,7 @@ same-length : tie.Need-same-length Inv-loop μ-loop
 same-length c = c .before .loop .inv .sums .size ∙ sym (c .before .before .before .before .before .pre .3 .size)
 
 returns : tie.Need-returns Inv-loop μ-loop
-returns c = sums-to _ _ _ _ _ _ _ (omega (arith, c .before .loop .inv .low, c .loop-test .left)) (c .before .loop .inv .sums)
+returns c = sums-at _ _ _ _ _ _ _ (omega (arith, c .loop-test .left, c .before .loop .inv .low)) (c .before .loop .inv .sums)
 
 pub largest-sums-spec : {M : Type 1} → statement M
 largest-sums-spec =

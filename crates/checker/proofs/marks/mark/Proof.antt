@@ -1,30 +1,22 @@
 -- `checker::marks::mark` meets its contract.
 use mathlib.Core.Path.{sym, ap, _∙_}
 use Rattle.lists.proofs.Positions.{head-in}
-use Rattle.lists.specs.Lists.{planOf}
-use Rattle.checker.proofs.Marking.{in-window, marks-reach}
 use native.Mathlib.Omega.{arith}
 use borrow.Author.Needs.{needs}
 use Rattle.checker.proofs.marks.mark.Statement.{statement}
 use Rattle.checker.proofs.marks.mark.Tie as tie
-use Rattle.amounts.proofs.rows.reach.Reads as reach-reads
 use Rattle.checker.proofs.marks.mark_flows.Reads as mark-flows-reads
 use Rattle.checker.proofs.marks.mark_tunnels.Reads as mark-tunnels-reads
 use Rattle.lists.proofs.Network.by_flow.Reads as by-flow-reads
 
-reach-requires : tie.Need-reach-requires
-reach-requires c κs = search needs
-
 by-flow-requires : tie.Need-by-flow-requires
-by-flow-requires c κs = head-in _ (c .before .before .before .before .pre .0 .network .ranges .sized .size)
+by-flow-requires c κs = head-in _ (c .before .before .before .pre .pair .network .ranges .sized .size)
 
 mark-flows-requires : tie.Need-mark-flows-requires
-unfolding planOf
-mark-flows-requires c κs = (c .before .before .before .before .before .before .before .pre .0, sym (c .before .before .by-flow .ensures) ∙ c .before .if1 .taken, record { rows = in-window _ _ _ _ _ (c .before .before .before .reach .ensures) (c .before .before .before .before .before .before .before .pre .2); link = c .before .before .before .before .before .before .before .pre .3; room = c .before .before .before .before .before .before .before .pre .4 })
+mark-flows-requires c κs = (c .before .before .before .before .before .before .pre, sym (c .before .before .by-flow .ensures) ∙ c .before .if1 .taken)
 
 mark-tunnels-requires : tie.Need-mark-tunnels-requires
-unfolding planOf
-mark-tunnels-requires c κs = (c .before .before .before .before .before .before .before .pre .0, sym (c .before .before .by-flow .ensures) ∙ c .before .if1 .left, record { rows = in-window _ _ _ _ _ (c .before .before .before .reach .ensures) (c .before .before .before .before .before .before .before .pre .2); link = c .before .before .before .before .before .before .before .pre .3; room = c .before .before .before .before .before .before .before .pre .4 })
+mark-tunnels-requires c κs = (c .before .before .before .before .before .before .pre, sym (c .before .before .by-flow .ensures) ∙ c .before .if1 .left)
 
 same-length : tie.Need-same-length
 same-length c = search needs
