@@ -21,12 +21,6 @@ is-lag-requires c κs = search needs
 returns : tie.Need-returns
 returns c = lag-gives (c .before .before .before .before .before .args .lag) (c .before .before .before .before .before .args .network .now) (c .before .before .before .before .before .args .plan .now) (c .before .before .before .before .before .args .marks .now) (sym (c .before .is-lag .ensures) ∙ not-true _ (c .if1 .taken))
 
-is-lag-requires : tie.Need-is-lag-requires
-is-lag-requires c κs = search needs
-
-returns : tie.Need-returns
-returns c = outside-gives (c .before .before .before .before .before .args .lag) (c .before .before .before .before .before .args .network .now) (c .before .before .before .before .before .args .plan .now) (c .before .before .before .before .before .args .marks .now) (sym (c .before .is-lag .ensures) ∙ not-true _ (c .if1 .taken))
-
 judge-pair-requires : tie.Need-judge-pair-requires
 judge-pair-requires c κs = search needs
 

@@ -1,11 +1,10 @@
 -- `checker::check::check_steps` meets its contract.
-use Prim.Native.Nat.{_≤_, _<_}
 use mathlib.Core.Path.{_≡_, sym, ap, _∙_}
 use Rattle.model.specs.Rule.{stepCount, firstOverload}
 use Rattle.lists.specs.Lists.{networkOf, planOf}
 use Rattle.lists.specs.declared.Network as counts
 use Rattle.lists.proofs.Positions.{head-in}
-use Rattle.checker.proofs.Checking.{Named, none-gives, found-none, found-some, found-in, found-low, found-gives}
+use Rattle.checker.proofs.Checking.{Named, none-gives, found-none, found-some, found-in, found-gives}
 use native.Mathlib.Omega.{arith}
 use borrow.Author.Needs.{needs}
 use Rattle.checker.proofs.check.check_steps.Statement.{statement}
@@ -16,7 +15,7 @@ use Rattle.lists.proofs.Network.of.Reads as of-reads
 use Rattle.overloads.proofs.steps.first_overload.Reads as first-overload-reads
 
 first-overload-requires : tie.Need-first-overload-requires
-first-overload-requires c κs = (c .before .before .before .pre .0, c .before .before .before .pre .1 .0, c .before .before .before .pre .1 .1)
+first-overload-requires c κs = search needs
 
 enum-known-found : tie.Need-enum-known-found
 enum-known-found c = search needs

@@ -1,5 +1,5 @@
 -- `checker::marks::mark` meets its contract.
-use mathlib.Core.Path.{sym, ap, _∙_}
+use mathlib.Core.Path.{sym, _∙_}
 use Rattle.lists.proofs.Positions.{head-in}
 use native.Mathlib.Omega.{arith}
 use borrow.Author.Needs.{needs}
@@ -22,21 +22,18 @@ same-length : tie.Need-same-length
 same-length c = search needs
 
 returns : tie.Need-returns
-unfolding planOf
-returns c = c .before .before .mark-flows .ensures ∙ marks-reach _ _ _ _ _ _ _ _ (c .before .before .before .before .before .before .reach .ensures) (c .before .before .before .before .before .before .before .before .before .before .pre .2)
+returns c = search needs
 
 same-length-2 : tie.Need-same-length-2
 same-length-2 c = search needs
 
 returns-2 : tie.Need-returns-2
-unfolding planOf
-returns-2 c = c .before .before .mark-tunnels .ensures ∙ marks-reach _ _ _ _ _ _ _ _ (c .before .before .before .before .before .before .reach .ensures) (c .before .before .before .before .before .before .before .before .before .before .pre .2)
+returns-2 c = search needs
 
 pub mark-spec : {M : Type 1} → statement M
 mark-spec =
     tie.close
     (tie.spec
-    reach-requires
     by-flow-requires
     mark-flows-requires
     mark-tunnels-requires

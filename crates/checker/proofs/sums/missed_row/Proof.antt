@@ -65,13 +65,16 @@ module _ (c : tie.After-missed-flow Inv-loop μ-loop) where
   unfolding networkOf
   few = start sizes .pre .network .ranges .sized .counts .flows
 
+  this : suc (c .before .before .before .before .before .before .loop .a - 1) ≡ c .before .before .before .before .before .before .loop .a
+  this = omega (arith, c .before .before .before .before .before .before .loop .inv .1)
+
   met : N sizes .flows ≤ c .missed-flow .result → missed sizes (c .before .before .before .before .before .before .loop .a) ≡ none
   unfolding networkOf
-  met h = row-met (N sizes) (P sizes) (c .before .before .before .before .before .before .loop .a) _ (c .before .before .before .row-sums .ensures) few _ (missed-at _ _ _ _ _ (parts sizes) (c .missed-flow .ensures)) h
+  met h = row-met (N sizes) (P sizes) (c .before .before .before .before .before .before .loop .a) _ (rw this at (c .before .before .before .row-sums .ensures)) few _ (missed-at _ _ _ _ _ (parts sizes) (c .missed-flow .ensures)) h
 
   found : c .missed-flow .result < N sizes .flows → missed sizes (c .before .before .before .before .before .before .loop .a) ≡ some (record { place = c .before .before .before .before .before .before .loop .a; second = c .missed-flow .result })
   unfolding networkOf
-  found h = row-missed (N sizes) (P sizes) (c .before .before .before .before .before .before .loop .a) _ (c .before .before .before .row-sums .ensures) few _ (missed-at _ _ _ _ _ (parts sizes) (c .missed-flow .ensures)) h
+  found h = row-missed (N sizes) (P sizes) (c .before .before .before .before .before .before .loop .a) _ (rw this at (c .before .before .before .row-sums .ensures)) few _ (missed-at _ _ _ _ _ (parts sizes) (c .missed-flow .ensures)) h
 
 of-requires : tie.Need-of-requires Inv-loop μ-loop
 of-requires c κs = head-in _ (c .before .before .pre .network .ranges .sized .size)
@@ -82,6 +85,9 @@ of-requires-2 c κs = search needs
 loop-holds : tie.Need-loop-holds Inv-loop μ-loop
 unfolding planOf
 loop-holds c = (omega (arith, steps c, start c .pre .plan .steps), omega arith, first-on _ _ (first-zero _) (first-row-met (N c) (P c) (start c .pre .network .sums)))
+
+sub-row-sums : tie.Need-sub-row-sums Inv-loop μ-loop
+sub-row-sums c = omega (arith, c .before .loop .inv .1)
 
 slice-aggregate-row-sums : tie.Need-slice-aggregate-row-sums Inv-loop μ-loop
 slice-aggregate-row-sums c = search needs
@@ -131,6 +137,7 @@ missed-row-spec =
     of-requires
     of-requires-2
     loop-holds
+    sub-row-sums
     slice-aggregate-row-sums
     row-sums-requires
     slice-aggregate-missed-flow

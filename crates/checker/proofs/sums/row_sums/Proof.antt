@@ -19,10 +19,10 @@ use Rattle.checker.proofs.sums.row_sums.Statement.{statement}
 use Rattle.checker.proofs.sums.row_sums.Tie as tie
 
 abbrev Inv-loop : tie.InvT-loop
-Inv-loop network plan a sums₀ sizes t₀ sums t = record { low : t ≤ sizes .tunnels; gathered : Gathered (networkOf network) (row (networkOf network) (planOf plan) a) t sums }
+Inv-loop network plan i sums₀ sizes t₀ sums t = record { low : t ≤ sizes .tunnels; gathered : Gathered (networkOf network) (row (networkOf network) (planOf plan) (suc i)) t sums }
 
 abbrev μ-loop : tie.MeasureT-loop
-μ-loop network plan a sums₀ sizes t₀ sums t = sizes .tunnels - t
+μ-loop network plan i sums₀ sizes t₀ sums t = sizes .tunnels - t
 
 place : (c : tie.After-tunnel-at Inv-loop μ-loop) → TunnelPlace (c .before .before .before .before .before .before .before .before .args .network .now) (c .before .before .before .loop .t) (c .tunnel-at .result)
 place c = tunnel-place _ (c .before .before .before .before .before .before .before .before .pre .0 .network .ranges .sized) _ (c .before .before .before .before .of .ensures) _ _ (c .before .if1 .taken) (c .tunnel-at .ensures)
@@ -42,8 +42,8 @@ mul-flow c = record { fits = omega (arith, place c .few) }
 shared-slice-read-flow : tie.Need-shared-slice-read-flow Inv-loop μ-loop
 shared-slice-read-flow c = omega (arith, place (c .before) .within)
 
-before-requires : tie.Need-before-requires Inv-loop μ-loop
-before-requires c κs = (c .before .before .before .before .before .before .before .before .before .pre .0, c .before .before .before .before .before .before .before .before .before .pre .1, place (c .before) .there)
+after-requires : tie.Need-after-requires Inv-loop μ-loop
+after-requires c κs = (c .before .before .before .before .before .before .before .before .before .pre .0, c .before .before .before .before .before .before .before .before .before .pre .1, place (c .before) .there)
 
 mul-sums : tie.Need-mul-sums Inv-loop μ-loop
 mul-sums c = let p = place (c .before .before) in record { fits = omega (arith, flow-low _ (c .before .before .before .before .before .before .before .before .before .before .pre .0 .network) _ _ p, c .before .before .before .before .before .before .before .before .before .before .pre .0 .network .ranges .sized .counts) }
@@ -53,7 +53,7 @@ slice-read-sums c = let p = place (c .before .before .before) in omega (arith, c
 
 add-sums : tie.Need-add-sums Inv-loop μ-loop
 add-sums c = let p = place (c .before .before .before) in
-    record { fits = rw (flow-here _ (c .before .before .before .before .before .before .before .before .before .before .before .pre .0 .network) _ _ p, c .before .before2 .ensures) (gathered-fits (networkOf (c .before .before .before .before .before .before .before .before .before .before .before .args .network .now)) _ (mostAmount * mostSteps) (c .before .before .before .before .before .before .loop .t) _ _ (omega arith) (c .before .before .before .before .before .before .loop .inv .gathered) (lt-of-lt-of-le (rw (← flow-here _ (c .before .before .before .before .before .before .before .before .before .before .before .pre .0 .network) _ _ p) (flow-low _ (c .before .before .before .before .before .before .before .before .before .before .before .pre .0 .network) _ _ p)) (c .before .before .before .before .before .before .before .before .before .before .before .pre .0 .network .ranges .sized .counts .flows)) (omega (arith, p .there, c .before .before .before .before .before .before .before .before .before .before .before .pre .0 .network .ranges .sized .counts)) (λ u h. row-small _ _ (c .before .before .before .before .before .before .before .before .before .before .before .pre .0) _ u (omega (arith, c .before .before .before .before .before .before .before .before .before .before .before .pre .1)) (omega (arith, p .there)))) }
+    record { fits = rw (flow-here _ (c .before .before .before .before .before .before .before .before .before .before .before .pre .0 .network) _ _ p, c .before .after .ensures) (gathered-fits (networkOf (c .before .before .before .before .before .before .before .before .before .before .before .args .network .now)) _ (mostAmount * mostSteps) (c .before .before .before .before .before .before .loop .t) _ _ (omega arith) (c .before .before .before .before .before .before .loop .inv .gathered) (lt-of-lt-of-le (rw (← flow-here _ (c .before .before .before .before .before .before .before .before .before .before .before .pre .0 .network) _ _ p) (flow-low _ (c .before .before .before .before .before .before .before .before .before .before .before .pre .0 .network) _ _ p)) (c .before .before .before .before .before .before .before .before .before .before .before .pre .0 .network .ranges .sized .counts .flows)) (omega (arith, p .there, c .before .before .before .before .before .before .before .before .before .before .before .pre .0 .network .ranges .sized .counts)) (λ u h. row-small _ _ (c .before .before .before .before .before .before .before .before .before .before .before .pre .0) _ u (c .before .before .before .before .before .before .before .before .before .before .before .pre .1) (omega (arith, p .there)))) }
 
 slice-write-sums : tie.Need-slice-write-sums Inv-loop μ-loop
 slice-write-sums c = let p = place (c .before .before .before) in omega (arith, c .before .before .before .before .before .before .loop .inv .gathered .size, flow-low _ (c .before .before .before .before .before .before .before .before .before .before .before .pre .0 .network) _ _ p, c .before .before .before .before .before .before .before .before .before .before .before .pre .0 .network .ranges .sized .counts)
@@ -68,7 +68,7 @@ loop-again : tie.Need-loop-again Inv-loop μ-loop
 loop-again c = let p = place (c .before .before .before) in
     record {
       low = omega (arith, c .before .before .before .before .if1 .taken);
-      gathered = rw (flow-here _ (c .before .before .before .before .before .before .before .before .before .before .before .pre .0 .network) _ _ p, c .before .before2 .ensures) (gathered-more (networkOf (c .before .before .before .before .before .before .before .before .before .before .before .args .network .now)) _ (c .before .before .before .before .before .before .loop .t) _ (lt-of-lt-of-le (rw (← flow-here _ (c .before .before .before .before .before .before .before .before .before .before .before .pre .0 .network) _ _ p) (flow-low _ (c .before .before .before .before .before .before .before .before .before .before .before .pre .0 .network) _ _ p)) (c .before .before .before .before .before .before .before .before .before .before .before .pre .0 .network .ranges .sized .counts .flows)) (c .before .before .before .before .before .before .loop .inv .gathered));
+      gathered = rw (flow-here _ (c .before .before .before .before .before .before .before .before .before .before .before .pre .0 .network) _ _ p, c .before .after .ensures) (gathered-more (networkOf (c .before .before .before .before .before .before .before .before .before .before .before .args .network .now)) _ (c .before .before .before .before .before .before .loop .t) _ (lt-of-lt-of-le (rw (← flow-here _ (c .before .before .before .before .before .before .before .before .before .before .before .pre .0 .network) _ _ p) (flow-low _ (c .before .before .before .before .before .before .before .before .before .before .before .pre .0 .network) _ _ p)) (c .before .before .before .before .before .before .before .before .before .before .before .pre .0 .network .ranges .sized .counts .flows)) (c .before .before .before .before .before .before .loop .inv .gathered));
     }
 
 same-length : tie.Need-same-length Inv-loop μ-loop
@@ -88,7 +88,7 @@ row-sums-spec =
     tunnel-at-requires
     mul-flow
     shared-slice-read-flow
-    before-requires
+    after-requires
     mul-sums
     slice-read-sums
     add-sums
