@@ -86,13 +86,7 @@ fn add_largest(
 }
 
 // The loads of the links, whatever is in the table before: each flow adds, on each link, the largest of its sums in a window.
-pub fn gather_flows(
-    network: &[u64],
-    vias: &[u64],
-    times: usize,
-    amounts: &[u64],
-    loads: &mut [u64],
-)
+pub fn gather_flows(network: &[u64], vias: &[u64], times: usize, amounts: &[u64], loads: &mut [u64])
     requires { ⌜ GoodNetwork (now network) × (mostTunnels ≤ length (now vias)) × SetsWithin (networkSizes (now network) .links) (now vias) (networkSizes (now network) .tunnels) × AmountTable (networkSizes (now network) .tunnels) (now amounts) × (length (now loads) ≡ loadsSize) ⌝ }
     ensures { λ _. ⌜ LoadsWithin (networkSizes (now (network .entry)) .links) (mostFlows * mostTunnels) (now (loads .exit)) ⌝ }
     ensures { λ _. ⌜ FlowLoads (networkSizes (now (network .entry)) .links) (now (vias .entry)) (networkOf (now (network .entry)) .flow) (networkSizes (now (network .entry)) .tunnels) (networkOf (now (network .entry)) .class) (networkSizes (now (network .entry)) .flows) times (now (amounts .entry)) (now (loads .exit)) ⌝ }

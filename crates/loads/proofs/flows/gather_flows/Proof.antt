@@ -97,11 +97,11 @@ loop-less c = search needs
 loop-again : tie.Need-loop-again Inv-loop μ-loop
 loop-again c = let here : c .before .before .before .before .before .before .before .before .before .before .before .before .before .before .before .loop .f < mostFlows = omega (arith, c .before .before .before .before .before .before .before .before .before .before .before .before .before .if1 .taken, ap (λ (n : counts.Network). n .flows) (c .before .before .before .before .before .before .before .before .before .before .before .before .before .before .before .before .before .before .before .before .before .before .before .before .before .before .of .ensures), c .before .before .before .before .before .before .before .before .before .before .before .before .before .before .before .before .before .before .before .before .before .before .before .before .before .before .before .before .before .before .before .pre .0 .ranges .sized .counts) in
     record {
-  low = omega (arith, c .before .before .before .before .before .before .before .before .before .before .before .before .before .if1 .taken);
-  summed = flows-more _ _ _ _ _ _ _ _ _ _ _ _ _ _ _ _ (c .before .before .before .before .before .before .part-of .ensures .0 ∙ ap partOf (flow-class _ _ _ (flow-place _ (c .before .before .before .before .before .before .before .before .before .before .before .before .before .before .before .before .before .before .before .before .before .before .before .before .before .before .before .before .before .before .before .pre .0 .ranges .sized) _ (c .before .before .before .before .before .before .before .before .before .before .before .before .before .before .before .before .before .before .before .before .before .before .before .before .before .before .of .ensures) _ _ (c .before .before .before .before .before .before .before .before .before .before .before .before .before .if1 .taken) (c .before .before .before .before .before .before .before .before .flow-at .ensures))), c .before .before .before .before .before .before .part-of .ensures .1) (chain-of _ _ _ _ (c .before .before .before .before .before .before .before .before .before .before .before .before .before .before .before .before .before .before .before .before .before .before .before .chain .ensures) _ here) (c .before .before .before .before .before .before .before .before .before .before .chain-sums .ensures) (c .before .before .before .add-largest .ensures .0) (c .before .before .before .before .before .before .before .before .before .before .before .before .before .before .before .loop .inv .summed) (c .before .before .before .add-largest .ensures .1);
-  room = room-more _ _ _ _ _ _ _ _ _ _ (c .before .before .before .before .before .before .part-of .ensures .1) (c .before .before .before .before .before .before .before .before .before .before .chain-sums .ensures .within) (c .before .before .before .add-largest .ensures .0) (c .before .before .before .before .before .before .before .before .before .before .before .before .before .before .before .loop .inv .room) (c .before .before .before .add-largest .ensures .1);
-  size = c .before .before .before .add-largest .ensures .0 .size ∙ c .before .before .before .before .before .before .before .before .before .before .chain-sums .ensures .within .size;
-}
+      low = omega (arith, c .before .before .before .before .before .before .before .before .before .before .before .before .before .if1 .taken);
+      summed = flows-more _ _ _ _ _ _ _ _ _ _ _ _ _ _ _ _ (c .before .before .before .before .before .before .part-of .ensures .0 ∙ ap partOf (flow-class _ _ _ (flow-place _ (c .before .before .before .before .before .before .before .before .before .before .before .before .before .before .before .before .before .before .before .before .before .before .before .before .before .before .before .before .before .before .before .pre .0 .ranges .sized) _ (c .before .before .before .before .before .before .before .before .before .before .before .before .before .before .before .before .before .before .before .before .before .before .before .before .before .before .of .ensures) _ _ (c .before .before .before .before .before .before .before .before .before .before .before .before .before .if1 .taken) (c .before .before .before .before .before .before .before .before .flow-at .ensures))), c .before .before .before .before .before .before .part-of .ensures .1) (chain-of _ _ _ _ (c .before .before .before .before .before .before .before .before .before .before .before .before .before .before .before .before .before .before .before .before .before .before .before .chain .ensures) _ here) (c .before .before .before .before .before .before .before .before .before .before .chain-sums .ensures) (c .before .before .before .add-largest .ensures .0) (c .before .before .before .before .before .before .before .before .before .before .before .before .before .before .before .loop .inv .summed) (c .before .before .before .add-largest .ensures .1);
+      room = room-more _ _ _ _ _ _ _ _ _ _ (c .before .before .before .before .before .before .part-of .ensures .1) (c .before .before .before .before .before .before .before .before .before .before .chain-sums .ensures .within) (c .before .before .before .add-largest .ensures .0) (c .before .before .before .before .before .before .before .before .before .before .before .before .before .before .before .loop .inv .room) (c .before .before .before .add-largest .ensures .1);
+      size = c .before .before .before .add-largest .ensures .0 .size ∙ c .before .before .before .before .before .before .before .before .before .before .chain-sums .ensures .within .size;
+    }
 
 same-length : tie.Need-same-length Inv-loop μ-loop
 same-length c = c .before .before .loop .inv .summed .size ∙ sym (c .before .before .before .before .before .before .before .before .before .before .before .before .before .before .before .before .before .before .pre .4)
