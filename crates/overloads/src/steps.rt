@@ -62,11 +62,8 @@ fn times_widened(lag: u64, network: &[u64], plan: &[u64]) -> usize
     ensures { λ r. ⌜ r ≡ timesWidened lag (networkOf (now (network .entry))) (planOf (now (plan .entry))) ⌝ }
 {
     let reach = rows::reach(lag, plan);
-    if Network::by_flow(network) {
-        reach
-    } else {
-        reach - 1
-    }
+    let whole = Network::by_flow(network);
+    if whole { reach } else { reach - 1 }
 }
 
 // How many steps are looked at.
