@@ -20,21 +20,15 @@ sub-last c = omega (arith, c .per-flow .ensures, flow-some (c .before .before .a
 slice-aggregate-gather : tie.Need-slice-aggregate-gather
 slice-aggregate-gather c = search needs
 
-slice-aggregate-gather-2 : tie.Need-slice-aggregate-gather-2
-slice-aggregate-gather-2 c = search needs
-
 gather-requires : tie.Need-gather-requires
 gather-requires c κs = search needs
 
 slice-aggregate-first-missed : tie.Need-slice-aggregate-first-missed
 slice-aggregate-first-missed c = search needs
 
-slice-aggregate-first-missed-2 : tie.Need-slice-aggregate-first-missed-2
-slice-aggregate-first-missed-2 c = search needs
-
 first-missed-requires : tie.Need-first-missed-requires
 unfolding nextIn
-first-missed-requires c κs = ((c .before .before .before .before .before .before .before .before .before .pre .0, c .before .before .before .before .before .before .before .before .before .pre .1, ap (λ (p : ℕ). p - 1) (c .before .before .before .before .before .before .before .per-flow .ensures)), (c .before .before .before .before .gather .ensures .0, c .before .before .before .before .gather .ensures .1))
+first-missed-requires c κs = ((c .before .before .before .before .before .before .pre .0, c .before .before .before .before .before .before .pre .1, ap (λ (p : ℕ). p - 1) (c .before .before .before .before .per-flow .ensures)), c .before .before .gather .ensures)
 
 returns : tie.Need-returns
 returns c = search needs
@@ -46,9 +40,7 @@ add-up-spec =
     per-flow-requires
     sub-last
     slice-aggregate-gather
-    slice-aggregate-gather-2
     gather-requires
     slice-aggregate-first-missed
-    slice-aggregate-first-missed-2
     first-missed-requires
     returns)

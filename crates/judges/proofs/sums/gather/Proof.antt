@@ -1,6 +1,6 @@
 -- `judges::sums::gather` meets its contract.
-use Prim.Native.Nat.{ℕ, _≤_, _<_, _+_, _-_, _^_}
-use mathlib.Core.Path.{_≡_, sym, ap, _∙_}
+use Prim.Native.Nat.{ℕ, _≤_, _<_, _+_, _*_, _-_, _^_}
+use mathlib.Core.Path.{_≡_, sym, ap, ap₂, _∙_}
 use mathlib.Core.List.{List}
 use native.Mathlib.Nat.{lt-of-lt-of-le}
 use lib.ListN.{length, getD}
@@ -10,7 +10,7 @@ use Rattle.lists.specs.Lists.{at, networkSizes, networkOf}
 use Rattle.lists.specs.Good.{NetworkRanges}
 use Rattle.lists.specs.declared.Network as counts
 use Rattle.lists.proofs.Positions.{TunnelPlace, tunnel-place, limited}
-use Rattle.judges.specs.Sums.{Gathered}
+use Rattle.judges.specs.Sums.{Gathered, pairOf}
 use Rattle.judges.proofs.Gathering.{gathered-none, gathered-more, gathered-fits}
 use native.Mathlib.Omega.{arith}
 use borrow.Author.Needs.{needs}
@@ -20,19 +20,15 @@ use Rattle.judges.proofs.sums.add.Reads as add-reads
 use Rattle.lists.proofs.Network.tunnel_at.Reads as tunnel-at-reads
 
 abbrev Inv-loop : tie.InvT-loop
-Inv-loop list sizes old₀ new₀ t₀ old new t = record {
-  within : t ≤ sizes .tunnels;
-  olds : Gathered (networkOf list) (networkOf list .old) t old;
-  news : Gathered (networkOf list) (networkOf list .new) t new;
-}
+Inv-loop list sizes sums₀ t₀ sums t = (t ≤ sizes .tunnels) × Gathered (networkOf list) (pairOf (networkOf list)) t sums
 
 abbrev μ-loop : tie.MeasureT-loop
-μ-loop list sizes old₀ new₀ t₀ old new t = sizes .tunnels - t
+μ-loop list sizes sums₀ t₀ sums t = sizes .tunnels - t
 
--- in a turn: the tunnel's place, its flow, and that the sums fit
+-- in a turn: the tunnel's place, its flow and its amounts, and that the sum fits
 module _ (c : tie.After-tunnel-at Inv-loop μ-loop) where
   abbrev begin : tie.Start Inv-loop μ-loop
-  begin = (c .before .before .before .before .before .before .before)
+  begin = (c .before .before .before .before .before .before)
 
   abbrev list : List ℕ
   list = begin .args .list .now
@@ -44,10 +40,10 @@ module _ (c : tie.After-tunnel-at Inv-loop μ-loop) where
   t = c .before .before .before .loop .t
 
   abbrev ranges : NetworkRanges list
-  ranges = begin .pre .0 .0
+  ranges = begin .pre .0
 
   place : TunnelPlace list t (c .tunnel-at .result)
-  place = tunnel-place list (ranges .sized) _ (begin .pre .0 .1) t _ (c .before .if1 .taken) (c .tunnel-at .ensures)
+  place = tunnel-place list (ranges .sized) _ (begin .pre .1) t _ (c .before .if1 .taken) (c .tunnel-at .ensures)
 
   flow-at : getD list (c .tunnel-at .result) 0 ≡ N .flow t
   unfolding networkOf
@@ -57,59 +53,62 @@ module _ (c : tie.After-tunnel-at Inv-loop μ-loop) where
   unfolding networkOf
   flow-low = lt-of-lt-of-le (ranges .tunnels .flow t (place .there)) (ranges .sized .counts .flows)
 
-  old-at : getD list (c .tunnel-at .result + 2) 0 ≡ N .old t
-  unfolding networkOf
-  old-at = ap (λ (i : ℕ). at list (i + 2)) (place .here)
+  old-low : getD list (c .tunnel-at .result + 2) 0 ≤ mostAmount
+  old-low = omega (arith, ap (λ (i : ℕ). at list (i + 2)) (place .here), ranges .tunnels .old t (place .there))
 
-  new-at : getD list (c .tunnel-at .result + 3) 0 ≡ N .new t
-  unfolding networkOf
-  new-at = ap (λ (i : ℕ). at list (i + 3)) (place .here)
+  new-low : getD list (c .tunnel-at .result + 3) 0 ≤ mostAmount
+  new-low = omega (arith, ap (λ (i : ℕ). at list (i + 3)) (place .here), ranges .tunnels .new t (place .there))
 
-  old-fits : getD (c .before .before .before .loop .old) (N .flow t) 0 + N .old t < 2 ^ 64
-  unfolding networkOf
-  old-fits = gathered-fits N (N .old) mostAmount t _ _ (omega arith) (c .before .before .before .loop .inv .olds) flow-low (omega (arith, place .there, ranges .sized .counts)) (λ u k. ranges .tunnels .old u (omega (arith, place .there)))
+  pair-at : getD list (c .tunnel-at .result + 2) 0 + getD list (c .tunnel-at .result + 3) 0 * 2 ^ 32 ≡ pairOf N t
+  unfolding networkOf pairOf
+  pair-at = ap (λ (i : ℕ). at list (i + 2) + at list (i + 3) * 2 ^ 32) (place .here)
 
-  new-fits : getD (c .before .before .before .loop .new) (N .flow t) 0 + N .new t < 2 ^ 64
-  unfolding networkOf
-  new-fits = gathered-fits N (N .new) mostAmount t _ _ (omega arith) (c .before .before .before .loop .inv .news) flow-low (omega (arith, place .there, ranges .sized .counts)) (λ u k. ranges .tunnels .new u (omega (arith, place .there)))
+  pair-small : (u : ℕ) → u < t + 1 → pairOf N u ≤ mostAmount + mostAmount * 2 ^ 32
+  unfolding networkOf pairOf
+  pair-small u k = omega (arith, ranges .tunnels .old u (omega (arith, place .there)), ranges .tunnels .new u (omega (arith, place .there)))
+
+  sum-fits : getD (c .before .before .before .loop .sums) (N .flow t) 0 + pairOf N t < 2 ^ 64
+  sum-fits = gathered-fits N (pairOf N) (mostAmount + mostAmount * 2 ^ 32) t _ _ (omega arith) (c .before .before .before .loop .inv .1) flow-low (omega (arith, place .there, ranges .sized .counts)) pair-small
 
 loop-holds : tie.Need-loop-holds Inv-loop μ-loop
-loop-holds c = record { within = omega arith; olds = gathered-none _ _ _ (c .before .before .before .pre .1 .0); news = gathered-none _ _ _ (c .before .before .before .pre .1 .1) }
+loop-holds c = (omega arith, gathered-none _ _ _ (c .before .before .pre .2))
 
 tunnel-at-requires : tie.Need-tunnel-at-requires Inv-loop μ-loop
-tunnel-at-requires c κs = (limited _ (c .before .before .before .before .before .before .pre .0 .0 .sized) _ (c .before .before .before .before .before .before .pre .0 .1), omega (arith, c .if1 .taken))
+tunnel-at-requires c κs = (limited _ (c .before .before .before .before .before .pre .0 .sized) _ (c .before .before .before .before .before .pre .1), omega (arith, c .if1 .taken))
 
 mul-flow : tie.Need-mul-flow Inv-loop μ-loop
-mul-flow c = record { fits = omega (arith, place c .few) }
+mul-flow c = record { fits = omega (arith, place (c) .few) }
 
 shared-slice-read-flow : tie.Need-shared-slice-read-flow Inv-loop μ-loop
 shared-slice-read-flow c = omega (arith, place (c .before) .within)
 
-add-add : tie.Need-add-add Inv-loop μ-loop
-add-add c = record { fits = omega (arith, place (c .before .before) .few) }
+add-old : tie.Need-add-old Inv-loop μ-loop
+add-old c = record { fits = omega (arith, place (c .before) .few) }
+
+mul-old : tie.Need-mul-old Inv-loop μ-loop
+mul-old c = record { fits = omega (arith, place (c .before) .few) }
+
+shared-slice-read-old : tie.Need-shared-slice-read-old Inv-loop μ-loop
+shared-slice-read-old c = omega (arith, place (c .before .before) .within)
+
+add-new : tie.Need-add-new Inv-loop μ-loop
+add-new c = record { fits = omega (arith, place (c .before .before) .few) }
+
+mul-new : tie.Need-mul-new Inv-loop μ-loop
+mul-new c = record { fits = omega (arith, place (c .before .before) .few) }
+
+shared-slice-read-new : tie.Need-shared-slice-read-new Inv-loop μ-loop
+shared-slice-read-new c = omega (arith, place (c .before .before .before) .within)
 
 mul-add : tie.Need-mul-add Inv-loop μ-loop
-mul-add c = record { fits = omega (arith, place (c .before .before) .few) }
+mul-add c = record { fits = omega (arith, new-low (c .before .before .before .before)) }
 
-shared-slice-read-add : tie.Need-shared-slice-read-add Inv-loop μ-loop
-shared-slice-read-add c = omega (arith, place (c .before .before .before) .within)
+add-add : tie.Need-add-add Inv-loop μ-loop
+add-add c = record { fits = omega (arith, old-low (c .before .before .before .before), new-low (c .before .before .before .before)) }
 
 add-requires : tie.Need-add-requires Inv-loop μ-loop
-add-requires c κs = let p = (c .before .before .before) in
-    rw (flow-at p, old-at p) (rw (c .before .before .before .before .before .before .loop .inv .olds .size) (flow-low p), old-fits p)
-
-add-add-2 : tie.Need-add-add-2 Inv-loop μ-loop
-add-add-2 c = record { fits = omega (arith, place (c .before .before .before .before .before .before .before) .few) }
-
-mul-add-2 : tie.Need-mul-add-2 Inv-loop μ-loop
-mul-add-2 c = record { fits = omega (arith, place (c .before .before .before .before .before .before .before) .few) }
-
-shared-slice-read-add-2 : tie.Need-shared-slice-read-add-2 Inv-loop μ-loop
-shared-slice-read-add-2 c = omega (arith, place (c .before .before .before .before .before .before .before .before) .within)
-
-add-requires-2 : tie.Need-add-requires-2 Inv-loop μ-loop
-add-requires-2 c κs = let p = (c .before .before .before .before .before .before .before .before) in
-    rw (flow-at p, new-at p) (rw (c .before .before .before .before .before .before .before .before .before .before .before .loop .inv .news .size) (flow-low p), new-fits p)
+add-requires c κs = let p = (c .before .before .before .before) in
+    rw (flow-at p, pair-at p) (rw (c .before .before .before .before .before .before .before .loop .inv .1 .size) (flow-low p), sum-fits p)
 
 add-t : tie.Need-add-t Inv-loop μ-loop
 add-t c = search needs
@@ -118,23 +117,16 @@ loop-less : tie.Need-loop-less Inv-loop μ-loop
 loop-less c = search needs
 
 loop-again : tie.Need-loop-again Inv-loop μ-loop
-loop-again c = let p = (c .before .before .before .before .before .before .before .before .before .before .before) in
-    record {
-      within = omega (arith, c .before .before .before .before .before .before .before .before .before .before .before .before .if1 .taken);
-      olds = rw (c .before .before .before .before .before .before .before .add .ensures, flow-at p, old-at p) (gathered-more _ _ (t p) _ (flow-low p) (c .before .before .before .before .before .before .before .before .before .before .before .before .before .before .loop .inv .olds));
-      news = rw (c .before .before .add2 .ensures, flow-at p, new-at p) (gathered-more _ _ (t p) _ (flow-low p) (c .before .before .before .before .before .before .before .before .before .before .before .before .before .before .loop .inv .news));
-    }
+loop-again c = let p = (c .before .before .before .before .before .before .before) in
+    (omega (arith, c .before .before .before .before .before .before .before .before .if1 .taken), rw (c .before .before .add .ensures, flow-at p, pair-at p) (gathered-more _ _ (t p) _ (flow-low p) (c .before .before .before .before .before .before .before .before .before .before .loop .inv .1)))
 
 same-length : tie.Need-same-length Inv-loop μ-loop
-same-length c = c .before .before .loop .inv .olds .size ∙ sym (ap length (c .before .before .before .before .before .before .pre .1 .0))
-
-same-length-2 : tie.Need-same-length-2 Inv-loop μ-loop
-same-length-2 c = c .before .before .loop .inv .news .size ∙ sym (ap length (c .before .before .before .before .before .before .pre .1 .1))
+same-length c = c .before .before .loop .inv .1 .size ∙ sym (ap length (c .before .before .before .before .before .pre .2))
 
 returns : tie.Need-returns Inv-loop μ-loop
 unfolding networkOf
-returns c = let e : c .before .before .loop .t ≡ networkSizes (c .before .before .before .before .before .before .args .list .now) .tunnels = omega (arith, c .before .before .loop .inv .within, ap (λ (n : counts.Network). n .tunnels) (c .before .before .before .before .before .before .pre .0 .1)) in
-    (rw e at (c .before .before .loop .inv .olds), rw e at (c .before .before .loop .inv .news))
+returns c = let e : c .before .before .loop .t ≡ networkSizes (c .before .before .before .before .before .args .list .now) .tunnels = omega (arith, c .before .before .loop .inv .0, c .if1 .left, ap (λ (n : counts.Network). n .tunnels) (c .before .before .before .before .before .pre .1)) in
+    rw e at (c .before .before .loop .inv .1)
 
 pub gather-spec : {M : Type 1} → statement M
 gather-spec =
@@ -146,17 +138,17 @@ gather-spec =
     tunnel-at-requires
     mul-flow
     shared-slice-read-flow
-    add-add
+    add-old
+    mul-old
+    shared-slice-read-old
+    add-new
+    mul-new
+    shared-slice-read-new
     mul-add
-    shared-slice-read-add
+    add-add
     add-requires
-    add-add-2
-    mul-add-2
-    shared-slice-read-add-2
-    add-requires-2
     add-t
     loop-less
     loop-again
     same-length
-    same-length-2
     returns)
