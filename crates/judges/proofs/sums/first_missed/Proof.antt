@@ -119,7 +119,7 @@ shared-slice-read-sum : tie.Need-shared-slice-read-sum Inv-loop μ-loop
 shared-slice-read-sum c = rw (c .before .before .before .before .before .before .before .before .before .pre .1 .size) (low (c .before .before .before))
 
 mul-if2 : tie.Need-mul-if2 Inv-loop μ-loop
-mul-if2 c = record { fits = omega (arith, next-at (c .before .before .before), next-low (c .before .before .before)) }
+mul-if2 c = record { fits = omega (arith, next-at (c .before .before .before), next-low (c .before .before .before), rate-at (c .before .before .before), rate-low (c .before .before .before)) }
 
 add-if2 : tie.Need-add-if2 Inv-loop μ-loop
 add-if2 c = record { fits = omega (arith, next-at (c .before .before .before), next-low (c .before .before .before), rate-at (c .before .before .before), rate-low (c .before .before .before)) }
