@@ -170,10 +170,10 @@ first-field l = refl
 
 -- the field at an index of a list, in the head and after it
 module _ (l : List ℕ) (i : ℕ) (h : i ≤ length l) where
-  edition-kept : 0 < i → at (take i l) 0 ≡ at l 0
+  pub edition-kept : 0 < i → at (take i l) 0 ≡ at l 0
   edition-kept k = getD-take i l 0 0 k
 
-  sizes-kept : length (networkLines (at l 0)) ≤ i → networkSizes (take i l) ≡ networkSizes l
+  pub sizes-kept : length (networkLines (at l 0)) ≤ i → networkSizes (take i l) ≡ networkSizes l
   unfolding networkSizes
   sizes-kept k =
       let long : headSize (at l 0) ≤ i = omega (arith, lines-in-head (at l 0), k) in

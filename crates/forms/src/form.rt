@@ -4,7 +4,7 @@ ghost use lib.Dec.{ltb};
 ghost use lib.ListN.{length, getD};
 ghost use Prim.Native.Nat.{_≤_, _<_};
 ghost use Rattle.model.specs.Limits.{mostSwitches, mostTunnels};
-ghost use Rattle.lists.specs.Lists.{at, linkAt};
+ghost use Rattle.lists.specs.Lists.{at, networkSizes, linkAt};
 ghost use Rattle.lists.specs.Good.{Limited};
 ghost use Rattle.forms.specs.Keys.{prefixOf};
 ghost use Rattle.forms.specs.Slots.{keyBytes};
@@ -257,13 +257,14 @@ pub fn network_head_field(done: &[u64]) -> Field
     network_head(done[0], i)
 }
 
-// What stands after a network's head and some more numbers, each of which its own field allows.
-pub fn network_body_field(done: &[u64]) -> Field
-    requires { ⌜ Sound Form.Network (now done) × (length (networkLines (at (now done) 0)) ≤ length (now done)) ⌝ }
+// What stands after a network's head and some more numbers, each of which its own field allows. The sizes are handed over: a reader
+// takes them out of the list once.
+pub fn network_body_field(sizes: Network, done: &[u64]) -> Field
+    requires { ⌜ Sound Form.Network (now done) × (length (networkLines (at (now done) 0)) ≤ length (now done)) × (sizes ≡ networkSizes (now done)) ⌝ }
     ensures { λ r. ⌜ r ≡ fieldOf Form.Network (now (done .entry)) ⌝ }
 {
     let i = done.len();
-    network_body(Network::of(done), done[i - 1], i)
+    network_body(sizes, done[i - 1], i)
 }
 
 // The line at place n of the head.

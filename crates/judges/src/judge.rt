@@ -36,7 +36,7 @@ fn field_after(form: Form, done: &[u64]) -> Field
             if form::in_network_head(done) {
                 form::network_head_field(done)
             } else {
-                form::network_body_field(done)
+                form::network_body_field(Network::of(done), done)
             }
         }
         Form::Plan => form::plan_field(done),

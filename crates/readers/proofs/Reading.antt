@@ -1,23 +1,26 @@
 -- Laws of reading: what is taken from a text in each case, the walk's next turn by what was taken, and how a list is handed over.
 use mathlib.Core.Path.{_≡_, refl, sym, ap, _∙_}
 use mathlib.Core.Logic.{_⊎_, ⊎-elim}
-use mathlib.Core.Bool.{Bool, true, false, cond, _&&_}
+use mathlib.Core.Bool.{Bool, true, false, cond, not, _&&_, true≢false}
 use mathlib.Core.List.{List, [], _∷_, _++_}
 use mathlib.Core.Option.{Option, none, some, Option·elim}
 use Prim.Native.Nat.{ℕ, _+_, _-_, _≤_, _<_}
 use native.Mathlib.Decide.{ℕ-discrete}
 use native.Mathlib.Omega.{arith}
-use lib.Dec.{T, ltb}
-use lib.ListN.{length, take, drop, length-drop, length-take}
-use lib.Seq.{drop-drop, drop-length}
-use borrow.Author.Tests.{eq-eqb, ne-eqb, ltb-true}
+use lib.Dec.{T, eqb, ltb}
+use lib.ListN.{length, take, drop, length-drop, length-take, length-append}
+use lib.Seq.{drop-drop, drop-length, take-append-seam}
+use borrow.Author.Tests.{eq-eqb, ne-eqb, ltb-true, ltb-false, le-ltb}
 use denote.Enum.Declared.{tagOf}
-use Rattle.model.specs.Outcome.{Outcome, good, refused, missing, malformed, outOfRange}
-use Rattle.lists.specs.Lists.{at}
+use Rattle.model.specs.Outcome.{Outcome, good, refused, number, missing, malformed, outOfRange}
+use Rattle.model.proofs.Searches.{not-true}
+use Rattle.lists.specs.Lists.{at, networkSizes}
+use Rattle.lists.proofs.Positions.{head-low}
 use Rattle.lists.specs.Answers.{done}
 use Rattle.lists.specs.declared.Answer.the-variants.{Done, Refused}
 use Rattle.forms.specs.Line.{lines, isRemark, fits, mostRemarks, isPassed, lineValue}
-use Rattle.forms.specs.Form.{fieldOf, admitsOf, allows, secondOf}
+use Rattle.forms.specs.Form.{networkLines, fieldOf, admitsOf, allows, secondOf}
+use Rattle.forms.proofs.Forms.{lines-in-head, edition-kept, sizes-kept}
 use Rattle.forms.specs.Turns.{walkLines, atEnd, atItem}
 use Rattle.forms.specs.declared.form.Form.{Form}
 use Rattle.forms.specs.declared.form.Range.{Range}
@@ -26,7 +29,9 @@ use Rattle.forms.specs.declared.form.Field.the-variants.{Line, End}
 use Rattle.forms.proofs.Values.{value-real-line}
 use Rattle.readers.specs.Line.{lineLen, firstLine, afterRemark}
 use Rattle.readers.specs.declared.line.Remark.the-variants.{Ends, OutOfOrder}
-use Rattle.readers.specs.Read.{takenOf, nextOf, answerOf, NoNumber, onward, Holds}
+use Rattle.readers.specs.Read.{takenOf, nextOf, answerOf, NoNumber, inHead, bodyOf, Fits, headRead, fieldBy, onward, Holds}
+use Rattle.readers.specs.declared.read.Body.{Body}
+use Rattle.readers.specs.declared.read.Body.the-variants.{Unknown, Known}
 use Rattle.readers.specs.declared.read.Taken.{Taken}
 use Rattle.readers.specs.declared.read.Taken.the-variants.{Number, Stop, Ended}
 use Rattle.readers.proofs.read.Taken.{the-type}
@@ -167,6 +172,59 @@ module _ (form : Form) (n c : ℕ) (done′ text : List ℕ) where
         go (no e) (Line k r) f =
             rw (ne-eqb at (length text) e, walk-first form n c done′ text at (omega arith) false real, f)
             (by-value (at + lineLen (drop at text)) r (lineValue k r (firstLine (drop at text))))
+
+-- ---- the head of a network, then its body
+
+-- what the head says stays, with more numbers
+more-sizes : (l : List ℕ) (v : ℕ) → inHead l ≡ false → (inHead (l ++ (v ∷ [])) ≡ false) × (networkSizes l ≡ networkSizes (l ++ (v ∷ [])))
+more-sizes l v e =
+    let size : length (l ++ (v ∷ [])) ≡ length l + 1 = length-append l (v ∷ []) in
+    let long = ltb-false (length l) (length (networkLines (at l 0))) e in
+    let some : 0 < length l = omega (arith, long, lines-in-head (at l 0), head-low (at l 0)) in
+    let front : take (length l) (l ++ (v ∷ [])) ≡ l = take-append-seam l (v ∷ []) in
+    let fit : length l ≤ length (l ++ (v ∷ [])) = omega (arith, size) in
+    let same : at l 0 ≡ at (l ++ (v ∷ [])) 0 = sym (ap (λ (m : List ℕ). at m 0) front) ∙ edition-kept (l ++ (v ∷ [])) (length l) fit some in
+    let less : length (networkLines (at (l ++ (v ∷ [])) 0)) ≤ length l = rw (← same) long in (
+      le-ltb (length (l ++ (v ∷ []))) (length (networkLines (at (l ++ (v ∷ [])) 0))) (omega (arith, less, size)),
+      sym (ap networkSizes front) ∙ sizes-kept (l ++ (v ∷ [])) (length l) fit less,
+    )
+
+pub fits-more : (form : Form) (b : Body) (l : List ℕ) (v : ℕ) → Fits form b l → Fits form b (l ++ (v ∷ []))
+fits-more Form.Network Unknown l v f = tt
+fits-more Form.Network (Known n) l v f = let m = more-sizes l v (f .0) in (m .0, f .1 ∙ m .1)
+fits-more Form.Plan b l v f = tt
+fits-more Form.Rules b l v f = tt
+
+pub fits-own : (form : Form) (b : Body) (l : List ℕ) → b ≡ bodyOf form l → Fits form b l
+fits-own Form.Network b l e = rw e (go (inHead l) refl)
+  where
+    go : (h : Bool) → inHead l ≡ h → Fits Form.Network (cond h Unknown (Known (networkSizes l))) l
+    go true k = tt
+    go false k = (k, refl)
+fits-own Form.Plan b l e = tt
+fits-own Form.Rules b l e = tt
+
+-- a head that has been read since has more numbers than there were
+pub read-more : (form : Form) (b : Body) (l m : List ℕ) → b ≡ bodyOf form l → headRead form b m ≡ true → l ≡ m → ⊥
+read-more Form.Network b l m e h k = go (inHead l) refl (rw e at h)
+  where
+    go : (x : Bool) → inHead l ≡ x → headRead Form.Network (cond x Unknown (Known (networkSizes l))) m ≡ true → ⊥
+    go true y r = true≢false (sym y ∙ ap inHead k ∙ not-true (inHead m) r)
+    go false y r = true≢false (sym r)
+read-more Form.Plan b l m e h k = true≢false (sym h)
+read-more Form.Rules b l m e h k = true≢false (sym h)
+
+-- where a number is given, the field is the form's
+pub number-field : (form : Form) (b : Body) (l text : List ℕ) (at v next : ℕ) → nextOf (fieldBy form b l) text at ≡ Number v next → fieldBy form b l ≡ fieldOf form l
+number-field form b l text at v next e = go (headRead form b l) refl e
+  where
+    none : (x : Bool) → cond x Ended (Stop (number missing)) ≡ Number v next → ⊥
+    none true z = let y : _≡_ {A = ℕ} 0 1 = cc in omega arith
+    none false z = let y : _≡_ {A = ℕ} 0 1 = cc in omega arith
+
+    go : (h : Bool) → headRead form b l ≡ h → nextOf (cond h End (fieldOf form l)) text at ≡ Number v next → cond (headRead form b l) End (fieldOf form l) ≡ fieldOf form l
+    go true k z = absurd (none (eqb at (length text)) z)
+    go false k z = rw k refl
 
 -- ---- what is known of a number that a line gives
 

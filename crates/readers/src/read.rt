@@ -2,13 +2,13 @@
 ghost use mathlib.Core.Path.{_≡_};
 ghost use mathlib.Core.List.{_++_};
 ghost use Prim.Native.Nat.{_≤_};
-ghost use lib.ListN.{length, drop};
+ghost use lib.ListN.{length, take, drop};
 ghost use Rattle.model.specs.Outcome.{Outcome};
 ghost use Rattle.lists.specs.Answers.{done, withRoom, lent};
 ghost use Rattle.forms.specs.Slots.{keyBytes};
-ghost use Rattle.forms.specs.Form.{secondOf, mostOf, fieldOf, Sound};
+ghost use Rattle.forms.specs.Form.{secondOf, mostOf, Sound};
 ghost use Rattle.forms.specs.Read.{readLines};
-ghost use Rattle.readers.specs.Read.{takenOf, nextOf, answerOf, Begun, ReadOn, Holds};
+ghost use Rattle.readers.specs.Read.{takenOf, nextOf, answerOf, bodyOf, headRead, fieldBy, Fits, Begun, ReadOn, Holds};
 ghost use Rattle.forms.specs.Named.{readNetwork, readPlan, readRules};
 use crate::line;
 use crate::line::Remark;
@@ -89,20 +89,69 @@ fn answer(taken: Taken, count: usize, line: u64, form: Form) -> Answer
     }
 }
 
-// What the form has after some numbers, each of which its own field allows. A function of the readers, which the compiler puts into
-// their loop: one that is called elsewhere too would stay a call for each line.
-fn field_after(form: Form, done: &[u64]) -> Field
+// What is known of the lines after a network's head: nothing while the head is read, then the sizes, which are taken out of the list once.
+pub(crate) enum Body {
+    Unknown,
+    Known(Network),
+}
+
+// What is known of them after some numbers.
+fn body_after(form: Form, done: &[u64]) -> Body
     requires { ⌜ Sound form (now done) ⌝ }
-    ensures { λ r. ⌜ r ≡ fieldOf form (now (done .entry)) ⌝ }
+    ensures { λ r. ⌜ r ≡ bodyOf form (now (done .entry)) ⌝ }
 {
     match form {
         Form::Network => {
             if form::in_network_head(done) {
-                form::network_head_field(done)
+                Body::Unknown
             } else {
-                form::network_body_field(done)
+                Body::Known(Network::of(done))
             }
         }
+        Form::Plan => Body::Unknown,
+        Form::Rules => Body::Unknown,
+    }
+}
+
+// Whether a network's head has been read since nothing was known of what comes after it.
+fn head_read(form: Form, body: Body, done: &[u64]) -> bool
+    ensures { λ r. ⌜ r ≡ headRead form body (now (done .entry)) ⌝ }
+{
+    match form {
+        Form::Network => match body {
+            Body::Unknown => !form::in_network_head(done),
+            Body::Known(_) => false,
+        },
+        Form::Plan => false,
+        Form::Rules => false,
+    }
+}
+
+// What a network has after some numbers, each of which its own field allows; nothing after its head as long as its body is not known.
+fn network_field(body: Body, done: &[u64]) -> Field
+    requires { ⌜ Sound Form.Network (now done) × Fits Form.Network body (now done) ⌝ }
+    ensures { λ r. ⌜ r ≡ fieldBy Form.Network body (now (done .entry)) ⌝ }
+{
+    match body {
+        Body::Unknown => {
+            if form::in_network_head(done) {
+                form::network_head_field(done)
+            } else {
+                Field::End
+            }
+        }
+        Body::Known(sizes) => form::network_body_field(sizes, done),
+    }
+}
+
+// The same of any form. A function of the readers, which the compiler puts into their loop: one that is called elsewhere too would stay
+// a call for each line.
+fn field_after(form: Form, body: Body, done: &[u64]) -> Field
+    requires { ⌜ Sound form (now done) × Fits form body (now done) ⌝ }
+    ensures { λ r. ⌜ r ≡ fieldBy form body (now (done .entry)) ⌝ }
+{
+    match form {
+        Form::Network => network_field(body, done),
         Form::Plan => form::plan_field(done),
         Form::Rules => form::rules_field(done),
     }
@@ -115,10 +164,11 @@ struct Stopped {
     taken: Taken,
 }
 
-// Reads lines into a list, after `count` numbers and from `from` on, up to the first line that gives no number. A remark has
-// none, so that no other line is asked whether it is one.
+// Reads lines into a list, after `count` numbers and from `from` on, up to the first line that gives no number, or to the end of a
+// network's head. A remark has no number, so that no other line is asked whether it is one.
 fn read_on(
     form: Form,
+    body: Body,
     keys: &[u8],
     text: &[u8],
     count: usize,
@@ -127,13 +177,13 @@ fn read_on(
 ) -> Stopped
     requires { ⌜ now keys ≡ keyBytes ⌝ }
     requires { ⌜ length (now vals) ≡ mostOf form ⌝ }
-    requires { ⌜ Begun form (now text) (now vals) count from ⌝ }
-    ensures { λ r. ⌜ ReadOn form (now (text .entry)) (now (vals .entry)) count from (now (vals .exit)) r ⌝ }
+    requires { ⌜ Begun form (now text) (now vals) count from × Fits form body (take count (now vals)) ⌝ }
+    ensures { λ r. ⌜ ReadOn form body (now (text .entry)) (now (vals .entry)) count from (now (vals .exit)) r ⌝ }
 {
     let mut at = from;
     let mut i = count;
     loop {
-        let field = field_after(form, &vals[..i]);
+        let field = field_after(form, body, &vals[..i]);
         let taken = next_line(keys, text, at, field);
         let Taken::Number(v, next) = taken else {
             return Stopped {
@@ -159,9 +209,13 @@ fn read(form: Form, keys: &[u8], text: &[u8], vals: &mut [u64]) -> Answer
     let mut at: usize = 0;
     let mut count: usize = 0;
     loop {
-        let stopped = read_on(form, keys, text, count, at, vals);
+        let body = body_after(form, &vals[..count]);
+        let stopped = read_on(form, body, keys, text, count, at, vals);
         at = stopped.at;
         count = stopped.count;
+        if head_read(form, body, &vals[..count]) {
+            continue;
+        }
         let taken = stopped.taken;
         let line = (count + remarks + 1) as u64;
         if line::is_remark(form, text, at) {

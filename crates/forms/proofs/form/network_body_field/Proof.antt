@@ -13,13 +13,9 @@ use borrow.Author.Needs.{needs}
 use Rattle.forms.proofs.form.network_body_field.Statement.{statement}
 use Rattle.forms.proofs.form.network_body_field.Tie as tie
 use Rattle.forms.proofs.form.network_body.Reads as network-body-reads
-use Rattle.lists.proofs.Network.of.Reads as of-reads
 
 some : (s : tie.Start) → 1 ≤ length (s .args .done .now)
 some s = omega (arith, s .pre .1, head-there (s .args .done .now), head-least (networkSizes (s .args .done .now)))
-
-of-requires : tie.Need-of-requires
-of-requires c κs = omega (arith, c .before .pre .1, head-there (c .before .args .done .now))
 
 sub-network-body : tie.Need-sub-network-body
 sub-network-body c = search needs
@@ -31,16 +27,20 @@ shared-slice-read-network-body : tie.Need-shared-slice-read-network-body
 shared-slice-read-network-body c = search needs
 
 network-body-requires : tie.Need-network-body-requires
-network-body-requires c κs = (subst⁻¹ Limited (c .before .of .ensures) (head-of-network _ (c .before .before .before .pre .0) (c .before .before .before .pre .1)), omega (arith, c .before .before .before .pre .1, head-there (c .before .before .before .args .done .now), ap (λ (n : counts.Network). linkAt n 0) (c .before .of .ensures)))
+network-body-requires c κs =
+    let s = c .before .before in
+    (subst⁻¹ Limited (s .pre .2) (head-of-network _ (s .pre .0) (s .pre .1)), omega (arith, s .pre .1, head-there (s .args .done .now), ap (λ (n : counts.Network). linkAt n 0) (s .pre .2)))
 
 returns : tie.Need-returns
-returns c = let l = c .before .before .before .before .args .done .now in c .network-body .ensures ∙ ap (λ (n : counts.Network). networkBody n (at l (length l - 1)) (length l)) (c .before .before .of .ensures) ∙ sym (own-body l (c .before .before .before .before .pre .1))
+returns c =
+    let s = c .before .before .before in
+    let l = s .args .done .now in
+    c .network-body .ensures ∙ ap (λ (n : counts.Network). networkBody n (at l (length l - 1)) (length l)) (s .pre .2) ∙ sym (own-body l (s .pre .1))
 
 pub network-body-field-spec : {M : Type 1} → statement M
 network-body-field-spec =
     tie.close
     (tie.spec
-    of-requires
     sub-network-body
     mul-network-body
     shared-slice-read-network-body
