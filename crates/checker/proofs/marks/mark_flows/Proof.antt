@@ -97,7 +97,7 @@ unfolding planOf
 loop-again c = let p = tunnel-place _ (c .before .before .before .before .before .before .before .before .before .before .before .before .before .before .before .before .before .before .pre .0 .pair .network .ranges .sized) _ (c .before .before .before .before .before .before .before .before .before .before .before .before .before .before .of .ensures) _ _ (c .before .before .before .before .if1 .taken) (c .before .before .before .tunnel-at .ensures) in
     let h : at (c .before .before .before .before .before .before .before .before .before .before .before .before .before .before .before .before .before .before .args .network .now) (c .before .before .before .tunnel-at .result) < mostFlows = omega (arith, flow-low _ (c .before .before .before .before .before .before .before .before .before .before .before .before .before .before .before .before .before .before .pre .0 .pair .network) _ _ (tunnel-place _ (c .before .before .before .before .before .before .before .before .before .before .before .before .before .before .before .before .before .before .pre .0 .pair .network .ranges .sized) _ (c .before .before .before .before .before .before .before .before .before .before .before .before .before .before .of .ensures) _ _ (c .before .before .before .before .if1 .taken) (c .before .before .before .tunnel-at .ensures)), c .before .before .before .before .before .before .before .before .before .before .before .before .before .before .before .before .before .before .pre .0 .pair .network .ranges .sized .counts) in
     let f = flow-here _ (c .before .before .before .before .before .before .before .before .before .before .before .before .before .before .before .before .before .before .pre .0 .pair .network) _ _ p in
-    let m = mark-of-flow (c .before .before .before .before .before .before .before .before .before .before .before .before .before .before .before .before .before .before .args .lag) (networkOf (c .before .before .before .before .before .before .before .before .before .before .before .before .before .before .before .before .before .before .args .network .now)) (planOf (c .before .before .before .before .before .before .before .before .before .before .before .before .before .before .before .before .before .before .args .plan .now)) (c .before .before .before .before .before .before .before .before .before .before .before .before .before .before .before .before .before .before .args .i) (c .before .before .before .before .before .before .before .before .before .before .before .before .before .before .before .before .before .before .args .l) (c .before .before .before .before .before .before .loop .t) _ _ _ _ _ (c .before .before .before .before .before .before .before .before .before .before .before .before .before .before .before .before .before .before .pre .0 .step) (c .before .before .before .before .before .before .before .before .before .before .before .before .before .reach .ensures) (via-here _ (c .before .before .before .before .before .before .before .before .before .before .before .before .before .before .before .before .before .before .pre .0 .pair .network) _ _ p) (c .rises .ensures) (c .before .before .before .before .before .before .before .before .before .before .before .before .before .before .before .before .before .before .pre .1) (sum-of _ _ _ _ _ (c .before .before .before .before .before .before .before .before .before .before .before .flow-sums .ensures) f h) (rw (← f) (c .before .before .before .before .before .before .before .before .largest-sums .ensures .each _ h)) in
+    let m = mark-of-flow (c .before .before .before .before .before .before .before .before .before .before .before .before .before .before .before .before .before .before .args .lag) (networkOf (c .before .before .before .before .before .before .before .before .before .before .before .before .before .before .before .before .before .before .args .network .now)) (planOf (c .before .before .before .before .before .before .before .before .before .before .before .before .before .before .before .before .before .before .args .plan .now)) (c .before .before .before .before .before .before .before .before .before .before .before .before .before .before .before .before .before .before .args .i) (c .before .before .before .before .before .before .before .before .before .before .before .before .before .before .before .before .before .before .args .l) (c .before .before .before .before .before .before .loop .t) _ _ _ _ _ (c .before .before .before .before .before .before .before .before .before .before .before .before .before .before .before .before .before .before .pre .0 .step) (c .before .before .before .before .before .before .before .before .before .before .before .before .before .reach .ensures) (via-here _ (c .before .before .before .before .before .before .before .before .before .before .before .before .before .before .before .before .before .before .pre .0 .pair .network) _ _ p) (c .rises .ensures) (c .before .before .before .before .before .before .before .before .before .before .before .before .before .before .before .before .before .before .pre .1) (sum-of _ _ _ _ _ (c .before .before .before .before .before .before .before .before .before .before .before .flow-sums .ensures) f h) (rw (← f) (c .before .before .before .before .before .before .before .before .largest-sums .ensures .each (at (c .before .before .before .before .before .before .before .before .before .before .before .before .before .before .before .before .before .before .args .network .now) (c .before .before .before .tunnel-at .result)) h)) in
     (omega (arith, c .before .before .before .before .if1 .taken), simp length-set (c .before .before .before .before .before .before .loop .inv .1), listed-on _ _ _ _ _ (c .before .before .before .before .before .before .loop .inv .2) (omega (arith, p .there, c .before .before .before .before .before .before .before .before .before .before .before .before .before .before .before .before .before .before .pre .0 .room)) m)
 
 same-length : tie.Need-same-length Inv-loop μ-loop
