@@ -12,7 +12,7 @@ use Rattle.loads.specs.Gathered.{gathered}
 
 -- a vector has a number for each row of a block, and a table has vectors
 abbrev pub blockRows : ℕ
-blockRows = 10
+blockRows = 11
 
 abbrev pub numberAt : ℕ → ℕ → ℕ
 numberAt j k = blockRows * j + k

@@ -10,7 +10,7 @@ ghost use Rattle.loads.specs.Tables.{blockRows, loadsSize, numberAt, loa
 use lists::Network;
 
 // The numbers of a vector: the rows of a block.
-pub const ROWS: usize = 10;
+pub const ROWS: usize = 11;
 
 // The numbers of a table of amounts, which has a vector for each tunnel, and of a table of loads, which has two for each link.
 pub const AMOUNTS: usize = ROWS * Network::TUNNELS as usize;
