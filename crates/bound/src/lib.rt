@@ -1,4 +1,6 @@
-// The step bound: how many even steps suffice for a network that keeps its scratch.
+//! The step bound: how many even steps suffice for a network that keeps its scratch.
+#![tactic(auto)]
+
 ghost use Rattle.std.specs.Prelude.{◌≡◌, true, ◌-◌, max};
 ghost use Rattle.model.specs.Even.{ceil_div};
 ghost use Rattle.bound.specs.Bound.{is_share, bound_of, told};
@@ -10,7 +12,7 @@ use lists::Network;
 mod card;
 
 // The step bound's answer is its number or a refusal.
-#[derive(Drop)]
+#[derive(Clone, Copy)]
 pub enum StepBound {
     Steps(u64),
     Refused {

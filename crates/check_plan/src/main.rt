@@ -1,4 +1,6 @@
-// Reads `network.txt` and `plan.txt` in the current folder and prints whether the plan is accepted, or why it is not.
+//! Reads `network.txt` and `plan.txt` in the current folder and prints whether the plan is accepted, or why it is not.
+#![tactic(auto)]
+
 ghost use Rattle.std.specs.Prelude.{◌≤◌, ◌≡◌, length, take};
 ghost use Rattle.io.specs.Counts.{IsPrefixLen};
 ghost use Rattle.report.specs.Printed.{check_texts, printed_check};

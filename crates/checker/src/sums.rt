@@ -15,7 +15,7 @@ use lists::{Network, PlanSizes};
 const FLOWS: usize = Network::FLOWS as usize;
 
 // The first row that does not add up, and its first flow that does not.
-#[derive(Drop)]
+#[derive(Clone, Copy)]
 pub(crate) enum Missed {
     Nothing,
     At(usize, usize),

@@ -8,7 +8,7 @@ ghost use Rattle.desk_calls.specs.Numbers.{call_in, calls_of, room_for, four_of,
 use desks::{Desks, numbers};
 
 // What a call comes to: its answer and the state afterwards.
-#[derive(Drop)]
+#[derive(Clone, Copy)]
 struct Called {
     answer: [u64; 4],
     desks: Desks,

@@ -1,5 +1,7 @@
-// Runs a long fixed sequence of calls at the desks, from the empty state, and prints each call with its answer, a line
-// each. What is printed is held to a stored output, and that to the second implementation.
+//! Runs a long fixed sequence of calls at the desks, from the empty state, and prints each call with its answer, a line
+//! each. What is printed is held to a stored output, and that to the second implementation.
+#![tactic(auto)]
+
 ghost use Rattle.std.specs.Prelude.{◌+◌, ◌*◌, ◌≤◌, ◌<◌};
 
 mod calls;

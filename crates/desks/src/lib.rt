@@ -1,7 +1,9 @@
-// A fair hand-out for eight desks. Desks 0 to 7 submit jobs, at most four wait for each, and a hand-out takes the oldest
-// job of the first desk with work, going round from the desk after the last one served. Each desk has job numbers of its
-// own. The state goes in by value and comes back; every value of its type is a state (`seen`), so that no operation has a
-// precondition.
+//! A fair hand-out for eight desks. Desks 0 to 7 submit jobs, at most four wait for each, and a hand-out takes the oldest
+//! job of the first desk with work, going round from the desk after the last one served. Each desk has job numbers of its
+//! own. The state goes in by value and comes back; every value of its type is a state (`seen`), so that no operation has a
+//! precondition.
+#![tactic(auto)]
+
 ghost use Rattle.std.specs.Prelude.{◌≡◌};
 ghost use Rattle.desks.specs.State.{empty, submitted, handed_out};
 ghost use Rattle.desks.specs.Seen.{seen, Untouched, told_acceptance, told_job};
@@ -12,7 +14,7 @@ mod turns;
 
 use rings::Turn;
 
-#[derive(Drop)]
+#[derive(Clone, Copy)]
 pub struct Desks {
     // The jobs that wait: each desk has a ring of four places.
     pub numbers: [u32; 32],
@@ -36,7 +38,7 @@ impl Desks {
 }
 
 // What a submission is answered.
-#[derive(Drop)]
+#[derive(Clone, Copy)]
 pub enum Submission {
     Accepted {
         number: u32,
@@ -50,14 +52,14 @@ pub enum Submission {
     },
 }
 
-#[derive(Drop)]
+#[derive(Clone, Copy)]
 pub struct Submitted {
     pub answer: Submission,
     pub desks: Desks,
 }
 
 // What a hand-out is answered.
-#[derive(Drop)]
+#[derive(Clone, Copy)]
 pub enum HandOut {
     Job {
         desk: u64,
@@ -71,7 +73,7 @@ pub enum HandOut {
     },
 }
 
-#[derive(Drop)]
+#[derive(Clone, Copy)]
 pub struct HandedOut {
     pub answer: HandOut,
     pub desks: Desks,

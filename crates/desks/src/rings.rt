@@ -7,7 +7,7 @@ ghost use Rattle.desks.specs.Inner.{turn_work, IsDesk};
 use crate::{Desks, HandOut, HandedOut};
 
 // Whose turn it is.
-#[derive(Drop)]
+#[derive(Clone, Copy)]
 pub enum Turn {
     Desk(usize),
     Nobody,

@@ -1,4 +1,6 @@
-// Lines of five numbers, right-aligned in columns, put at a place.
+//! Lines of five numbers, right-aligned in columns, put at a place.
+#![tactic(auto)]
+
 ghost use Rattle.std.specs.Prelude.{◌+◌, ◌^◌, ◌≤◌, ◌<◌, length, replicate};
 ghost use Rattle.forms.specs.Write.{digits_in};
 ghost use Rattle.lines.specs.Puts.{Puts};

@@ -9,7 +9,7 @@ ghost use Rattle.forms.specs.Form.{field_of, network_body, rules_body, admits_of
 
 use lists::{Network, PlanSizes, Position, RuleTables};
 
-#[derive(Drop)]
+#[derive(Clone, Copy)]
 pub enum Form {
     Network,
     Plan,
@@ -17,7 +17,7 @@ pub enum Form {
 }
 
 // Which numbers a line may have. A set is written in hexadecimal, any other number in decimal.
-#[derive(Drop)]
+#[derive(Clone, Copy)]
 pub enum Range {
     // from the first to the second
     Between(u64, u64),
@@ -30,7 +30,7 @@ pub enum Range {
 }
 
 // What stands at a position: a line with its key and range, or nothing, since the form ends there.
-#[derive(Drop)]
+#[derive(Clone, Copy)]
 pub enum Field {
     Line(usize, Range),
     End,

@@ -1,4 +1,6 @@
-// How many bytes the text of a list has: all that is not a decimal digit, and those. Inner functions of the writers.
+//! How many bytes the text of a list has: all that is not a decimal digit, and those. Inner functions of the writers.
+#![tactic(auto)]
+
 ghost use Rattle.std.specs.Prelude.{◌≡◌, ℕ, ◌*◌, ◌≤◌, ◌<◌, length};
 ghost use Rattle.lists.specs.Lists.{network_sizes, most_numbers};
 ghost use Rattle.forms.specs.Form.{Whole};

@@ -1,4 +1,6 @@
-// Lines, put at a place: bytes, digits, a key with its value.
+//! Lines, put at a place: bytes, digits, a key with its value.
+#![tactic(auto)]
+
 ghost use Rattle.std.specs.Prelude.{◌≡◌, ◌+◌, ◌≤◌, ◌<◌, length};
 ghost use Rattle.forms.specs.Write.{digit_char, digits_in, width_of};
 ghost use Rattle.lines.specs.Puts.{Puts, decimal_value, decimal_line, hex_line};

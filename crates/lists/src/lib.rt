@@ -1,6 +1,8 @@
-// The types that all operations share: the network type, whose constants are the limits and whose value says where a
-// network's numbers stand in its list and, by `Position`, which of them stands where; the types that do the same for plans
-// and for rule tables; and the answers.
+//! The types that all operations share: the network type, whose constants are the limits and whose value says where a
+//! network's numbers stand in its list and, by `Position`, which of them stands where; the types that do the same for plans
+//! and for rule tables; and the answers.
+#![tactic(auto)]
+
 ghost use Rattle.std.specs.Prelude.{◌≡◌, ◌≤◌, ◌<◌, length};
 ghost use Rattle.model.specs.Outcome.{is_lag};
 ghost use Rattle.model.specs.Rule.{by_flow};
@@ -9,7 +11,7 @@ ghost use Rattle.lists.specs.Lists.{has_next, has_held, head_size, per_link, per
 ghost use Rattle.lists.specs.Good.{Limited, StandsAt, NetworkRanges};
 
 // A network's edition, and how many links, flows and tunnels it has.
-#[derive(Drop)]
+#[derive(Clone, Copy)]
 pub struct Network {
     pub edition: u64,
     pub links: usize,
@@ -225,7 +227,7 @@ impl Network {
 }
 
 // Which of a network's numbers stands at a position after the head: line j of a link, of a flow or of a tunnel, or none.
-#[derive(Drop)]
+#[derive(Clone, Copy)]
 pub enum Position {
     Link(usize, usize),
     Flow(usize, usize),
@@ -234,7 +236,7 @@ pub enum Position {
 }
 
 // The numbers of a plan's head: in how many parts its amounts are counted, how many steps it has, and for how many tunnels.
-#[derive(Drop)]
+#[derive(Clone, Copy)]
 pub struct PlanSizes {
     pub parts: u64,
     pub steps: usize,
@@ -270,7 +272,7 @@ impl PlanSizes {
 }
 
 // How many switches and tunnels rule tables have.
-#[derive(Drop)]
+#[derive(Clone, Copy)]
 pub struct RuleTables {
     pub switches: usize,
     pub tunnels: usize,
@@ -340,7 +342,7 @@ impl RuleTables {
 }
 
 // Done and a plan carry the length written.
-#[derive(Drop)]
+#[derive(Clone, Copy)]
 pub enum Answer {
     Done(usize),
     Plan(usize),

@@ -1,4 +1,6 @@
-// Reads a network text on standard input and prints the text of the even plan of fewest steps, or why there is none.
+//! Reads a network text on standard input and prints the text of the even plan of fewest steps, or why there is none.
+#![tactic(auto)]
+
 ghost use Rattle.std.specs.Prelude.{◌≡◌, ◌≤◌, length, take};
 ghost use Rattle.lists.specs.Answers.{with_room, done, lent};
 ghost use Rattle.io.specs.Counts.{IsPrefixLen};

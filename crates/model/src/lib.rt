@@ -1,1 +1,2 @@
-// The rule for a step, as mathematics: definitions in specs/, the proofs of their laws and of the claim in proofs/. There is no code here.
+//! The rule for a step, as mathematics: definitions in specs/, the proofs of their laws and of the claim in proofs/. There is no code here.
+#![tactic(auto)]

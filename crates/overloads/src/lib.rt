@@ -1,2 +1,4 @@
-// The first overload of a plan, found step by step and link by link. Inner functions of the checker.
+//! The first overload of a plan, found step by step and link by link. Inner functions of the checker.
+#![tactic(auto)]
+
 pub mod steps;

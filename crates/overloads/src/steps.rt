@@ -17,7 +17,7 @@ use loads::gather::{AMOUNTS, LOADS, ROWS};
 use loads::{flows, gather, windows};
 
 // The first overload: the number of its refusal, the row that its step leads from, and its link.
-#[derive(Drop)]
+#[derive(Clone, Copy)]
 pub enum Found {
     Nothing,
     At(u64, usize, usize),

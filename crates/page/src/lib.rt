@@ -1,4 +1,6 @@
-// A page for the change board: one step of an accepted plan, laid out in columns.
+//! A page for the change board: one step of an accepted plan, laid out in columns.
+#![tactic(auto)]
+
 ghost use Rattle.std.specs.Prelude.{◌≡◌, length};
 ghost use Rattle.lists.specs.Answers.{with_room, done, lent};
 ghost use Rattle.lists.specs.Lists.{network_of, plan_of};

@@ -1,4 +1,6 @@
-// The planner: the even plan of fewest steps that is accepted.
+//! The planner: the even plan of fewest steps that is accepted.
+#![tactic(auto)]
+
 ghost use Rattle.std.specs.Prelude.{◌≡◌, ◌≤◌, length};
 ghost use Rattle.model.specs.Limits.{most_lag};
 ghost use Rattle.lists.specs.Answers.{with_room, plan, lent};

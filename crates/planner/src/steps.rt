@@ -15,7 +15,7 @@ ghost use Rattle.planner.specs.Search.{answered, is_over, is_short, is_over_in};
 
 use lists::{Answer, Network};
 
-#[derive(Drop)]
+#[derive(Clone, Copy)]
 pub enum Fewest {
     Steps(u64),
     NoPlan,

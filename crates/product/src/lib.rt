@@ -1,4 +1,6 @@
-// The seven operations, under their public names. Each has no precondition: its promise holds for all arguments.
+//! The seven operations, under their public names. Each has no precondition: its promise holds for all arguments.
+#![tactic(auto)]
+
 ghost use Rattle.std.specs.Prelude.{◌≡◌, length};
 ghost use Rattle.lists.specs.Answers as answers;
 ghost use Rattle.lists.specs.Answers.{with_room, done, lent};

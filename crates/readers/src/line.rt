@@ -15,14 +15,14 @@ const REMARKS: usize = 32;
 const IN_REMARK: usize = 80;
 
 // What a value is: a number, with the place where its digits end.
-#[derive(Drop)]
+#[derive(Clone, Copy)]
 enum Value {
     Is(u64, usize),
     Malformed,
 }
 
 // Some digits: the number that they are, and where they end.
-#[derive(Drop)]
+#[derive(Clone, Copy)]
 struct Run {
     number: u64,
     to: usize,
@@ -218,7 +218,7 @@ pub(crate) fn is_remark(form: Form, text: &[u8], at: usize) -> bool
 }
 
 // What a remark comes to: the place where the line after it begins.
-#[derive(Drop)]
+#[derive(Clone, Copy)]
 pub(crate) enum Remark {
     Ends(usize),
     OutOfOrder,

@@ -17,7 +17,7 @@ use lists::{Answer, Network, PlanSizes, RuleTables};
 
 // What the next line gives: its number and where the line after it begins, or the number of its refusal; or the text ends
 // where the form does.
-#[derive(Drop)]
+#[derive(Clone, Copy)]
 pub(crate) enum Taken {
     Number(u64, usize),
     Stop(u64),
@@ -84,7 +84,7 @@ fn answer(taken: Taken, count: usize, line: u64, form: Form) -> Answer
 }
 
 // What is known of the lines after a network's head: nothing while the head is read, then the sizes, which are taken out of the list once.
-#[derive(Drop)]
+#[derive(Clone, Copy)]
 pub(crate) enum Body {
     Unknown,
     Known(Network),
@@ -153,7 +153,7 @@ fn field_after(form: Form, body: Body, done: &[u64]) -> Field
 }
 
 // Where the reading stops: how many numbers are read, where the line after them begins, and what that gives.
-#[derive(Drop)]
+#[derive(Clone, Copy)]
 struct Stopped {
     count: usize,
     at: usize,

@@ -1,4 +1,6 @@
-// What the two programs share: the lag, and the lines of a refusal.
+//! What the two programs share: the lag, and the lines of a refusal.
+#![tactic(auto)]
+
 ghost use Rattle.std.specs.Prelude.{◌+◌, ◌≤◌, length};
 ghost use Rattle.lines.specs.Puts.{Puts};
 ghost use Rattle.report.specs.Printed.{decimal, printed_line, refusal_lines};

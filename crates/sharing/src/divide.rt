@@ -10,7 +10,7 @@ use crate::level::Level;
 use lists::Network;
 
 // The place of the first demand out of range, or the count where there is none; and the demands before it, added up.
-#[derive(Drop)]
+#[derive(Clone, Copy)]
 pub(crate) struct Judged {
     pub bad: usize,
     pub sum: u64,

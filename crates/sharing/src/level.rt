@@ -5,14 +5,14 @@ ghost use Rattle.sharing.specs.Share as share;
 ghost use Rattle.sharing.specs.Inner.{InRange, met_by};
 
 // A level, and the units left over at it.
-#[derive(Drop)]
+#[derive(Clone, Copy)]
 pub(crate) struct Level {
     pub at: u64,
     pub left: u64,
 }
 
 // What a level makes of the demands: those that it meets, added up, and how many are above it.
-#[derive(Drop)]
+#[derive(Clone, Copy)]
 struct Parts {
     met: u64,
     above: u64,

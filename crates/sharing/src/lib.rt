@@ -1,4 +1,6 @@
-// Sharing a flow's rate among services. Whoever is short of its demand has no more than one unit less than another.
+//! Sharing a flow's rate among services. Whoever is short of its demand has no more than one unit less than another.
+#![tactic(auto)]
+
 ghost use Rattle.std.specs.Prelude.{◌≡◌, length};
 ghost use Rattle.lists.specs.Answers.{with_room, done, lent};
 ghost use Rattle.sharing.specs.Share.{shared};

@@ -1,5 +1,7 @@
-// The operations on rule tables, and the staging: rules go into the switches and out of them in stages, and no switch exceeds
-// its room. Each operation has no precondition.
+//! The operations on rule tables, and the staging: rules go into the switches and out of them in stages, and no switch exceeds
+//! its room. Each operation has no precondition.
+#![tactic(auto)]
+
 ghost use Rattle.std.specs.Prelude.{◌≡◌, length};
 ghost use Rattle.lists.specs.Answers.{with_room, done, lent};
 ghost use Rattle.forms.specs.declared.form.Form.TheVariants as forms;

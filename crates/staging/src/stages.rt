@@ -15,7 +15,7 @@ use switches::tables::SWITCHES;
 const TUNNELS: usize = RuleTables::TUNNELS as usize;
 
 // The terms of a pass over the tunnels: the kind that moves, the stage, and its test, by which `unit` times a count is at most `times` what is spare.
-#[derive(Drop)]
+#[derive(Clone, Copy)]
 struct Terms {
     pub kind: u64,
     pub stage: u64,

@@ -1,5 +1,7 @@
-// The worst loads of a link in one step: inner functions of the page. The checker gathers those of all links for a block of
-// steps; that pass has its place within the check alone, and is not called from here.
+//! The worst loads of a link in one step: inner functions of the page. The checker gathers those of all links for a block of
+//! steps; that pass has its place within the check alone, and is not called from here.
+#![tactic(auto)]
+
 ghost use Rattle.std.specs.Prelude.{◌≡◌, cond, true, false, ◌*◌, ◌≤◌, ◌<◌, leb};
 ghost use Rattle.model.specs.Limits.{most_amount, most_steps};
 ghost use Rattle.model.specs.Rule.{across, by_flow};
@@ -17,7 +19,7 @@ use loads::windows;
 const FLOWS: usize = Network::FLOWS as usize;
 
 // What is put on a link at worst: by the protected classes, and by all.
-#[derive(Drop)]
+#[derive(Clone, Copy)]
 pub struct Worst {
     pub protected: u64,
     pub all: u64,

@@ -1,2 +1,4 @@
-// The writers of the three texts.
+//! The writers of the three texts.
+#![tactic(auto)]
+
 pub mod write;
