@@ -10,8 +10,8 @@ use native.Mathlib.Numerals.{add-one}
 use lib.Bits.{bit_or}
 use lib.Dec.{eqb}
 use lib.ListN.{length, set, replicate, length-set, length-replicate, get_or-replicate}
-use lib.Seq.{get_or-set_same, get_or-set_other, ext_get_or}
-use borrow.Author.Tests.{eq-eqb, eqb-true, eqb-false}
+use lib.Seq.{get_or-set_same, get_or-set_other}
+use borrow.Author.Tests.{eqb-true, eqb-false}
 use Rattle.model.specs.Limits.{most_links, most_flows, most_tunnels, most_amount}
 use Rattle.model.specs.Sets.{in_set}
 use Rattle.model.specs.Sum.{sum_over}
@@ -22,7 +22,7 @@ use Rattle.model.proofs.Sets.{or-outside}
 use Rattle.model.proofs.Sums.{sum-zero, sum-take, sum-skip}
 use Rattle.model.proofs.Movers.{on-flow}
 use Rattle.lists.specs.Lists.{at}
-use Rattle.link_sums.specs.Tables.{Part, sum_at, amount, most_sums, Room, Added, on_part, Table, of_flow, LastOf, Chains, FlowRoom, FlowAdded, FlowSums, NoneOutside, SumsAdded, Emptied, WithFlow}
+use Rattle.link_sums.specs.Tables.{Part, sum_at, amount, most_sums, Room, Added, on_part, Table, of_flow, LastOf, Chains, FlowRoom, FlowAdded, FlowSums, NoneOutside, SumsAdded, WithFlow}
 use Rattle.link_sums.proofs.Tables.{store_at, amount-most, part-mover, InRange, flow-most}
 
 -- ---- the chains of tunnels
@@ -149,19 +149,12 @@ at_one : (l k : ℕ) (x : ℕ → ℕ) → cond (eqb l k) (x k) 0 ≡ cond (eqb 
 at_one l k x =
     ⊎_elim (λ e. ap (λ (j : ℕ). cond (eqb l k) (x j) 0) (sym (eqb-true l k e))) (λ e. rw e refl) (bool_cases (eqb l k))
 
-pub sums_on : (k o n : ℕ) (c e : ℕ → Bool) (olds news s s₁ s₂ : List ℕ) → SumsAdded c olds news s s₁ → o ≡ at olds k → n ≡ at news k
-    → Added (λ l. eqb l k) o n s₁ s₂ → ((l y : ℕ) → cond (c l) y 0 + cond (eqb l k) y 0 ≡ cond (e l) y 0) → SumsAdded e olds news s s₂
-sums_on k o n c e olds news s s₁ s₂ a eo en b h = record {
+pub sums_on : (k : ℕ) (c e : ℕ → Bool) (olds news s s₁ s₂ : List ℕ) → SumsAdded c olds news s s₁ → Added (λ l. eqb l k) (at olds k) (at news k) s₁ s₂
+    → ((l y : ℕ) → cond (c l) y 0 + cond (eqb l k) y 0 ≡ cond (e l) y 0) → SumsAdded e olds news s s₂
+sums_on k c e olds news s s₁ s₂ a b h = record {
   size = b.size ∙ a.size;
   each = λ p l hl.
-      omega (
-        arith,
-        a.each p l hl,
-        b.each p l hl,
-        ap₂ (λ (x y : ℕ). cond (eqb l k) (amount x y p) 0) eo en,
-        at_one l k (λ j. amount (at olds j) (at news j) p),
-        h l (amount (at olds l) (at news l) p),
-      );
+      omega (arith, a.each p l hl, b.each p l hl, at_one l k (λ j. amount (at olds j) (at news j) p), h l (amount (at olds l) (at news l) p));
 }
 
 pub sums-room : (c : ℕ → Bool) (olds news s s' : List ℕ) → SumsAdded c olds news s s' → FlowRoom olds → FlowRoom news → Room most_sums s → Room (most_sums + most_tunnels) s'
@@ -176,67 +169,6 @@ sums-room c olds news s s' a o n r = record {
         amount-most (most_tunnels * most_amount) (at olds l) (at news l) (o.most l h) (n.most l h) p,
       );
 }
-
--- ---- a flow's sums set back to 0, link by link
-
-pub emptied-none : (s : List ℕ) → Emptied (λ l. false) s s
-emptied-none s = record { size = refl; each = λ l h. refl }
-
-clear_at : (s : List ℕ) (k l : ℕ) → k < length s → at (set s k 0) l ≡ cond (eqb l k) 0 (at s l)
-clear_at s k l h =
-    ⊎_elim
-    (λ e. let same : l ≡ k = eqb-true l k e in rw e (ap (at (set s k 0)) same ∙ get_or-set_same s k 0 0 h))
-    (λ e. rw e (get_or-set_other s k l 0 0 (eqb-false l k e)))
-    (bool_cases (eqb l k))
-
--- two tests that never hold both, and the one that holds where one of them does
-back-both : (a b e : Bool) → cond a 1 0 + cond b 1 0 ≡ cond e 1 0 → (y : ℕ) → cond b 0 (cond a 0 y) ≡ cond e 0 y
-back-both true true e q y = absurd (omega (arith, q, cond-most e 1))
-back-both true false true q y = refl
-back-both true false false q y = absurd (omega arith)
-back-both false true true q y = refl
-back-both false true false q y = absurd (omega arith)
-back-both false false true q y = absurd (omega arith)
-back-both false false false q y = refl
-
-back-most : (b : Bool) (y : ℕ) → cond b 0 y ≤ y
-back-most true y = omega arith
-back-most false y = le_refl y
-
--- link k more, which is not among those that c picks
-module _ (k : ℕ) (c e : ℕ → Bool) (s s₁ : List ℕ) (hk : k < most_links) (a : Emptied c s s₁)
-    (h : (l y : ℕ) → cond (c l) y 0 + cond (eqb l k) y 0 ≡ cond (e l) y 0) where
-  pub emptied-on : (s₂ : List ℕ) → length s ≡ most_links → s₂ ≡ set s₁ k 0 → Emptied e s s₂
-  emptied-on s₂ size q = record {
-    size = ap length q ∙ length-set s₁ k 0 ∙ a.size;
-    each = λ l hl.
-        ap (λ (z : List ℕ). at z l) q
-        ∙ clear_at s₁ k l (omega (arith, a.size))
-        ∙ ap (cond (eqb l k) 0) (a.each l hl)
-        ∙ back-both (c l) (eqb l k) (e l) (h l 1) (at s l);
-  }
-
-  -- so its sum is still there
-  pub emptied-ahead : at s₁ k ≡ at s k
-  emptied-ahead =
-      let one : Bool → ℕ = λ b. cond b 1 0 in
-      ⊎_elim
-      (λ i. absurd (omega (arith, h k 1, cond-most (e k) 1, ap one i, ap one (eq-eqb k k refl))))
-      (λ i. a.each k hk ∙ ap (λ (b : Bool). cond b 0 (at s k)) i)
-      (bool_cases (c k))
-
-pub emptied-room : (c : ℕ → Bool) (s s' : List ℕ) → Emptied c s s' → FlowRoom s → FlowRoom s'
-emptied-room c s s' a r = record { size = a.size ∙ r.size; most = λ l h. omega (arith, a.each l h, back-most (c l) (at s l), r.most l h) }
-
--- sums that are none but on the links of a set, set back there, are 0 everywhere
-pub emptied-all : (k : ℕ) (s s' : List ℕ) → length s ≡ most_links → NoneOutside k s → Emptied (in_set k) s s' → s' ≡ replicate most_links 0
-emptied-all k s s' size o a =
-    ext_get_or 0 s' (replicate most_links 0) (a.size ∙ size ∙ sym (length-replicate {A = ℕ} most_links 0)) (λ l h.
-    let low : l < most_links = omega (arith, a.size) in a.each l low ∙ back l low ∙ sym (get_or-replicate most_links l 0 0 low))
-  where
-    back : (l : ℕ) → l < most_links → cond (in_set k l) 0 (at s l) ≡ 0
-    back l low =
-        ⊎_elim (λ i. ap (λ (b : Bool). cond b 0 (at s l)) i) (λ i. ap (λ (b : Bool). cond b 0 (at s l)) i ∙ o.each l low i) (bool_cases (in_set k l))
 
 -- ---- a flow more in a table of flows
 

@@ -107,11 +107,6 @@ pub record SumsAdded (c : ℕ → Bool) (olds news s s' : List ℕ) : Type 0 whe
   pub size : length s' ≡ length s
   pub each : (p : Part) (l : ℕ) → l < most_links → sum_at s' p l ≡ sum_at s p l + cond (c l) (amount (at olds l) (at news l) p) 0
 
--- the sums s' are s with 0 on the links that c picks
-pub record Emptied (c : ℕ → Bool) (s s' : List ℕ) : Type 0 where
-  pub size : length s' ≡ length s
-  pub each : (l : ℕ) → l < most_links → at s' l ≡ cond (c l) 0 (at s l)
-
 -- the table s' is s with flow f added
 pub record WithFlow (N : Net) (f : ℕ) (s s' : List ℕ) : Type 0 where
   pub size : length s' ≡ length s

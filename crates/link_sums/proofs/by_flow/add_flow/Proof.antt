@@ -1,5 +1,5 @@
--- `link_sums::by_flow::add_flow` meets its contract: by the flow's sums on the links that its tunnels cross, where they are set back.
-use Rattle.link_sums.proofs.Flows.{sums-within, emptied-all, with-flow}
+-- `link_sums::by_flow::add_flow` meets its contract: by the flow's sums on the links that its tunnels cross.
+use Rattle.link_sums.proofs.Flows.{sums-within, with-flow}
 use Rattle.link_sums.proofs.Good.{good-range}
 use borrow.Author.Rules.{rules}
 use Rattle.link_sums.proofs.by_flow.add_flow.Statement.{statement}
@@ -7,29 +7,39 @@ use Rattle.link_sums.proofs.by_flow.add_flow.Tie as tie
 use Rattle.link_sums.proofs.by_flow.add_sums.Reads as add-sums-reads
 use Rattle.link_sums.proofs.by_flow.sum_flow.Reads as sum-flow-reads
 
+slice-aggregate-sum-flow : tie.Need-slice-aggregate-sum-flow
+slice-aggregate-sum-flow c = search rules
+
+slice-aggregate-sum-flow-2 : tie.Need-slice-aggregate-sum-flow-2
+slice-aggregate-sum-flow-2 c = search rules
+
 sum-flow-requires : tie.Need-sum-flow-requires
 sum-flow-requires c κs = search rules
 
+slice-aggregate-add-sums : tie.Need-slice-aggregate-add-sums
+slice-aggregate-add-sums c = search rules
+
+slice-aggregate-add-sums-2 : tie.Need-slice-aggregate-add-sums-2
+slice-aggregate-add-sums-2 c = search rules
+
 add-sums-requires : tie.Need-add-sums-requires
-add-sums-requires c κs = let r = good-range _ c.before.before.before.before.before.before.before.before.before.before.before.before.before.before.before.before.requires.0.0 in
-    (c.before.before.before.before.before.before.before.before.before.before.before.before.before.before.before.before.requires.1.1.2, sums-within _ _ _ r r.old _ c.before.before.before.before.before.before.before.sum-flow.ensures.0.0, sums-within _ _ _ r r.new _ c.before.before.before.before.before.before.before.sum-flow.ensures.1.0)
+add-sums-requires c κs = let r = good-range _ c.before.before.before.before.before.before.before.before.before.before.before.before.requires.0.0 in (c.before.before.before.before.before.before.before.before.before.before.before.before.requires.1.1, sums-within _ _ _ r r.old _ c.before.before.before.before.before.sum-flow.ensures.0.0, sums-within _ _ _ r r.new _ c.before.before.before.before.before.sum-flow.ensures.1.0)
 
 same_length : tie.Need-same-length
 same_length c = search rules
 
-same-length-2 : tie.Need-same-length-2
-same-length-2 c = search rules
-
-same-length-3 : tie.Need-same-length-3
-same-length-3 c = search rules
-
 returns : tie.Need-returns
-returns c = let o = c.before.before.before.before.before.before.before.before.before.before.before.before.before.before.sum-flow.ensures.0 in
-    let n = c.before.before.before.before.before.before.before.before.before.before.before.before.before.before.sum-flow.ensures.1 in
-    let a = c.before.before.before.before.before.before.add-sums.ensures in
-    (with-flow _ c.before.before.before.before.before.before.before.before.before.before.before.before.before.before.before.before.before.before.before.before.before.before.before.requires.0.1 _ _ _ _ o n _ _ a.0, (emptied-all _ _ _ o.0.size o.1 a.1.0, emptied-all _ _ _ n.0.size n.1 a.1.1))
+returns c = with-flow _ c.before.before.before.before.before.before.before.before.before.before.before.before.before.before.before.requires.0.1 _ _ _ _ c.before.before.before.before.before.before.before.before.sum-flow.ensures.0 c.before.before.before.before.before.before.before.before.sum-flow.ensures.1 _ _ c.before.before.add-sums.ensures
 
 pub add-flow-spec : {M : Type 1} → statement M
 add-flow-spec =
     tie.close
-    (tie.spec sum-flow-requires add-sums-requires same_length same-length-2 same-length-3 returns)
+    (tie.spec
+    slice-aggregate-sum-flow
+    slice-aggregate-sum-flow-2
+    sum-flow-requires
+    slice-aggregate-add-sums
+    slice-aggregate-add-sums-2
+    add-sums-requires
+    same_length
+    returns)

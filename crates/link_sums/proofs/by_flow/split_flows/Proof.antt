@@ -1,11 +1,10 @@
--- `link_sums::by_flow::split_flows` meets its contract: each table has those of the flows passed that it is for, and the sums of a flow are 0 again.
+-- `link_sums::by_flow::split_flows` meets its contract: each table has those of the flows passed that it is for.
 use Prim.Native.Nat.{ℕ, ◌+◌, ◌-◌, ◌≤◌, ◌<◌}
 use mathlib.Core.Path.{◌≡◌, sym, ap, subst, ◌∙◌}
 use mathlib.Core.Logic.{⊎_elim}
 use mathlib.Core.Bool.{Bool, not}
 use mathlib.Core.List.{List}
-use lib.ListN.{replicate}
-use Rattle.model.specs.Limits.{most_links, most_flows}
+use Rattle.model.specs.Limits.{most_flows}
 use Rattle.model.specs.Net.{Net}
 use Rattle.model.specs.Scan.{Bound}
 use Rattle.model.specs.Rule.{movers, counts}
@@ -22,25 +21,24 @@ use native.Mathlib.Omega.{arith}
 use borrow.Author.Rules.{rules}
 use Rattle.link_sums.proofs.by_flow.split_flows.Statement.{statement}
 use Rattle.link_sums.proofs.by_flow.split_flows.Tie as tie
+use Rattle.lists.proofs.Network.of.Reads as of-reads
 use Rattle.link_sums.proofs.by_flow.add_flow.Reads as add-flow-reads
 use Rattle.link_sums.proofs.is_protected.Reads as is-protected-reads
-use Rattle.lists.proofs.Network.of.Reads as of-reads
 
 abbrev invariant-loop : tie.invariant-loop
-invariant-loop network lasts priors olds₀ news₀ protected₀ others₀ sizes flow₀ olds news protected others flow = record {
+invariant-loop network lasts priors protected₀ others₀ sizes flow₀ protected others flow = record {
   low : flow ≤ sizes.flows;
-  sums : (olds ≡ replicate most_links 0) × (news ≡ replicate most_links 0);
   protected : Table (network_of network) flow (counts (network_of network) Bound.protected) protected;
   others : Table (network_of network) flow (unprotected (network_of network)) others;
 }
 
 abbrev decreases-loop : tie.decreases-loop
-decreases-loop network lasts priors olds₀ news₀ protected₀ others₀ sizes flow₀ olds news protected others flow = sizes.flows - flow
+decreases-loop network lasts priors protected₀ others₀ sizes flow₀ protected others flow = sizes.flows - flow
 
 -- in a turn: the flow
 module _ (c : tie.After-is-protected invariant-loop decreases-loop) where
   abbrev begin : tie.Start invariant-loop decreases-loop
-  begin = c.before.before.before.before.before.before.before.before.before.before.before.before
+  begin = c.before.before.before.before.before.before.before.before.before.before
 
   abbrev list : List ℕ
   list = begin.args.network.now
@@ -67,25 +65,19 @@ module _ (c : tie.After-is-protected invariant-loop decreases-loop) where
   class-told = counts-by-flow N begin.pre.0.1 f ∙ sym c.is-protected.ensures
 
 of-requires : tie.Need-of-requires invariant-loop decreases-loop
-of-requires c κs = head_in _ c.before.before.before.before.before.before.before.requires.0.0.ranges.sized.size
+of-requires c κs = head_in _ c.before.before.before.before.before.requires.0.0.ranges.sized.size
 
 loop-holds : tie.Need-loop-init invariant-loop decreases-loop
-loop-holds c = record { low = omega arith; sums = c.before.before.before.before.before.before.before.before.requires.1.1.0; protected = table-zero _ _ _ c.before.before.before.before.before.before.before.before.requires.1.1.1.0; others = table-zero _ _ _ c.before.before.before.before.before.before.before.before.requires.1.1.1.1 }
+loop-holds c = record { low = omega arith; protected = table-zero _ _ _ c.before.before.before.before.before.before.requires.1.1.0; others = table-zero _ _ _ c.before.before.before.before.before.before.requires.1.1.1 }
 
 is-protected-requires : tie.Need-is-protected-requires invariant-loop decreases-loop
-is-protected-requires c κs = (c.before.before.before.before.before.before.before.before.before.before.before.requires.0.0.ranges.sized, c.before.before.before.of.ensures, omega (arith, c.if1.true))
+is-protected-requires c κs = (c.before.before.before.before.before.before.before.before.before.requires.0.0.ranges.sized, c.before.before.before.of.ensures, omega (arith, c.if1.true))
 
 add-flow-requires : tie.Need-add-flow-requires invariant-loop decreases-loop
-add-flow-requires c κs = let t = c.before.before.before.before in
-    let b = begin t in
-    let i = c.before.before.before.before.before.before.before.loop.invariant in
-    ((b.pre.0.0, b.pre.0.1, low t), (b.pre.1.0, (i.sums.0, i.sums.1, room t _ _ i.protected)))
+add-flow-requires c κs = let b = begin c.before.before in ((b.pre.0.0, b.pre.0.1, low c.before.before), (b.pre.1.0, room c.before.before _ _ c.before.before.before.before.before.loop.invariant.protected))
 
 add-flow-requires-2 : tie.Need-add-flow-requires-2 invariant-loop decreases-loop
-add-flow-requires-2 c κs = let t = c.before.before.before.before in
-    let b = begin t in
-    let i = c.before.before.before.before.before.before.before.loop.invariant in
-    ((b.pre.0.0, b.pre.0.1, low t), (b.pre.1.0, (i.sums.0, i.sums.1, room t _ _ i.others)))
+add-flow-requires-2 c κs = let b = begin c.before.before in ((b.pre.0.0, b.pre.0.1, low c.before.before), (b.pre.1.0, room c.before.before _ _ c.before.before.before.before.before.loop.invariant.others))
 
 add-flow : tie.Need-overflow-add-flow invariant-loop decreases-loop
 add-flow c = search rules
@@ -94,21 +86,18 @@ loop-less : tie.Need-loop-smaller invariant-loop decreases-loop
 loop-less c = search rules
 
 loop-again : tie.Need-loop-preserved invariant-loop decreases-loop
-loop-again c = let t = c.before in
-    let e = class-told t in
-    let n = N t in
-    let k = f t in
-    let i = c.before.before.before.before.loop.invariant in
-    let sums : (c.if2.olds ≡ replicate most_links 0) × (c.if2.news ≡ replicate most_links 0) =
-    ⊎_elim (λ w. (w.11 ∙ w.4.ensures.1.0, w.12 ∙ w.4.ensures.1.1)) (λ w. (w.11 ∙ w.4.ensures.1.0, w.12 ∙ w.4.ensures.1.1)) c.if2.branch in
+loop-again c = let p = c.before in
+    let e = class-told p in
+    let n = N p in
+    let k = f p in
     let tables : Table n (k + 1) (counts n Bound.protected) c.if2.protected × Table n (k + 1) (unprotected n) c.if2.others =
     ⊎_elim
     (λ w. let q = e ∙ w.0.taken in
-    (rw w.13 (flow-take n k _ _ _ i.protected q w.4.ensures.0), rw w.14 (table-skip n k _ _ i.others (ap not q))))
+    (rw w.5 (flow-take n k _ _ _ c.before.before.before.before.loop.invariant.protected q w.2.ensures), rw w.6 (table-skip n k _ _ c.before.before.before.before.loop.invariant.others (ap not q))))
     (λ w. let q = e ∙ w.0.left in
-    (rw w.13 (table-skip n k _ _ i.protected q), rw w.14 (flow-take n k _ _ _ i.others (ap not q) w.4.ensures.0)))
+    (rw w.5 (table-skip n k _ _ c.before.before.before.before.loop.invariant.protected q), rw w.6 (flow-take n k _ _ _ c.before.before.before.before.loop.invariant.others (ap not q) w.2.ensures)))
     c.if2.branch in
-    record { low = omega (arith, c.before.before.if1.true); sums = sums; protected = tables.0; others = tables.1 }
+    record { low = omega (arith, c.before.before.if1.true); protected = tables.0; others = tables.1 }
 
 same_length : tie.Need-same-length invariant-loop decreases-loop
 same_length c = search rules
@@ -116,15 +105,10 @@ same_length c = search rules
 same-length-2 : tie.Need-same-length-2 invariant-loop decreases-loop
 same-length-2 c = search rules
 
-same-length-3 : tie.Need-same-length-3 invariant-loop decreases-loop
-same-length-3 c = search rules
-
-same-length-4 : tie.Need-same-length-4 invariant-loop decreases-loop
-same-length-4 c = search rules
-
 returns : tie.Need-returns invariant-loop decreases-loop
 unfolding network_of
-returns c = let a = c.before.before.before.before.before.before.before.before.before.before.before in
+returns c =
+    let a = c.before.before.before.before.before.before.before.before.before in
     let N = network_of a.args.network.now in
     let e : c.before.before.loop.flow ≡ movers N = omega (arith, c.before.before.loop.invariant.low, c.if1.false, ap (λ (n : sizes.Network). n.flows) c.before.before.before.of.ensures, movers-flows N a.requires.0.1) in
     (subst (λ (n : ℕ). Table N n (counts N Bound.protected) c.before.before.loop.protected) e c.before.before.loop.invariant.protected, subst (λ (n : ℕ). Table N n (unprotected N) c.before.before.loop.others) e c.before.before.loop.invariant.others)
@@ -145,6 +129,4 @@ split-flows-spec =
     loop-again
     same_length
     same-length-2
-    same-length-3
-    same-length-4
     returns)

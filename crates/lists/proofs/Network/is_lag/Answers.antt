@@ -1,0 +1,12 @@
+-- `lists::Network::is_lag` meets its contract.
+use mathlib.Core.Path.{◌∙◌, sym}
+use native.Mathlib.Omega.{arith}
+use borrow.Author.Tests.{le-leb, lt-leb}
+use borrow.Author.Rules.{rules}
+use Rattle.lists.proofs.Network.is_lag.Goals as goal
+
+pub returns-then-lag-ge1 : goal.returns-then-lag-ge1
+returns-then-lag-ge1 c = rw (le-leb 1 c.args.lag (omega (arith, c.if-lag-ge1.true)))
+
+pub returns-else-lag-ge1 : goal.returns-else-lag-ge1
+returns-else-lag-ge1 c = rw (lt-leb 1 c.args.lag (omega (arith, c.if-lag-ge1.false)))
