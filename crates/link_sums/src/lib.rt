@@ -1,7 +1,9 @@
-// The three sums of each link, over the movers across it: of their old amounts, of their new ones, and of the larger of the two. A mover is a tunnel, or where
-// the switches change a whole flow in one operation a flow, whose amounts on a link are the sums of its tunnels'.
-// A table has them for every link that a network can have, first those of the old amounts, then those of the new ones, then those of the larger.
-// Inner functions of the planner; they know nothing of steps.
+//! The three sums of each link, over the movers across it: of their old amounts, of their new ones, and of the larger of the two. A mover is a tunnel, or where
+//! the switches change a whole flow in one operation a flow, whose amounts on a link are the sums of its tunnels'.
+//! A table has them for every link that a network can have, first those of the old amounts, then those of the new ones, then those of the larger.
+//! Inner functions of the planner; they know nothing of steps.
+#![tactic(auto)]
+
 ghost use Rattle.std.specs.Prelude.{◌≡◌, ◌<◌, max, leb, replicate};
 ghost use Rattle.model.specs.Scan.{Bound};
 ghost use Rattle.lists.specs.Lists.{network_sizes, network_of};

@@ -5,7 +5,6 @@ use Rattle.lists.specs.Lists.{at, network_of, network_sizes}
 use Rattle.model.specs.Rule.{by_flow}
 use Rattle.lists.proofs.Positions.{head-least}
 use native.Mathlib.Omega.{arith}
-use borrow.Author.Rules.{rules}
 use Rattle.lists.proofs.Network.by_flow.Goals as goal
 
 pub bounds-list-0 : goal.bounds-list-0

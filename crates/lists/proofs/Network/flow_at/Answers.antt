@@ -4,7 +4,6 @@ use Rattle.lists.proofs.Positions.{flows-few, flow-low}
 use mathlib.Core.Path.{ap, ap₂}
 use Prim.Native.Nat.{ℕ, ◌+◌, ◌*◌}
 use native.Mathlib.Omega.{arith}
-use borrow.Author.Rules.{rules}
 use Rattle.lists.proofs.Network.flow_at.Goals as goal
 
 pub overflow_mul-result : goal.overflow_mul-result

@@ -2,8 +2,6 @@
 use mathlib.Core.Path.{sym}
 use Rattle.lists.proofs.Positions.{with_unit, without-unit}
 use borrow.Author.Tests.{le-leb, lt-leb}
-use native.Mathlib.Omega.{arith}
-use borrow.Author.Rules.{rules}
 use Rattle.lists.proofs.Network.head.Goals as goal
 
 pub returns-then-edition-ge-HELD_SINCE : goal.returns-then-edition-ge-HELD_SINCE

@@ -8,7 +8,6 @@ use Rattle.lists.specs.Lists.{at, has_held, network_sizes}
 use Rattle.lists.proofs.Positions.{link-place, LinkPlace, limited}
 use Rattle.lists.proofs.Held.{with-held, without-held, held_in}
 use native.Mathlib.Omega.{arith}
-use borrow.Author.Rules.{rules}
 use Rattle.lists.proofs.Network.held.Goals as goal
 use Rattle.lists.proofs.Network.held.Goals.{After-link_at}
 

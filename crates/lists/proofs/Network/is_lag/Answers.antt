@@ -1,8 +1,6 @@
 -- `lists::Network::is_lag` meets its contract.
-use mathlib.Core.Path.{◌∙◌, sym}
 use native.Mathlib.Omega.{arith}
 use borrow.Author.Tests.{le-leb, lt-leb}
-use borrow.Author.Rules.{rules}
 use Rattle.lists.proofs.Network.is_lag.Goals as goal
 
 pub returns-then-lag-ge1 : goal.returns-then-lag-ge1

@@ -4,7 +4,6 @@ use Rattle.lists.proofs.Positions.{links-few, link-low}
 use mathlib.Core.Path.{ap, ap₂}
 use Prim.Native.Nat.{ℕ, ◌+◌, ◌*◌}
 use native.Mathlib.Omega.{arith}
-use borrow.Author.Rules.{rules}
 use Rattle.lists.proofs.Network.link_at.Goals as goal
 
 pub overflow_mul-result : goal.overflow_mul-result

@@ -4,7 +4,6 @@ use mathlib.Core.Path.{ap}
 use Rattle.lists.specs.Lists.{next_in}
 use Rattle.lists.proofs.Positions.{flow-some}
 use native.Mathlib.Omega.{arith}
-use borrow.Author.Rules.{rules}
 use Rattle.lists.proofs.Network.next.Goals as goal
 
 pub overflow_sub-result : goal.overflow_sub-result

@@ -4,7 +4,6 @@ use Rattle.lists.specs.Lists.{at, network_sizes}
 use lib.ListN.{length}
 use Rattle.lists.proofs.Positions.{head-size, head-least, head-low, head-high}
 use native.Mathlib.Omega.{arith}
-use borrow.Author.Rules.{rules}
 use Rattle.lists.proofs.Network.of.Goals as goal
 use Rattle.lists.proofs.Network.of.Goals.{After-head-head}
 

@@ -1,7 +1,6 @@
 -- `lists::Network::per_flow` meets its contract.
 use Rattle.lists.specs.Lists.{per_flow}
 use mathlib.Core.Path.{sym, ◌∙◌}
-use borrow.Author.Rules.{rules}
 use Rattle.lists.proofs.Network.per_flow.Goals as goal
 
 pub returns-then-has_next : goal.returns-then-has_next

@@ -1,8 +1,6 @@
 -- `lists::Network::per_link` meets its contract.
 use mathlib.Core.Path.{sym, ◌∙◌}
 use Rattle.lists.proofs.Positions.{two-a-link, one-a-link}
-use native.Mathlib.Omega.{arith}
-use borrow.Author.Rules.{rules}
 use Rattle.lists.proofs.Network.per_link.Goals as goal
 
 pub returns-then-has_held : goal.returns-then-has_held

@@ -3,9 +3,8 @@ use Prim.Native.Nat.{ℕ, ◌+◌, ◌*◌, ◌-◌, ◌≤◌}
 use mathlib.Core.Path.{◌≡◌, ap}
 use Rattle.lists.specs.declared.Network.{Network}
 use Rattle.lists.specs.Lists.{link_at, flow_at, tunnel_at, most_numbers}
-use Rattle.lists.proofs.Positions.{link-some, flow-pos, head-size, flows-start, tunnels-start, tunnel-at, links-few, flows-few, link-stands, flow-stands, tunnel-stands}
+use Rattle.lists.proofs.Positions.{head-size, flows-start, tunnels-start, tunnel-at, links-few, flows-few, link-stands, flow-stands, tunnel-stands}
 use native.Mathlib.Omega.{arith}
-use borrow.Author.Rules.{rules}
 use Rattle.lists.proofs.Network.position.Goals as goal
 use Rattle.lists.proofs.Network.position.Goals.{After-per_flow-per_flow, After-per_link-per_link, Else-m-per_flow}
 
@@ -25,7 +24,6 @@ module _ (c : After-per_link-per_link) where
 
 -- the same of the flows', past the links'
 module _ (c : After-per_flow-per_flow) where
-
   abbrev past-links : ℕ
   past-links = c.args.i - c.head.result - c.per_link-per_link.result * c.args.self.links
 

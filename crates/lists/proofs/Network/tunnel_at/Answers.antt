@@ -4,7 +4,6 @@ use Rattle.lists.proofs.Positions.{tunnel-low}
 use mathlib.Core.Path.{ap}
 use Prim.Native.Nat.{ℕ, ◌+◌, ◌*◌}
 use native.Mathlib.Omega.{arith}
-use borrow.Author.Rules.{rules}
 use Rattle.lists.proofs.Network.tunnel_at.Goals as goal
 
 pub overflow_add-result : goal.overflow_add-result

@@ -1,7 +1,6 @@
 -- `lists::PlanSizes::row_at` meets its contract.
 use native.Mathlib.Nat.{mul-le-mul, le_trans, sub-le}
 use native.Mathlib.Omega.{arith}
-use borrow.Author.Rules.{rules}
 use Rattle.lists.proofs.PlanSizes.row_at.Goals as goal
 
 pub overflow_mul-result : goal.overflow_mul-result
