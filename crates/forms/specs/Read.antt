@@ -1,6 +1,6 @@
 -- What a text is read as, and what a list is judged to be: a walk over the lines or the numbers, by the form, and then the sums.
 use Rattle.std.specs.Prelude.{ℕ, zero, suc, ◌+◌, cond, List, [], ◌∷◌, ◌++◌, ltb}
-use Rattle.std.proofs.Math.Option.{Option, none, some, Option·elim}
+use Rattle.std.proofs.Math.Option.{Option, none, some, Option-elim}
 use Rattle.model.specs.Outcome.{Outcome, good, refused, unless, and_then, malformed, out_of_range, missing, missed_rate}
 use Rattle.model.specs.Rule as rule
 use Rattle.lists.specs.Lists.{network_of}
@@ -23,7 +23,7 @@ unfoldable pub walk : {X : Type 0} → (ℕ → Range → X → Option ℕ) → 
 walk value form n done [] = on_field (field_of form done) (good done) (λ k r. refused missing n (second_of form))
 walk value form n done (x ∷ xs) =
     on_field (field_of form done) (refused missing n (second_of form)) (λ k r.
-    Option·elim (value k r x) (refused malformed n (second_of form)) (λ v.
+    Option-elim (value k r x) (refused malformed n (second_of form)) (λ v.
     cond (admits_of r v) (walk value form (n + 1) (done ++ (v ∷ [])) xs) (refused out_of_range n (second_of form))))
 
 -- ---- the lines of a text: "The reading of a line now yields the next real line."

@@ -1,7 +1,7 @@
 -- Reading line by line, as the readers' loop does, remarks passed over on the way. What a text is read as is defined in Read.antt;
 -- that both come to the same is `read-by-turns` in proofs/Remarks.antt.
 use Rattle.std.specs.Prelude.{ℕ, ◌+◌, Bool, true, cond, not, ◌&&◌, List, [], ◌∷◌, ◌++◌, eqb, get_or}
-use Rattle.std.proofs.Math.Option.{Option, some, Option·elim}
+use Rattle.std.proofs.Math.Option.{Option, some, Option-elim}
 use Rattle.model.specs.Outcome.{Outcome, good, refused, malformed, out_of_range, missing}
 use Rattle.forms.specs.Line.{line_value, is_remark, fits, is_passed}
 use Rattle.forms.specs.Form.{field_of, admits_of, second_of}
@@ -30,7 +30,7 @@ at_end form n done = on_field (field_of form done) (good done) (λ k r. refused 
 abbrev pub at_item : Form → ℕ → List ℕ → (ℕ → Range → Option ℕ) → (List ℕ → Outcome (List ℕ)) → Outcome (List ℕ)
 at_item form n done value next =
     on_field (field_of form done) (refused missing n (second_of form)) (λ k r.
-    Option·elim (value k r) (refused malformed n (second_of form)) (λ v.
+    Option-elim (value k r) (refused malformed n (second_of form)) (λ v.
     cond (admits_of r v) (next (done ++ (v ∷ []))) (refused out_of_range n (second_of form))))
 
 -- over lines, so many remarks having been passed over

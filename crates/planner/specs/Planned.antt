@@ -1,7 +1,7 @@
 -- What the planner comes to, for every list.
 use Rattle.std.specs.Prelude.{ℕ, suc, ◌-◌}
 use mathlib.Core.List.{List, [], ◌∷◌, ◌++◌, flatten}
-use Rattle.std.proofs.Math.Option.{Option, Option·elim}
+use Rattle.std.proofs.Math.Option.{Option, Option-elim}
 use Rattle.model.specs.Outcome.{Outcome, good, refused, no_even_plan}
 use Rattle.model.specs.Net.{Net}
 use Rattle.model.specs.Scan.{Overload, step}
@@ -20,11 +20,11 @@ even_list N q = (1 ∷ q ∷ q ∷ N.tunnels ∷ []) ++ flatten (listed (q - 1) 
 
 -- "no even plan of 1 to 50 steps is accepted | 9 | where the 50-step plan first overloads: step; link". It overloads somewhere: `nine` of Claim.antt
 unfoldable pub stuck : Option Overload → Outcome (List ℕ)
-stuck o = Option·elim o (refused no_even_plan 0 0) (λ o. refused no_even_plan (step o) o.link)
+stuck o = Option-elim o (refused no_even_plan 0 0) (λ o. refused no_even_plan (step o) o.link)
 
 -- "The planner fills a plan list": the even plan of fewest steps at a lag of w, or refusal 9
 unfoldable pub even_plan : ℕ → Net → Outcome (List ℕ)
-even_plan w N = Option·elim (fewest w N) (stuck (first_overload w N (even N most_steps))) (λ q. good (even_list N q))
+even_plan w N = Option-elim (fewest w N) (stuck (first_overload w N (even N most_steps))) (λ q. good (even_list N q))
 
 -- the planner's whole outcome, where w is given as the lag: "lag outside 1..4, tested before all else". "Writers, planner and checker take lists and judge them
 -- by the same rules": the judge's refusal is passed on

@@ -1,6 +1,6 @@
 -- What the readers' code comes to, line by line.
 use Rattle.std.specs.Prelude.{◌≡◌, ℕ, ◌+◌, ◌≤◌, Bool, true, false, cond, not, List, length, take, drop, ◌==◌, nat_lt}
-use Rattle.std.proofs.Math.Option.{Option·elim}
+use Rattle.std.proofs.Math.Option.{Option-elim}
 use Rattle.model.specs.Outcome.{Outcome, good, refused, number, malformed, out_of_range, missing}
 use Rattle.forms.specs.Line.{lines, line_value}
 use Rattle.lists.specs.Lists.{at, network_sizes}
@@ -24,7 +24,7 @@ use Rattle.readers.specs.declared.read.Body.TheVariants.{Unknown, Known}
 unfoldable pub taken_of : ℕ → Range → List ℕ → ℕ → Taken
 taken_of k r text at =
     cond (at == length text) (Stop (number missing))
-    (Option·elim (line_value k r (first_line (drop at text))) (Stop (number malformed)) (λ v.
+    (Option-elim (line_value k r (first_line (drop at text))) (Stop (number malformed)) (λ v.
     cond (admits_of r v) (Number v (at + line_len (drop at text))) (Stop (number out_of_range))))
 
 -- the same by what the form has there: where it ends, the text ends too, or a line is too many
