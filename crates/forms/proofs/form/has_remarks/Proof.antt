@@ -1,0 +1,25 @@
+-- `forms::form::has_remarks` meets its contract.
+use borrow.Author.Rules.{rules}
+use Rattle.forms.proofs.form.has_remarks.Statement.{statement}
+use Rattle.forms.proofs.form.has_remarks.Tie as tie
+
+enum_told : tie.Need-enum-told
+enum_told c = search rules
+
+enum-told-2 : tie.Need-enum-told-2
+enum-told-2 c = search rules
+
+enum-told-3 : tie.Need-enum-told-3
+enum-told-3 c = search rules
+
+returns : tie.Need-returns
+returns c = rw c.enum_told.given.1
+
+returns-2 : tie.Need-returns-2
+returns-2 c = rw c.enum-told2.given.1
+
+returns-3 : tie.Need-returns-3
+returns-3 c = rw c.enum-told3.given.1
+
+pub has-remarks-spec : {M : Type 1} → statement M
+has-remarks-spec = tie.close (tie.spec enum_told enum-told-2 enum-told-3 returns returns-2 returns-3)
