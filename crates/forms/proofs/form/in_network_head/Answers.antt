@@ -13,8 +13,7 @@ use Rattle.forms.specs.Form.{network_lines}
 use Rattle.forms.proofs.Forms.{lines-in-head}
 use native.Mathlib.Omega.{arith}
 use borrow.Author.Rules.{rules}
-use Rattle.forms.proofs.form.in_network_head.Statement.{statement}
-use Rattle.forms.proofs.form.in_network_head.Tie as tie
+use Rattle.forms.proofs.form.in_network_head.Goals as goal
 
 -- after six numbers the edition says it
 after-six : (l : List ℕ) → length l ≡ 6 → has_held (at l 0) ≡ ltb (length l) (length (network_lines (at l 0)))
@@ -24,21 +23,11 @@ after-six l e =
     (λ n. n ∙ sym (le-ltb (length l) (length (network_lines (at l 0))) (omega (arith, e, lines-in-head (at l 0), without-unit (at l 0) n))))
     (bool_cases (has_held (at l 0)))
 
-sub-if1 : tie.Need-overflow-sub-if1
-sub-if1 c = search rules
+pub returns-then-i : goal.returns-then-i
+returns-then-i c = let l = c.args.done.now in sym (lt-ltb (length l) (length (network_lines (at l 0))) (omega (arith, c.if-i.true, lines-in-head (at l 0), head-low (at l 0))))
 
-returns : tie.Need-returns
-returns c = let l = c.before.args.done.now in sym (lt-ltb (length l) (length (network_lines (at l 0))) (omega (arith, c.if1.true, lines-in-head (at l 0), head-low (at l 0))))
+pub returns-then-i-ge-HEAD : goal.returns-then-i-ge-HEAD
+returns-then-i-ge-HEAD c = let l = c.args.done.now in sym (le-ltb (length l) (length (network_lines (at l 0))) (omega (arith, c.if-i-ge-HEAD.true, lines-in-head (at l 0), head-high (at l 0))))
 
-returns-2 : tie.Need-returns-2
-returns-2 c = let l = c.before.before.args.done.now in sym (le-ltb (length l) (length (network_lines (at l 0))) (omega (arith, c.if2.true, lines-in-head (at l 0), head-high (at l 0))))
-
-shared-slice-read-result : tie.Need-shared-slice-read-result
-shared-slice-read-result c = search rules
-
-returns-3 : tie.Need-returns-3
-returns-3 c = after-six c.before.before.before.args.done.now (omega (arith, c.before.before.if1.false, c.before.if2.false))
-
-pub in-network-head-spec : {M : Type 1} → statement M
-in-network-head-spec =
-    tie.close (tie.spec sub-if1 returns returns-2 shared-slice-read-result returns-3)
+pub returns : goal.returns
+returns c = after-six c.args.done.now (omega (arith, c.if-i.false, c.if-i-ge-HEAD.false))
