@@ -1,0 +1,18 @@
+-- `amounts::rows::larger_amounts` meets its contract.
+use Prim.Native.Nat.{◌≤◌, ◌-◌, ◌+◌}
+use mathlib.Core.Path.{◌≡◌, ap, sym, ◌∙◌}
+use Rattle.model.specs.Net.{row}
+use Rattle.lists.specs.Lists.{network_sizes, network_of, plan_sizes, plan_of}
+use Rattle.lists.specs.declared.PlanSizes as lengths
+use Rattle.loads.specs.Tables.{block_rows}
+use Rattle.amounts.specs.Rows.{larger_row, RowAmounts}
+use Rattle.amounts.proofs.Good.{row_small, larger-small}
+use Rattle.amounts.proofs.Tables.{rows_none, rows_more, rows_end}
+use native.Mathlib.Omega.{arith}
+use Rattle.amounts.proofs.rows.larger_amounts.Given as goal
+
+abbrev pub invariant-loop-k : goal.invariant-loop-k
+invariant-loop-k l = record { low : l.k ≤ block_rows; rows : RowAmounts (larger_row (network_of l.network) (plan_of l.plan)) (network_sizes l.network).tunnels (plan_sizes l.plan).steps l.i l.k l.amounts }
+
+abbrev pub decreases-loop-k : goal.decreases-loop-k
+decreases-loop-k l = block_rows - l.k
