@@ -1,0 +1,15 @@
+-- `link_sums::by_flow::add_sums` meets its contract: the links below one have the flow's sums added, and what is left of the set falls.
+use Prim.Native.Nat.{◌<◌}
+use lib.Count.{count_trailing_zeros, trailing_le}
+use Rattle.model.specs.Limits.{most_links}
+use Rattle.model.proofs.Sets.{next-within, next-less, Passing, passing-start, passing-on, passing-end}
+use Rattle.link_sums.specs.Tables.{SumsAdded}
+use Rattle.link_sums.proofs.Flows.{sums_none, sums_on, sums-room}
+use native.Mathlib.Omega.{arith}
+use Rattle.link_sums.proofs.by_flow.add_sums.Given as goal
+
+abbrev pub invariant-loop-set : goal.invariant-loop-set
+invariant-loop-set l = Passing (λ c s. SumsAdded c l.olds l.news l.initial.table s) l.crossed l.set l.table
+
+abbrev pub decreases-loop-set : goal.decreases-loop-set
+decreases-loop-set l = l.set

@@ -1,0 +1,13 @@
+-- `link_sums::by_tunnel::add_tunnel` meets its contract: the links below one are passed, and what is left of the set falls.
+use native.Mathlib.Omega.{arith}
+use lib.Count.{trailing_le}
+use Rattle.model.proofs.Sets.{next-within, next-less, Passing, passing-start, passing-on, passing-end}
+use Rattle.link_sums.specs.Tables.{Added}
+use Rattle.link_sums.proofs.Tables.{added-both, added_none, added-room}
+use Rattle.link_sums.proofs.by_tunnel.add_tunnel.Given as goal
+
+abbrev pub invariant-loop-set : goal.invariant-loop-set
+invariant-loop-set l = Passing (λ c s. Added c l.old l.new l.initial.table s) l.via l.set l.table
+
+abbrev pub decreases-loop-set : goal.decreases-loop-set
+decreases-loop-set l = l.set
