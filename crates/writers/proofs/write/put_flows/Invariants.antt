@@ -1,0 +1,23 @@
+-- `writers::write::put_flows` meets its contract.
+use Prim.Native.Nat.{ℕ, ◌≤◌, ◌+◌, ◌*◌, ◌-◌, ◌<◌}
+use mathlib.Core.Path.{◌≡◌, ap}
+use mathlib.Core.List.{List}
+use native.Mathlib.Nat.{mul-le-mul_left}
+use Rattle.lists.specs.Lists.{per_flow, network_sizes, flow_at}
+use Rattle.lists.specs.Good.{Sized}
+use Rattle.lists.specs.declared.Network as counts
+use Rattle.lists.proofs.Positions.{flow-at, head_in}
+use Rattle.forms.proofs.Good.{network-ranges}
+use Rattle.forms.specs.declared.form.Form.TheVariants.{Network}
+use Rattle.lines.specs.Puts.{Puts}
+use Rattle.lines.proofs.Writing.{puts-length}
+use Rattle.lengths.specs.Lines.{lines_from}
+use Rattle.lengths.proofs.Runs.{no_lines, run-within, run_fits, run-put}
+use native.Mathlib.Omega.{arith}
+use Rattle.writers.proofs.write.put_flows.Given as goal
+
+abbrev pub invariant-loop-f : goal.invariant-loop-f
+invariant-loop-f l = record { few : l.f ≤ l.sizes.flows; put : Puts (lines_from Network l.list (flow_at (network_sizes l.list) 0) (per_flow (network_sizes l.list).edition * l.f)) l.at l.initial.out l.out l.p }
+
+abbrev pub decreases-loop-f : goal.decreases-loop-f
+decreases-loop-f l = l.sizes.flows - l.f

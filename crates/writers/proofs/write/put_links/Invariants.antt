@@ -1,0 +1,23 @@
+-- `writers::write::put_links` meets its contract.
+use Prim.Native.Nat.{ℕ, ◌≤◌, ◌+◌, ◌*◌, ◌-◌, ◌<◌}
+use mathlib.Core.Path.{◌≡◌, ap}
+use mathlib.Core.List.{List}
+use native.Mathlib.Nat.{mul-le-mul_left}
+use Rattle.lists.specs.Lists.{per_link, network_sizes, link_at}
+use Rattle.lists.specs.Good.{Sized}
+use Rattle.lists.specs.declared.Network as counts
+use Rattle.lists.proofs.Positions.{link-at, head_in}
+use Rattle.forms.proofs.Good.{network-ranges}
+use Rattle.forms.specs.declared.form.Form.TheVariants.{Network}
+use Rattle.lines.specs.Puts.{Puts}
+use Rattle.lines.proofs.Writing.{puts-length}
+use Rattle.lengths.specs.Lines.{lines_from}
+use Rattle.lengths.proofs.Runs.{no_lines, run-within, run_fits, run-put}
+use native.Mathlib.Omega.{arith}
+use Rattle.writers.proofs.write.put_links.Given as goal
+
+abbrev pub invariant-loop-k : goal.invariant-loop-k
+invariant-loop-k l = record { few : l.k ≤ l.sizes.links; put : Puts (lines_from Network l.list (link_at (network_sizes l.list) 0) (per_link (network_sizes l.list).edition * l.k)) l.at l.initial.out l.out l.p }
+
+abbrev pub decreases-loop-k : goal.decreases-loop-k
+decreases-loop-k l = l.sizes.links - l.k
