@@ -3,7 +3,6 @@ use Rattle.std.proofs.Common.{◌≡◌, ℕ, ◌+◌, ◌-◌, ◌<◌, ◌≤�
 use mathlib.Core.Option.{Option, none, some, Option-elim}
 use native.Mathlib.Decide.{ℕ_discrete}
 use lib.Seq.{drop-length, take-append_seam}
-use denote.Enum.Declared.{tag_of}
 use Rattle.model.specs.Outcome.{Outcome, good, refused, number, missing, malformed, out_of_range}
 use Rattle.model.proofs.Searches.{not-true}
 use Rattle.lists.specs.Lists.{at, network_sizes}
@@ -275,8 +274,8 @@ holds-refused (good l) m place second vals e = let z : ◌≡◌ {A = ℕ} 0 1 =
 holds-refused (refused c a b) m place second vals e = tt
 
 -- what the `else` of `let Taken::Number(v, next) = t else { .. }` knows
-pub no_number : (t : Taken) → (tag_of the_type t ≡ 1) ⊎ (tag_of the_type t ≡ 2) → NoNumber t
-no_number (Number v next) k = absurd (⊎_elim (λ e. omega arith) (λ e. omega arith) k)
+pub no_number : (t : Taken) → ((v next : ℕ) → t ≡ Number v next → ⊥) → NoNumber t
+no_number (Number v next) k = absurd (k v next refl)
 no_number (Stop m) k = tt
 no_number Ended k = tt
 
