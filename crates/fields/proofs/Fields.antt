@@ -71,8 +71,8 @@ module _ (w v : ℕ) (one : 1 ≤ w) (most : w ≤ 10) (below : v < 10 ^ w) wher
       rw d (put_next d (omega (arith, number-width)) (put_first (length-replicate (w - width_of v) space) (omega arith) p) q).puts
 
 -- the byte of a decimal digit
-pub digit_char : (d : ℕ) → d < 10 → 48 + d ≡ digit_char d
-digit_char d h = rw (lt-ltb d 10 h)
+pub digit_char_lem : (d : ℕ) → d < 10 → 48 + d ≡ digit_char d
+digit_char_lem d h = rw (lt-ltb d 10 h)
 
 -- ---- a line
 

@@ -61,7 +61,7 @@ planned-good w l h e = lag-in w _ h ∙ ap (λ o. and_then o (λ g. even_plan w 
 
 passed_on : (o : Outcome (List ℕ)) (next : List ℕ → Outcome (List ℕ)) (a : Answer) (room : ℕ) (out : List ℕ) → a ≡ done o → NotDone a
     → (a ≡ plan (with_room room (and_then o next))) × (out ≡ lent (with_room room (and_then o next)) out)
-passed_on (good g) next a room out e t = absurd (⊎_elim (λ k. omega arith) (λ k. omega arith) (rw e at t))
+passed_on (good g) next a room out e t = absurd (t _ e)
 passed_on (refused c i j) next a room out e t = (e, refl)
 
 pub planned-refused : (w : ℕ) (l : List ℕ) (a : Answer) (room : ℕ) (out : List ℕ) → is_lag w ≡ true → a ≡ done (judge_network l) → NotDone a
