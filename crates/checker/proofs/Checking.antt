@@ -73,7 +73,7 @@ none-gives w n p marks ys e h = gives-eq w n p _ (good none) marks _ ys (ap good
 
 passed_on : (w : ℕ) (n p : List ℕ) (o : Outcome (List ℕ)) (next : List ℕ → Outcome (Option Overload)) (marks : List ℕ) (a : Answer) → a ≡ done o → NotDone a
     → Gives w n p (and_then o next) marks a marks
-passed_on w n p (good l) next marks a e t = absurd (⊎_elim (λ k. omega arith) (λ k. omega arith) (rw e at t))
+passed_on w n p (good l) next marks a e t = absurd (t _ e)
 passed_on w n p (refused c place second) next marks a e t = (e, refl)
 
 module _ (w : ℕ) (n p marks : List ℕ) where
