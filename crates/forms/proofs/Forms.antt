@@ -21,7 +21,7 @@ use Rattle.lists.specs.declared.Position.TheVariants as position
 use Rattle.lists.specs.declared.Network as counts
 use Rattle.lists.specs.declared.PlanSizes.{PlanSizes}
 use Rattle.lists.specs.declared.RuleTables.{RuleTables}
-use Rattle.lists.proofs.Positions.{grouped, before-end, in_group, with_unit, without-unit, head-low, link-some, link-most, flow-pos, link-at, flow-at, tunnel-at, flows-start, tunnels-start, head-size, head-most, most-network, most-in-all}
+use Rattle.lists.proofs.Positions.{grouped, before-end, in_group, with-unit, without-unit, head-low, link-some, link-most, flow-pos, link-at, flow-at, tunnel-at, flows-start, tunnels-start, head-size, head-most, most-network, most-in-all}
 use Rattle.forms.specs.Form.{line, plan_body, is_hex, admits_of, Sound, allows, field_of, count_lines, network_lines, link_lines, flow_lines, tunnel_lines, plan_lines, rules_lines, rule_lines, network_body, rules_body, most_of}
 use Rattle.forms.specs.declared.form.Form.{Form}
 use Rattle.forms.specs.declared.form.Form.TheVariants.{Network, Plan, Rules}
@@ -92,7 +92,7 @@ pub count-field : (edition j : ℕ) → get_or (network_lines edition) (head_siz
 count-field edition j = ⊎_elim with without (bool_cases (has_held edition))
   where
     with : has_held edition ≡ true → get_or (network_lines edition) (head_size edition - length count_lines + j) End ≡ get_or count_lines j End
-    with e = let k : head_size edition - 3 + j ≡ suc (suc (suc (suc j))) = omega (arith, with_unit edition e) in rw (k, e) refl
+    with e = let k : head_size edition - 3 + j ≡ suc (suc (suc (suc j))) = omega (arith, with-unit edition e) in rw (k, e) refl
 
     without : has_held edition ≡ false → get_or (network_lines edition) (head_size edition - length count_lines + j) End ≡ get_or count_lines j End
     without e = let k : head_size edition - 3 + j ≡ suc (suc (suc j)) = omega (arith, without-unit edition e) in rw (k, e) refl

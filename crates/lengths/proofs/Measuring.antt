@@ -12,7 +12,7 @@ use lib.ListN.{length, get_or, length-append}
 use Rattle.model.proofs.Searches.{bool_cases}
 use Rattle.lists.specs.Lists.{has_next, has_held, head_size, per_link, per_flow, network_sizes, link_at, flow_at, tunnel_at}
 use Rattle.lists.specs.declared.Network as counts
-use Rattle.lists.proofs.Positions.{with_unit, without-unit, head-low, two-a-link, one-a-link, link-most, second, flow-most, third, with-next, without-next, link-at, flow-at, tunnel-at, flows-follow, tunnels-follow, each_number}
+use Rattle.lists.proofs.Positions.{with-unit, without-unit, head-low, two-a-link, one-a-link, link-most, second, flow-most, third, with-next, without-next, link-at, flow-at, tunnel-at, flows-follow, tunnels-follow, each_number}
 use Rattle.forms.specs.Bytes.{bytes}
 use Rattle.forms.specs.Form.{is_hex, Whole, network_lines, plan_lines}
 use Rattle.forms.specs.Write.{digits_in, width_of, render}
@@ -164,7 +164,7 @@ module _ (l : List ℕ) (w : Whole Network l) where
   unfolding head_bytes
   network-head-long =
       ⊎_elim
-      (λ (e : has_held edition ≡ true). rw e (counts-long 4 29 (omega (arith, with_unit edition e)) (long-more Network l 3 4 23 29 (bytes "unit=") refl refl (unit-line l w e) three)))
+      (λ (e : has_held edition ≡ true). rw e (counts-long 4 29 (omega (arith, with-unit edition e)) (long-more Network l 3 4 23 29 (bytes "unit=") refl refl (unit-line l w e) three)))
       (λ (e : has_held edition ≡ false). rw e (counts-long 3 23 (omega (arith, without-unit edition e)) three))
       (bool_cases (has_held edition))
     where

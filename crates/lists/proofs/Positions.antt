@@ -49,19 +49,19 @@ module _ (per : ℕ) (some : 0 < per) where
 -- ---- how many numbers a head, a link and a flow have, by edition
 
 module _ (edition : ℕ) where
-  pub with_unit : has_held edition ≡ true → head_size edition ≡ 7
+  pub with-unit : has_held edition ≡ true → head_size edition ≡ 7
   unfolding head_size
-  with_unit e = rw e refl
+  with-unit e = rw e refl
 
   pub without-unit : has_held edition ≡ false → head_size edition ≡ 6
   unfolding head_size
   without-unit e = rw e refl
 
   pub head-low : 6 ≤ head_size edition
-  head-low = ⊎_elim (λ e. omega (arith, with_unit e)) (λ e. omega (arith, without-unit e)) (bool_cases (has_held edition))
+  head-low = ⊎_elim (λ e. omega (arith, with-unit e)) (λ e. omega (arith, without-unit e)) (bool_cases (has_held edition))
 
   pub head-high : head_size edition ≤ 7
-  head-high = ⊎_elim (λ e. omega (arith, with_unit e)) (λ e. omega (arith, without-unit e)) (bool_cases (has_held edition))
+  head-high = ⊎_elim (λ e. omega (arith, with-unit e)) (λ e. omega (arith, without-unit e)) (bool_cases (has_held edition))
 
   pub two-a-link : has_held edition ≡ true → per_link edition ≡ 2
   unfolding per_link

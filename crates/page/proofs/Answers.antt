@@ -89,7 +89,7 @@ unfolding network_of
 room-enough n p q e = (pair-good n p q e).checkable.network.ranges.sized.counts.tunnels
 
 stopped : (n : List ℕ) (v : Outcome (Option Overload)) (next : Outcome (List ℕ)) (a : Answer) → a ≡ checked n v → NotDone a → a ≡ done (and_then v (λ o. unless_over o next))
-stopped n (good none) next a e t = absurd (⊎_elim (λ k. omega arith) (λ k. omega arith) (rw e at t))
+stopped n (good none) next a e t = absurd (t _ e)
 stopped n (good (some o)) next a e t = e
 stopped n (refused c place second) next a e t = e
 

@@ -30,7 +30,7 @@ use Rattle.forms.proofs.Good.{good-network}
 use Rattle.forms.proofs.Walks.{judged-good, good-judged}
 use Rattle.judges.specs.Ranges.{HeadIn}
 use Rattle.judges.proofs.InRange.{InRange, in-range-whole, whole_in_range}
-use Rattle.lists.proofs.Positions.{with_unit, head-size, head-least, head_in as head-in-list, link-after, flow-after, tunnel-after}
+use Rattle.lists.proofs.Positions.{with-unit, head-size, head-least, head_in as head-in-list, link-after, flow-after, tunnel-after}
 use Rattle.product.specs.Units.{UnitZero, unit_one, Units}
 use Rattle.product.proofs.Main.{returns-planned, planned-lag}
 use Rattle.product.proofs.Plans.{demand2}
@@ -79,7 +79,7 @@ module _ (n : List ℕ) (e : at n 0 ≡ 3) (long : 3 < length n) where
   same-edition = others 0 (λ z. omega (arith, z))
 
   after-head : head_size (at n 0) ≡ 7
-  after-head = rw e (with_unit 3 refl)
+  after-head = rw e (with-unit 3 refl)
 
   same-sizes : network_sizes m ≡ network_sizes n
   unfolding network_sizes

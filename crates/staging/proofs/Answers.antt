@@ -78,7 +78,7 @@ module _ (l out : List ℕ) (a : Answer) (x : List ℕ) (J : Judged l a x) where
   stage-refused t = go bad J.answer
     where
       go : (o : Option Place) → a ≡ told o → (a ≡ done (with_room (length out) (unless unfit o (good all)))) × (out ≡ lent (with_room (length out) (unless unfit o (good all))) out)
-      go none e = absurd (⊎_elim (λ k. omega arith) (λ k. omega arith) (rw e at t))
+      go none e = absurd (t _ e)
       go (some p) e = (e, refl)
 
   module _ (n : ℕ) (d : a ≡ Done n) where

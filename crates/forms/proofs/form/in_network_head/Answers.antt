@@ -8,7 +8,7 @@ use lib.ListN.{length}
 use borrow.Author.Tests.{lt-ltb, le-ltb}
 use Rattle.model.proofs.Searches.{bool_cases}
 use Rattle.lists.specs.Lists.{at, has_held}
-use Rattle.lists.proofs.Positions.{with_unit, without-unit, head-low, head-high}
+use Rattle.lists.proofs.Positions.{with-unit, without-unit, head-low, head-high}
 use Rattle.forms.specs.Form.{network_lines}
 use Rattle.forms.proofs.Forms.{lines-in-head}
 use native.Mathlib.Omega.{arith}
@@ -19,7 +19,7 @@ use Rattle.forms.proofs.form.in_network_head.Goals as goal
 after-six : (l : List ℕ) → length l ≡ 6 → has_held (at l 0) ≡ ltb (length l) (length (network_lines (at l 0)))
 after-six l e =
     ⊎_elim
-    (λ y. y ∙ sym (lt-ltb (length l) (length (network_lines (at l 0))) (omega (arith, e, lines-in-head (at l 0), with_unit (at l 0) y))))
+    (λ y. y ∙ sym (lt-ltb (length l) (length (network_lines (at l 0))) (omega (arith, e, lines-in-head (at l 0), with-unit (at l 0) y))))
     (λ n. n ∙ sym (le-ltb (length l) (length (network_lines (at l 0))) (omega (arith, e, lines-in-head (at l 0), without-unit (at l 0) n))))
     (bool_cases (has_held (at l 0)))
 

@@ -6,7 +6,7 @@ use mathlib.Core.List.{List}
 use lib.ListN.{length}
 use borrow.Author.Tests.{le-leb, lt-leb}
 use Rattle.lists.specs.Lists.{at, has_held}
-use Rattle.lists.proofs.Positions.{head-low, with_unit, without-unit}
+use Rattle.lists.proofs.Positions.{head-low, with-unit, without-unit}
 use Rattle.forms.specs.Form.{network_lines}
 use Rattle.forms.proofs.Forms.{lines-in-head}
 use Rattle.judges.specs.Ranges.{NetworkHead}
@@ -30,7 +30,7 @@ late : (c : Else-list-lt-HELD_SINCE) → has_held (at c.args.list.now 0) ≡ tru
 late c = le-leb 3 (at c.args.list.now 0) c.if-list-lt-HELD_SINCE.false
 
 exactly-seven : (c : Else-list-lt-HELD_SINCE) → length (network_lines (at c.args.list.now 0)) ≡ 7
-exactly-seven c = let e = at c.args.list.now 0 in sym (lines-in-head e) ∙ with_unit e (late c)
+exactly-seven c = let e = at c.args.list.now 0 in sym (lines-in-head e) ∙ with-unit e (late c)
 
 pub returns-then-list : goal.returns-then-list
 returns-then-list c = decides-no (λ (w : NetworkHead c.args.list.now). absurd (omega (arith, w.long, six c.args.list.now, c.if-list.true)))

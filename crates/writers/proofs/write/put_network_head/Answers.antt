@@ -5,7 +5,7 @@ use mathlib.Core.List.{List}
 use lib.ListN.{length, get_or}
 use borrow.Author.Tests.{le-leb, lt-leb}
 use Rattle.lists.specs.Lists.{head_size}
-use Rattle.lists.proofs.Positions.{head-low, with_unit, without-unit}
+use Rattle.lists.proofs.Positions.{head-low, with-unit, without-unit}
 use Rattle.forms.specs.Bytes.{bytes}
 use Rattle.forms.specs.declared.form.Form.TheVariants.{Network}
 use Rattle.lines.specs.Puts.{Puts}
@@ -50,7 +50,7 @@ module _ (s : Start) where
   early h = without-unit edition (lt-leb 3 edition h)
 
   late : 3 ≤ edition → head_size edition ≡ 7
-  late h = with_unit edition (le-leb 3 edition h)
+  late h = with-unit edition (le-leb 3 edition h)
 
   unit : 3 ≤ edition → DecimalAt Network list 3 (bytes "unit=")
   unit h = unit-line list s.requires.whole (le-leb 3 edition h)
