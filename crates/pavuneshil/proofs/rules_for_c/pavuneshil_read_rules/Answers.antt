@@ -1,0 +1,11 @@
+-- `pavuneshil::rules_for_c::pavuneshil_read_rules` meets its contract. What `staging` answers, as four numbers. Assumes nothing.
+use mathlib.Core.Path.{ap, ◌∙◌}
+use Rattle.pavuneshil.specs.Four.{four}
+use borrow.Author.Rules.{rules}
+use Rattle.pavuneshil.proofs.rules_for_c.pavuneshil_read_rules.Goals as goal
+
+pub returns : goal.returns
+returns c = let p = c.read_rules.ensures in record {
+  answer_after = c.numbers.ensures ∙ ap four p.value;
+  out_after = p.out_after;
+}
