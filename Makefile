@@ -28,7 +28,7 @@ test:
 	@tools/test
 
 check:
-	@rt check
+	@rt all check
 
 # A program is proved and built first, unless it is newer than all of its sources. What that says goes to the error stream,
 # so that standard output has the program's own lines alone.
@@ -51,8 +51,7 @@ card:
 	@tools/card
 
 compare:
-	@mkdir -p target
-	@rt staticlib pavuneshil >target/staticlib.log 2>&1 || { cat target/staticlib.log; exit 1; }
+	@tools/library 1>&2
 	@CARGO_TARGET_DIR='$(CURDIR)/target/rust' cargo run --release --offline --quiet \
 		--manifest-path rust/compare/Cargo.toml -- $(CASES) $(SEED)
 

@@ -1,7 +1,7 @@
 /*
  * Pavuneshil: even-step update plans for a tunnelled backbone with a printed page of each step, the staging of rule tables,
  * the sharing of a flow among services, and a fair hand-out for eight desks, for C.
- * Link libpavuneshil.a, which `rt staticlib pavuneshil` makes. It needs memcpy and memset, and no heap.
+ * Link libpavuneshil.a, which `rt lib` makes in crates/pavuneshil. It needs memcpy and memset, and no heap.
  *
  * What holds of every function below is proved of the library's source. None has a precondition on the values: whatever
  * the texts, lists and states hold, and however short the lent output is, the answer says what came of it. What C does

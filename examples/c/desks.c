@@ -3,7 +3,7 @@
  * is told how many go before it if nobody submits again: so it is for the last, while two of desk 5 come before number 3
  * of desk 2. Each desk has job numbers of its own. Then one call of each kind that is refused. Prints a line for each call.
  *
- *     rt staticlib pavuneshil
+ *     tools/library
  *     cc -Iinclude examples/c/desks.c target/staticlib/libpavuneshil.a -o desks
  */
 #include "pavuneshil.h"

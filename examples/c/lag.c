@@ -2,7 +2,7 @@
  * Agents that fall behind. Two flows of 10 Mbit/s change places on two links of 15: for each lag, how many steps the plan has, and
  * whether it still does where the switches are a step further behind.
  *
- *     rt staticlib pavuneshil
+ *     tools/library
  *     cc -Iinclude examples/c/lag.c target/staticlib/libpavuneshil.a -o lag
  */
 #include "pavuneshil.h"

@@ -6,7 +6,7 @@
  * reads both texts and prints the page; status 0. After a refusal it prints the three lines of the refusal instead; status 1.
  * What is wrong with the arguments, with a file or with standard output is said on the error stream; status 2.
  *
- *     rt staticlib pavuneshil
+ *     tools/library
  *     cc -Iinclude examples/c/page.c target/staticlib/libpavuneshil.a -o page
  *     ./page samples/swap/network.txt samples/swap/plan.txt 1
  */

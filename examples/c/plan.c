@@ -2,7 +2,7 @@
  * Plans the swap: two flows of 10 Mbit/s change places on two links of 15. Reads the network text, makes the plan,
  * checks it, and prints the plan text; after a refusal it prints the three lines of the refusal instead.
  *
- *     rt staticlib pavuneshil
+ *     tools/library
  *     cc -Iinclude examples/c/plan.c target/staticlib/libpavuneshil.a -o plan
  */
 #include "pavuneshil.h"

@@ -3,7 +3,7 @@
  * three are added and three removed. Reads the rules text, prints each tunnel's stage and then, stage after stage, how many
  * rules each switch holds. Then some calls that are refused.
  *
- *     rt staticlib pavuneshil
+ *     tools/library
  *     cc -Iinclude examples/c/rules.c target/staticlib/libpavuneshil.a -o rules
  */
 #include "pavuneshil.h"

@@ -3,7 +3,7 @@
  * demands are met and the others are cut to one level, the units left over going to the first of them. Then one call of
  * each kind that is refused. Prints a line for each call.
  *
- *     rt staticlib pavuneshil
+ *     tools/library
  *     cc -Iinclude examples/c/share.c target/staticlib/libpavuneshil.a -o share
  */
 #include "pavuneshil.h"

@@ -1,5 +1,5 @@
 //! Links libpavuneshil.a: from the folder that PAVUNESHIL_LIB names, else from the project's own
-//! `target/staticlib`, where `rt staticlib pavuneshil` is run to make it if it is not there.
+//! `target/staticlib`, where `tools/library` makes it, by `rt lib`, if it is not there.
 
 use std::path::{Path, PathBuf};
 use std::process::Command;
@@ -26,13 +26,11 @@ fn main() {
 fn made(project: &Path) -> PathBuf {
     let folder = project.join("target/staticlib");
     if !folder.join(ARCHIVE).exists() {
-        let status = Command::new("rt")
-            .args(["staticlib", "pavuneshil"])
-            .current_dir(project)
+        let status = Command::new(project.join("tools/library"))
             .stdout(std::process::Stdio::null())
             .status()
-            .expect("rt, the Rattle toolchain's command, is needed");
-        assert!(status.success(), "rt staticlib pavuneshil failed");
+            .expect("tools/library of the project is needed");
+        assert!(status.success(), "tools/library failed");
     }
     folder
 }
