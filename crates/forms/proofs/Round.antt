@@ -8,7 +8,7 @@ use native.Mathlib.Omega.{arith}
 use lib.Dec.{T}
 use lib.ListN.{length}
 use lib.Seq.{append_snoc}
-use Rattle.model.specs.Outcome.{Outcome, good, refused, and_then, Cause, malformed, out_of_range, missing}
+use Rattle.model.specs.Outcome.{Outcome, good, refused, and_then, malformed, out_of_range, missing}
 use Rattle.lists.specs.Answers.{with_room}
 use Rattle.forms.specs.Line.{lines, is_remark, plain, line_value}
 use Rattle.forms.specs.Form.{field_of, admits_of, allows, second_of, Sound}

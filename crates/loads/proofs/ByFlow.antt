@@ -11,16 +11,15 @@ use lib.ListN.{length}
 use Rattle.model.specs.Limits.{most_links, most_flows, most_tunnels, most_steps, most_amount}
 use Rattle.model.specs.Sets.{in_set}
 use Rattle.model.specs.Sum.{sum_over}
-use Rattle.model.specs.Largest.{largest}
 use Rattle.model.proofs.Searches.{bool_cases, cond-most}
 use Rattle.model.proofs.Sums.{sum-zero, sum-next, sum-cong, sum_both}
 use Rattle.model.proofs.Largests.{largest-le, largest-cong}
 use Rattle.lists.specs.Lists.{at, network_sizes}
 use Rattle.lists.specs.Good.{GoodNetwork}
-use Rattle.loads.specs.Gathered.{gathered, of_flow, largest_sum, gathered_by_flow}
+use Rattle.loads.specs.Gathered.{of_flow, largest_sum, gathered_by_flow}
 use Rattle.loads.specs.Tables.{block_rows, number_at, load_at, loads_size, part_of, in_part, AmountTable, SetsWithin, LoadsWithin, Cleared, Addable, VectorAdded, AddedOn}
 use Rattle.loads.specs.Windows.{largest_at, WidenedOn}
-use Rattle.loads.specs.Flows.{Chain, Amounts, sums_size, SumsWithin, ChainSums, FlowLoads}
+use Rattle.loads.specs.Flows.{Chain, Amounts, SumsWithin, ChainSums, FlowLoads}
 use Rattle.loads.proofs.Vectors.{added-part, added_none, added_more, added-same}
 use Rattle.loads.proofs.Widening.{picked-once, widened_none, widened_more}
 use Rattle.loads.proofs.Passes.{gathered-cong, part-cases}

@@ -15,7 +15,7 @@ use Rattle.model.proofs.Sums.{sum_both}
 use Rattle.model.proofs.Searches.{cond-most}
 use Rattle.lists.specs.Lists.{at}
 use Rattle.loads.specs.Gathered.{added_on, gathered}
-use Rattle.loads.specs.Tables.{block_rows, number_at, load_at, loads_size, part_of, in_part, AmountTable, SetsWithin, LoadsWithin, Cleared, AddableOn, AddedOn, Loads}
+use Rattle.loads.specs.Tables.{number_at, load_at, loads_size, part_of, in_part, AmountTable, SetsWithin, LoadsWithin, Cleared, AddableOn, AddedOn, Loads}
 use Rattle.loads.proofs.Vectors.{added-part}
 
 cond-swap : (a b : Bool) (x : ℕ) → cond (a && b) x 0 ≡ cond b (cond a x 0) 0

@@ -12,7 +12,7 @@ use lib.Seq.{get_or-set_same, get_or-set_other}
 use borrow.Author.Tests.{eq-eqb, ne_eqb, eqb-true, eqb-false}
 use Rattle.model.proofs.Searches.{bool_cases, order, cond-most}
 use Rattle.lists.specs.Lists.{at}
-use Rattle.loads.specs.Tables.{block_rows, number_at, load_at, Vectors, Addable, VectorAdded, AddableOn, AddedOn}
+use Rattle.loads.specs.Tables.{block_rows, number_at, load_at, Addable, VectorAdded, AddableOn, AddedOn}
 
 pub at_other : (s : List ℕ) (i j v : ℕ) → (j ≡ i → ⊥) → at (set s i v) j ≡ at s j
 at_other s i j v h = get_or-set_other s i j v 0 h

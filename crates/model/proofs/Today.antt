@@ -11,7 +11,7 @@ use lib.Dec.{ltb}
 use Rattle.model.specs.Largest.{largest, peak_at}
 use Rattle.model.specs.Net.{Net, Plan, row}
 use Rattle.model.specs.Scan.{Bound, Overload, scan}
-use Rattle.model.specs.Rule.{crosses, across, flow_sum, by_flow, mover_of, on_link, load, exceeds, step_count, reach, worst, row_in, Choice, shown, overloads, mark, movers_of, at_largest, marked, worst_over, first_overload}
+use Rattle.model.specs.Rule.{crosses, across, flow_sum, by_flow, mover_of, on_link, load, exceeds, step_count, reach, worst, row_in, Choice, shown, mark, movers_of, at_largest, marked, worst_over, first_overload}
 use Rattle.model.specs.ThreeSums.{old_load, new_load, peak_load, step_load, end_load}
 use Rattle.model.specs.Today.{larger_of_two, Today}
 use Rattle.model.proofs.Scans.{scan-cong}

@@ -1,5 +1,5 @@
 -- Laws of the digits after a key: what the digits so far come to, and what the line's value is, by the byte after them.
-use Rattle.std.proofs.Common.{◌≡◌, ℕ, zero, suc, ◌+◌, ◌-◌, ◌*◌, ◌%◌, ◌^◌, ◌<◌, ◌≤◌, Bool, true, false, cond, not, ◌&&◌, ◌||◌, eqb, ltb, leb, ◌⊎◌, List, [], ◌∷◌, ◌++◌, length, get_or, take, drop, sym, refl, ap, ◌∙◌, ⊎_elim, le_trans, le_refl, lt_of_lt_of_le, add-zero, pow-suc, add-one, arith, length-drop, drop_of_length-le, length-take, length-take-le, get_or-drop, take_all, get_or-take, ltb-false, le-ltb, lt-ltb, eq-eqb, ne_eqb, eqb-true, le-leb}
+use Rattle.std.proofs.Common.{◌≡◌, ℕ, zero, suc, ◌+◌, ◌-◌, ◌*◌, ◌%◌, ◌^◌, ◌<◌, ◌≤◌, Bool, true, false, cond, not, ◌&&◌, ◌||◌, eqb, ltb, leb, List, [], ◌∷◌, ◌++◌, length, get_or, take, drop, sym, refl, ap, ◌∙◌, ⊎_elim, le_trans, le_refl, lt_of_lt_of_le, add-zero, pow-suc, add-one, arith, length-drop, drop_of_length-le, length-take, length-take-le, get_or-drop, take_all, get_or-take, ltb-false, le-ltb, lt-ltb, eq-eqb, ne_eqb, eqb-true, le-leb}
 use mathlib.Core.Option.{Option, none, some}
 use native.Mathlib.Decide.{dec_lt, ℕ_discrete}
 use native.Mathlib.Nat.{sub_self, pow-zero, pow-le-pow_right}

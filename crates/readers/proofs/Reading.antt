@@ -1,5 +1,5 @@
 -- Laws of reading: what is taken from a text in each case, the walk's next turn by what was taken, and how a list is handed over.
-use Rattle.std.proofs.Common.{◌≡◌, ℕ, ◌+◌, ◌-◌, ◌<◌, ◌≤◌, Bool, true, false, cond, not, ◌&&◌, T, eqb, ltb, ◌⊎◌, List, [], ◌∷◌, ◌++◌, length, take, drop, sym, refl, ap, ◌∙◌, ⊎_elim, true≢false, arith, length-append, length-drop, length-take, drop-drop, ltb-false, ltb-true, le-ltb, eq-eqb, ne_eqb}
+use Rattle.std.proofs.Common.{◌≡◌, ℕ, ◌+◌, ◌-◌, ◌<◌, ◌≤◌, Bool, true, false, cond, ◌&&◌, T, eqb, ltb, List, [], ◌∷◌, ◌++◌, length, take, drop, sym, refl, ap, ◌∙◌, true≢false, arith, length-append, length-drop, length-take, drop-drop, ltb-false, ltb-true, le-ltb, eq-eqb, ne_eqb}
 use mathlib.Core.Option.{Option, none, some, Option-elim}
 use native.Mathlib.Decide.{ℕ_discrete}
 use lib.Seq.{drop-length, take-append_seam}
@@ -25,7 +25,6 @@ use Rattle.readers.specs.declared.read.Body.{Body}
 use Rattle.readers.specs.declared.read.Body.TheVariants.{Unknown, Known}
 use Rattle.readers.specs.declared.read.Taken.{Taken}
 use Rattle.readers.specs.declared.read.Taken.TheVariants.{Number, Stop, Ended}
-use Rattle.readers.specs.contracts.read.Taken.{the_type}
 use Rattle.readers.proofs.Lines.{lines-some, line-some, line-within}
 
 -- ---- what is taken

@@ -1,5 +1,5 @@
 -- What the readers' code comes to, line by line.
-use Rattle.std.specs.Prelude.{◌≡◌, ℕ, ◌+◌, ◌≤◌, Bool, true, false, cond, not, List, length, take, drop, ◌==◌, nat_lt}
+use Rattle.std.specs.Prelude.{◌≡◌, ℕ, ◌+◌, ◌≤◌, Bool, false, cond, not, List, length, take, drop, ◌==◌, nat_lt}
 use Rattle.std.proofs.Math.Option.{Option-elim}
 use Rattle.model.specs.Outcome.{Outcome, good, refused, number, malformed, out_of_range, missing}
 use Rattle.forms.specs.Line.{lines, line_value}

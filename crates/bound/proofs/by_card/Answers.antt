@@ -1,11 +1,9 @@
 -- `bound::by_card` meets its contract: each return is a case of the definition.
 use Prim.Native.Nat.{ℕ, ◌+◌, max}
 use mathlib.Core.Path.{ap, ap₂, sym, ◌∙◌}
-use Rattle.model.proofs.Searches.{not-true, not-false}
 use Rattle.bound.specs.Bound.{told}
 use Rattle.bound.specs.declared.StepBound.TheVariants.{Steps}
 use Rattle.bound.proofs.Laws.{one_more, scratch-out, no-overrun, overrun-out, with-overrun}
-use borrow.Author.Rules.{rules}
 use Rattle.bound.proofs.by_card.Goals as goal
 
 pub returns-then-not-is_share : goal.returns-then-not-is_share

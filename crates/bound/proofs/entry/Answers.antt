@@ -1,7 +1,6 @@
 -- `bound::entry` meets its contract: what it reads is the card's rule.
 use native.Mathlib.Omega.{arith}
 use Rattle.bound.proofs.Laws.{share}
-use borrow.Author.Rules.{rules}
 use Rattle.bound.proofs.entry.Goals as goal
 
 pub overflow_sub-result : goal.overflow_sub-result

@@ -1,6 +1,5 @@
 -- `bound::is_share` meets its contract.
 use borrow.Author.Tests.{le-leb, lt-leb}
-use borrow.Author.Rules.{rules}
 use Rattle.bound.proofs.is_share.Goals as goal
 
 pub returns-then-x-ge-SHARE_LOW : goal.returns-then-x-ge-SHARE_LOW

@@ -2,7 +2,6 @@
 use mathlib.Core.Path.{refl}
 use Rattle.model.specs.Even.{ceil_div}
 use Rattle.bound.proofs.Entries.{is-card}
-use borrow.Author.Rules.{rules}
 use Rattle.bound.proofs.step_bound.Goals as goal
 
 pub by_card-requires : goal.by_card-requires

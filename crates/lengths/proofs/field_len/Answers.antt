@@ -2,7 +2,6 @@
 use mathlib.Core.Path.{sym, ◌∙◌}
 use native.Mathlib.Omega.{arith}
 use Rattle.lengths.proofs.Runs.{set-size, number_size}
-use borrow.Author.Rules.{rules}
 use Rattle.lengths.proofs.field_len.Goals as goal
 
 pub returns-then-is_hex : goal.returns-then-is_hex

@@ -1,7 +1,6 @@
 -- `lengths::flow_bytes` meets its contract.
 use mathlib.Core.Path.{sym, ◌∙◌}
 use Rattle.lengths.specs.Lines.{flow_bytes}
-use borrow.Author.Rules.{rules}
 use Rattle.lengths.proofs.flow_bytes.Goals as goal
 
 pub returns-then-has_next : goal.returns-then-has_next

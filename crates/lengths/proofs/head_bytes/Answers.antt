@@ -1,8 +1,6 @@
 -- `lengths::head_bytes` meets its contract.
 use mathlib.Core.Path.{sym, ◌∙◌}
 use Rattle.lengths.specs.Lines.{head_bytes}
-use native.Mathlib.Omega.{arith}
-use borrow.Author.Rules.{rules}
 use Rattle.lengths.proofs.head_bytes.Goals as goal
 
 pub returns-then-has_held : goal.returns-then-has_held

@@ -1,8 +1,6 @@
 -- `lengths::link_bytes` meets its contract.
 use mathlib.Core.Path.{sym, ◌∙◌}
 use Rattle.lengths.specs.Lines.{link_bytes}
-use native.Mathlib.Omega.{arith}
-use borrow.Author.Rules.{rules}
 use Rattle.lengths.proofs.link_bytes.Goals as goal
 
 pub returns-then-has_held : goal.returns-then-has_held

@@ -12,7 +12,6 @@ use Rattle.forms.proofs.Good.{network-ranges}
 use Rattle.lengths.specs.Lines.{widths_of, tunnel_widths, head_bytes, link_bytes, flow_bytes}
 use Rattle.lengths.proofs.Measuring.{head-bytes-most, link-bytes-most, flow-bytes-most, network-length, network-number}
 use native.Mathlib.Omega.{arith}
-use borrow.Author.Rules.{rules}
 use Rattle.lengths.proofs.network_len.Goals as goal
 use Rattle.lengths.proofs.network_len.Goals.{After-flow_bytes, After-head_bytes-head, After-link_bytes, After-of-sizes, After-tunnel_at, Start}
 

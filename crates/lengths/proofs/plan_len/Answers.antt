@@ -5,7 +5,6 @@ use lib.ListN.{length}
 use Rattle.lists.specs.Lists.{most_numbers}
 use Rattle.forms.proofs.Good.{plan-size}
 use Rattle.lengths.proofs.Measuring.{plan-length, plan-number}
-use borrow.Author.Rules.{rules}
 use Rattle.lengths.proofs.plan_len.Goals as goal
 use Rattle.lengths.proofs.plan_len.Goals.{Start}
 

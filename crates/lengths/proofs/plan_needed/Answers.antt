@@ -3,7 +3,6 @@ use native.Mathlib.Omega.{arith}
 use native.Mathlib.Nat.{le_trans}
 use Rattle.forms.specs.declared.form.Form.TheVariants.{Plan}
 use Rattle.forms.proofs.Rendering.{render-short}
-use borrow.Author.Rules.{rules}
 use Rattle.lengths.proofs.plan_needed.Goals as goal
 
 pub returns-then-room-ge-BYTES : goal.returns-then-room-ge-BYTES

@@ -1,11 +1,10 @@
 -- `lengths::tunnel_widths` meets its contract.
-use Prim.Native.Nat.{ℕ, ◌≤◌, ◌<◌, ◌+◌, ◌*◌, ◌-◌}
+use Prim.Native.Nat.{ℕ, ◌<◌, ◌+◌}
 use mathlib.Core.Path.{◌≡◌, sym, ap, ◌∙◌}
 use mathlib.Core.List.{List}
 use lib.ListN.{get_or}
 use Rattle.model.specs.Limits.{most_tunnels}
 use Rattle.lists.specs.Good.{Sized}
-use Rattle.lists.specs.declared.Network as counts
 use Rattle.lists.proofs.Positions.{TunnelPlace, tunnel-place, limited}
 use Rattle.forms.proofs.Good.{network-ranges}
 use Rattle.forms.specs.Write.{width_of}
@@ -13,7 +12,6 @@ use Rattle.lengths.specs.Lines.{Decimal, tunnel_widths}
 use Rattle.lengths.proofs.Runs.{flow-line, old-line, new_line}
 use Rattle.lengths.proofs.Measuring.{tunnel-widths-none, tunnel-widths-more}
 use native.Mathlib.Omega.{arith}
-use borrow.Author.Rules.{rules}
 use Rattle.lengths.proofs.tunnel_widths.Goals as goal
 use Rattle.lengths.proofs.tunnel_widths.Goals.{After-tunnel_at-at, Start}
 

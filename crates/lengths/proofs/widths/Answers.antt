@@ -1,10 +1,8 @@
 -- `lengths::widths` meets its contract.
-use Prim.Native.Nat.{◌≤◌, ◌*◌, ◌-◌}
 use mathlib.Core.Path.{◌≡◌, ap, ◌∙◌}
 use Rattle.lengths.specs.Lines.{widths_of}
 use Rattle.lengths.proofs.Measuring.{widths-none, widths-more}
 use native.Mathlib.Omega.{arith}
-use borrow.Author.Rules.{rules}
 use Rattle.lengths.proofs.widths.Goals as goal
 
 pub loop-i-init : goal.loop-i-init

@@ -1,9 +1,7 @@
 -- `lengths::widths` meets its contract.
 use Prim.Native.Nat.{◌≤◌, ◌*◌, ◌-◌}
-use mathlib.Core.Path.{◌≡◌, ap, ◌∙◌}
+use mathlib.Core.Path.{◌≡◌}
 use Rattle.lengths.specs.Lines.{widths_of}
-use Rattle.lengths.proofs.Measuring.{widths-none, widths-more}
-use native.Mathlib.Omega.{arith}
 use Rattle.lengths.proofs.widths.Given as goal
 
 abbrev pub invariant-loop-i : goal.invariant-loop-i

@@ -2,7 +2,6 @@
 use Rattle.forms.specs.Bytes.{bytes}
 use Rattle.forms.specs.Write.{digit_char}
 use Rattle.model.proofs.Table.{value}
-use borrow.Author.Rules.{rules}
 use Rattle.lines.proofs.digit_char.Goals as goal
 
 pub returns : goal.returns

@@ -1,9 +1,9 @@
 -- `lines::put` meets its contract.
-use Prim.Native.Nat.{◌≤◌, ◌<◌, ◌+◌, ◌-◌}
+use Prim.Native.Nat.{◌<◌, ◌+◌}
 use mathlib.Core.Path.{◌≡◌, refl, ◌∙◌}
 use native.Mathlib.Omega.{arith}
 use lib.ListN.{length, length-set}
-use lib.Seq.{paste, paste-zero}
+use lib.Seq.{paste-zero}
 use Rattle.lines.proofs.Writing.{put_step, put-end}
 use borrow.Author.Rules.{rules}
 use Rattle.lines.proofs.put.Goals as goal

@@ -2,7 +2,6 @@
 use native.Mathlib.Omega.{arith}
 use Rattle.lines.proofs.Digits.{width-split}
 use Rattle.lines.proofs.Writing.{four-fit, four-put}
-use borrow.Author.Rules.{rules}
 use Rattle.lines.proofs.put_decimal.Goals as goal
 
 pub returns-then-v-lt10000 : goal.returns-then-v-lt10000

@@ -1,7 +1,6 @@
 -- `lines::put_digit` meets its contract.
 use native.Mathlib.Omega.{arith}
 use Rattle.lines.proofs.Writing.{puts-byte, digit-byte}
-use borrow.Author.Rules.{rules}
 use Rattle.lines.proofs.put_digit.Goals as goal
 
 pub returns : goal.returns

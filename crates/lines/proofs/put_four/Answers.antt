@@ -1,7 +1,6 @@
 -- `lines::put_four` meets its contract.
 use native.Mathlib.Omega.{arith}
 use Rattle.lines.proofs.Writing.{digits-fit, digits-put}
-use borrow.Author.Rules.{rules}
 use Rattle.lines.proofs.put_four.Goals as goal
 
 pub put_two-requires : goal.put_two-requires

@@ -1,11 +1,9 @@
 -- `lines::put_hex` meets its contract.
-use Prim.Native.Nat.{◌≤◌, ◌+◌, ◌-◌, ◌/◌, ◌^◌}
+use Prim.Native.Nat.{◌+◌, ◌-◌}
 use mathlib.Core.Path.{◌≡◌, refl, ◌∙◌}
 use native.Mathlib.Omega.{arith}
-use lib.ListN.{length, length-set}
-use Rattle.forms.specs.Write.{digits_in}
+use lib.ListN.{length-set}
 use Rattle.forms.proofs.Numbers.{length_digits}
-use Rattle.lines.specs.Puts.{placed}
 use Rattle.lines.proofs.Writing.{digits-start, digits-turn}
 use borrow.Author.Rules.{rules}
 use Rattle.lines.proofs.put_hex.Goals as goal

@@ -3,7 +3,6 @@ use native.Mathlib.Omega.{arith}
 use lib.ListN.{length-append}
 use Rattle.lines.specs.Puts.{decimal_value}
 use Rattle.lines.proofs.Writing.{then-fits, then-puts}
-use borrow.Author.Rules.{rules}
 use Rattle.lines.proofs.put_line.Goals as goal
 
 pub put-from-requires : goal.put-from-requires

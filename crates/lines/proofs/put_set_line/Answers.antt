@@ -7,7 +7,6 @@ use lib.ListN.{length, length-append, length-set}
 use Rattle.forms.specs.Write.{digits_in}
 use Rattle.forms.proofs.Numbers.{length_digits}
 use Rattle.lines.proofs.Writing.{puts-byte, puts-length, then-fits, then-puts}
-use borrow.Author.Rules.{rules}
 use Rattle.lines.proofs.put_set_line.Goals as goal
 use Rattle.lines.proofs.put_set_line.Goals.{After-put-from, After-put_hex-feed, Start}
 

@@ -5,7 +5,6 @@ use native.Mathlib.Omega.{arith}
 use Rattle.forms.specs.Write.{width_of}
 use Rattle.forms.proofs.Numbers.{width_is}
 use Rattle.lines.proofs.Writing.{digits-fit, digits-put}
-use borrow.Author.Rules.{rules}
 use Rattle.lines.proofs.put_short.Goals as goal
 use Rattle.lines.proofs.put_short.Goals.{Else-x-lt1000, Then-x-lt10, Then-x-lt100, Then-x-lt1000}
 

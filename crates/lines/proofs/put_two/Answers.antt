@@ -1,7 +1,6 @@
 -- `lines::put_two` meets its contract.
 use native.Mathlib.Omega.{arith}
 use Rattle.lines.proofs.Writing.{digits-fit, digits-put}
-use borrow.Author.Rules.{rules}
 use Rattle.lines.proofs.put_two.Goals as goal
 
 pub put_digit-requires : goal.put_digit-requires

@@ -6,7 +6,6 @@ use lib.ListN.{length, length-append}
 use Rattle.forms.specs.Write.{digits_in, width_of}
 use Rattle.forms.proofs.Numbers.{length_digits}
 use Rattle.lines.proofs.Writing.{puts-byte, then-fits, then-puts}
-use borrow.Author.Rules.{rules}
 use Rattle.lines.proofs.put_value.Goals as goal
 use Rattle.lines.proofs.put_value.Goals.{After-put_decimal-end}
 

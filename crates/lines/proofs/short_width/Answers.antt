@@ -3,7 +3,6 @@ use mathlib.Core.Path.{sym, refl}
 use mathlib.Core.Logic.{inl, inr}
 use native.Mathlib.Omega.{arith}
 use Rattle.forms.proofs.Numbers.{width_is}
-use borrow.Author.Rules.{rules}
 use Rattle.lines.proofs.short_width.Goals as goal
 
 pub returns-then-v-lt10 : goal.returns-then-v-lt10

@@ -6,7 +6,6 @@ use native.Mathlib.Omega.{arith}
 use Rattle.forms.specs.Write.{width_of}
 use Rattle.forms.proofs.Numbers.{width-most}
 use Rattle.lines.proofs.Digits.{width-split}
-use borrow.Author.Rules.{rules}
 use Rattle.lines.proofs.width.Goals as goal
 
 pub returns-then-v-lt10000 : goal.returns-then-v-lt10000

@@ -1,16 +1,14 @@
 -- `amounts::columns::links` meets its contract.
-use Prim.Native.Nat.{◌≤◌, ◌-◌}
+use Prim.Native.Nat.{◌-◌}
 use mathlib.Core.Path.{◌≡◌, refl, ap}
-use lib.ListN.{length, length-set}
+use lib.ListN.{length-set}
 use Rattle.lists.specs.Lists.{at, network_sizes, network_of}
 use Rattle.lists.specs.declared.Network as counts
 use Rattle.lists.proofs.Held.{held-most}
 use Rattle.lists.proofs.Positions.{LinkPlace, link-place, limited, head_in, head-least}
-use Rattle.amounts.specs.Columns.{Holds, capacity, raised}
 use Rattle.amounts.proofs.Good.{times-fits, left_here, capacity-here, raised-here, capacity-fits, raised-fits, cap-low}
 use Rattle.amounts.proofs.Laws.{holds-none, holds_more, holds_at}
 use native.Mathlib.Omega.{arith}
-use borrow.Author.Rules.{rules}
 use Rattle.amounts.proofs.columns.links.Goals as goal
 use Rattle.amounts.proofs.columns.links.Goals.{After-held, After-link_at}
 

@@ -1,15 +1,9 @@
 -- `amounts::columns::links` meets its contract.
 use Prim.Native.Nat.{◌≤◌, ◌-◌}
-use mathlib.Core.Path.{◌≡◌, refl, ap}
-use lib.ListN.{length, length-set}
-use Rattle.lists.specs.Lists.{at, network_sizes, network_of}
-use Rattle.lists.specs.declared.Network as counts
-use Rattle.lists.proofs.Held.{held-most}
-use Rattle.lists.proofs.Positions.{LinkPlace, link-place, limited, head_in, head-least}
+use mathlib.Core.Path.{◌≡◌}
+use lib.ListN.{length}
+use Rattle.lists.specs.Lists.{network_of}
 use Rattle.amounts.specs.Columns.{Holds, capacity, raised}
-use Rattle.amounts.proofs.Good.{times-fits, left_here, capacity-here, raised-here, capacity-fits, raised-fits, cap-low}
-use Rattle.amounts.proofs.Laws.{holds-none, holds_more, holds_at}
-use native.Mathlib.Omega.{arith}
 use Rattle.amounts.proofs.columns.links.Given as goal
 
 abbrev pub invariant-loop-l : goal.invariant-loop-l

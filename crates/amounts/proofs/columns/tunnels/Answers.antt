@@ -1,16 +1,13 @@
 -- `amounts::columns::tunnels` meets its contract.
-use Prim.Native.Nat.{◌≤◌, ◌-◌}
-use mathlib.Core.Path.{◌≡◌, refl, ap}
-use lib.ListN.{length, length-set}
-use Rattle.lists.specs.Lists.{network_of, at}
+use mathlib.Core.Path.{refl, ap}
+use lib.ListN.{length-set}
+use Rattle.lists.specs.Lists.{at}
 use Rattle.lists.specs.declared.Network as counts
 use Rattle.lists.proofs.Positions.{TunnelPlace, tunnel-place, flow-place, limited, head_in, FlowPlace}
-use Rattle.amounts.specs.Columns.{Holds, class_of}
 use Rattle.amounts.proofs.Good.{via-here, class-here}
 use Rattle.loads.proofs.Places.{flow-low}
 use Rattle.amounts.proofs.Laws.{holds-none, holds_more, holds_at}
 use native.Mathlib.Omega.{arith}
-use borrow.Author.Rules.{rules}
 use Rattle.amounts.proofs.columns.tunnels.Goals as goal
 use Rattle.amounts.proofs.columns.tunnels.Goals.{After-flow_at, After-tunnel_at-at}
 

@@ -9,7 +9,6 @@ use native.Mathlib.Numerals.{add-one}
 use lib.ListN.{length}
 use Rattle.model.specs.Net.{row}
 use native.Mathlib.Omega.{arith}
-use borrow.Author.Rules.{rules}
 use Rattle.amounts.proofs.rows.after.Goals as goal
 use Rattle.amounts.proofs.rows.after.Goals.{After-row_at, After-tunnel_at-at}
 

@@ -1,11 +1,10 @@
 -- `amounts::rows::amount` meets its contract.
-use Prim.Native.Nat.{ℕ, suc, ◌≤◌, ◌<◌, ◌-◌}
-use mathlib.Core.Path.{◌≡◌, ap, sym, ◌∙◌}
+use Prim.Native.Nat.{ℕ, suc, ◌-◌}
+use mathlib.Core.Path.{◌≡◌, ap, ◌∙◌}
 use Rattle.model.specs.Net.{row}
-use Rattle.lists.specs.Lists.{network_of, plan_sizes, plan_of}
+use Rattle.lists.specs.Lists.{network_of, plan_of}
 use Rattle.lists.specs.declared.PlanSizes as lengths
 use native.Mathlib.Omega.{arith}
-use borrow.Author.Rules.{rules}
 use Rattle.amounts.proofs.rows.amount.Goals as goal
 
 pub before-requires : goal.before-requires

@@ -8,7 +8,6 @@ use Prim.Native.Nat.{◌+◌, ◌<◌}
 use lib.ListN.{length}
 use Rattle.model.specs.Net.{row}
 use native.Mathlib.Omega.{arith}
-use borrow.Author.Rules.{rules}
 use Rattle.amounts.proofs.rows.before.Goals as goal
 use Rattle.amounts.proofs.rows.before.Goals.{After-row_at, After-tunnel_at-at}
 

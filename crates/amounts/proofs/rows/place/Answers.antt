@@ -1,14 +1,10 @@
 -- `amounts::rows::place` meets its contract.
-use Prim.Native.Nat.{◌≤◌, ◌-◌, max}
-use mathlib.Core.Path.{ap, ap₂, ◌∙◌}
-use Rattle.model.specs.Net.{row}
-use Rattle.lists.specs.Lists.{network_of, plan_of}
+use mathlib.Core.Path.{ap}
 use Rattle.lists.specs.declared.Network as counts
 use Rattle.lists.proofs.Positions.{head_in}
-use Rattle.amounts.specs.Rows.{larger_row, Placed}
+use Rattle.amounts.specs.Rows.{larger_row}
 use Rattle.amounts.proofs.Tables.{placed-none, placed-more, placed_at}
 use native.Mathlib.Omega.{arith}
-use borrow.Author.Rules.{rules}
 use Rattle.amounts.proofs.rows.place.Goals as goal
 
 pub of-n-requires : goal.of-n-requires

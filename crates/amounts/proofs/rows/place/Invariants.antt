@@ -1,13 +1,8 @@
 -- `amounts::rows::place` meets its contract.
-use Prim.Native.Nat.{◌≤◌, ◌-◌, max}
-use mathlib.Core.Path.{ap, ap₂, ◌∙◌}
+use Prim.Native.Nat.{◌≤◌, ◌-◌}
 use Rattle.model.specs.Net.{row}
 use Rattle.lists.specs.Lists.{network_of, plan_of}
-use Rattle.lists.specs.declared.Network as counts
-use Rattle.lists.proofs.Positions.{head_in}
-use Rattle.amounts.specs.Rows.{larger_row, Placed}
-use Rattle.amounts.proofs.Tables.{placed-none, placed-more, placed_at}
-use native.Mathlib.Omega.{arith}
+use Rattle.amounts.specs.Rows.{Placed}
 use Rattle.amounts.proofs.rows.place.Given as goal
 
 abbrev pub invariant-loop-t : goal.invariant-loop-t

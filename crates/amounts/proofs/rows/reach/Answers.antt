@@ -1,10 +1,7 @@
 -- `amounts::rows::reach` meets its contract.
-use Prim.Native.Nat.{◌≤◌, ◌<◌}
-use mathlib.Core.Path.{◌≡◌, ap, sym, ◌∙◌}
-use native.Mathlib.Nat.{min-eq_left, min-eq_right}
+use mathlib.Core.Path.{ap}
 use Rattle.lists.specs.declared.PlanSizes as lengths
 use native.Mathlib.Omega.{arith}
-use borrow.Author.Rules.{rules}
 use Rattle.amounts.proofs.rows.reach.Goals as goal
 
 pub returns-then-rows-steps : goal.returns-then-rows-steps

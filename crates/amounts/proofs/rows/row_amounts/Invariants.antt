@@ -1,14 +1,9 @@
 -- `amounts::rows::row_amounts` meets its contract.
 use Prim.Native.Nat.{◌≤◌, ◌-◌, ◌+◌}
-use mathlib.Core.Path.{◌≡◌, ap, sym, ◌∙◌}
 use Rattle.model.specs.Net.{row}
 use Rattle.lists.specs.Lists.{network_sizes, network_of, plan_sizes, plan_of}
-use Rattle.lists.specs.declared.PlanSizes as lengths
 use Rattle.loads.specs.Tables.{block_rows}
-use Rattle.amounts.specs.Rows.{larger_row, RowAmounts}
-use Rattle.amounts.proofs.Good.{row_small, larger-small}
-use Rattle.amounts.proofs.Tables.{rows_none, rows_more, rows_end}
-use native.Mathlib.Omega.{arith}
+use Rattle.amounts.specs.Rows.{RowAmounts}
 use Rattle.amounts.proofs.rows.row_amounts.Given as goal
 
 abbrev pub invariant-loop-k : goal.invariant-loop-k

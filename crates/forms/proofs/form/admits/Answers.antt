@@ -1,6 +1,5 @@
 -- `forms::form::admits` meets its contract.
 use borrow.Author.Tests.{le-leb, lt-leb, ne_eqb}
-use borrow.Author.Rules.{rules}
 use Rattle.forms.proofs.form.admits.Goals as goal
 
 pub returns-then-low-v : goal.returns-then-low-v

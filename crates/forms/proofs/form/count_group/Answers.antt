@@ -5,7 +5,6 @@ use Rattle.forms.specs.declared.form.Field.TheVariants.{End}
 use mathlib.Core.Path.{sym}
 use Rattle.forms.specs.Form.{count_lines}
 use native.Mathlib.Omega.{arith}
-use borrow.Author.Rules.{rules}
 use Rattle.forms.proofs.form.count_group.Goals as goal
 
 pub returns-in-0 : goal.returns-in-0

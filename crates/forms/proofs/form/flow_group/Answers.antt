@@ -7,7 +7,6 @@ use Rattle.forms.specs.Form.{flow_lines}
 use Rattle.forms.specs.declared.form.Field.TheVariants.{End}
 use Rattle.forms.proofs.Forms.{flow-lines}
 use native.Mathlib.Omega.{arith}
-use borrow.Author.Rules.{rules}
 use Rattle.forms.proofs.form.flow_group.Goals as goal
 
 pub returns-in-0 : goal.returns-in-0

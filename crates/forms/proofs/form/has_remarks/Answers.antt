@@ -1,5 +1,4 @@
 -- `forms::form::has_remarks` meets its contract.
-use borrow.Author.Rules.{rules}
 use Rattle.forms.proofs.form.has_remarks.Goals as goal
 
 pub returns-in-Network : goal.returns-in-Network

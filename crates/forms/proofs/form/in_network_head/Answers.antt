@@ -12,7 +12,6 @@ use Rattle.lists.proofs.Positions.{with-unit, without-unit, head-low, head-high}
 use Rattle.forms.specs.Form.{network_lines}
 use Rattle.forms.proofs.Forms.{lines-in-head}
 use native.Mathlib.Omega.{arith}
-use borrow.Author.Rules.{rules}
 use Rattle.forms.proofs.form.in_network_head.Goals as goal
 
 -- after six numbers the edition says it

@@ -7,7 +7,6 @@ use lib.ListN.{length, get_or-eq_default}
 use Rattle.forms.specs.Keys.{keys}
 use Rattle.forms.specs.Bytes.{bytes}
 use Rattle.forms.proofs.Slots.{slot}
-use borrow.Author.Rules.{rules}
 use Rattle.forms.proofs.form.key_part.Goals as goal
 
 pub bounds-keys-from : goal.bounds-keys-from

@@ -8,7 +8,6 @@ use Rattle.lists.proofs.Positions.{link-most}
 use Rattle.forms.specs.Form.{link_lines}
 use Rattle.forms.proofs.Forms.{link-lines}
 use native.Mathlib.Omega.{arith}
-use borrow.Author.Rules.{rules}
 use Rattle.forms.proofs.form.link_group.Goals as goal
 
 pub returns-in-0 : goal.returns-in-0

@@ -1,8 +1,6 @@
 -- `forms::form::network_body` meets its contract.
 use mathlib.Core.Path.{sym, ◌∙◌}
 use Rattle.forms.proofs.Forms.{stands-link, stands-flow, stands-tunnel, stands-past}
-use native.Mathlib.Omega.{arith}
-use borrow.Author.Rules.{rules}
 use Rattle.forms.proofs.form.network_body.Goals as goal
 
 pub returns-in-Link : goal.returns-in-Link

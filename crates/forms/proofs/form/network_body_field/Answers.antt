@@ -9,7 +9,6 @@ use Rattle.lists.proofs.Positions.{head-least}
 use Rattle.forms.specs.Form.{network_body}
 use Rattle.forms.proofs.Forms.{head-there, head-of-network, own_body}
 use native.Mathlib.Omega.{arith}
-use borrow.Author.Rules.{rules}
 use Rattle.forms.proofs.form.network_body_field.Goals as goal
 use Rattle.forms.proofs.form.network_body_field.Goals.{Start}
 

@@ -1,8 +1,6 @@
 -- `forms::form::network_head_field` meets its contract.
 use mathlib.Core.Path.{sym, ◌∙◌}
 use Rattle.forms.proofs.Forms.{own-head, no-head}
-use native.Mathlib.Omega.{arith}
-use borrow.Author.Rules.{rules}
 use Rattle.forms.proofs.form.network_head_field.Goals as goal
 
 pub returns-then-i-eq0 : goal.returns-then-i-eq0

@@ -7,7 +7,6 @@ use Rattle.lists.specs.declared.PlanSizes.{PlanSizes}
 use Rattle.forms.specs.Form.{field_of}
 use Rattle.forms.proofs.Forms.{PlanHead, head-of-plan}
 use native.Mathlib.Omega.{arith}
-use borrow.Author.Rules.{rules}
 use Rattle.forms.proofs.form.plan_field.Goals as goal
 use Rattle.forms.proofs.form.plan_field.Goals.{After-row_at, Else-i-lt-HEAD}
 

@@ -5,7 +5,6 @@ use mathlib.Core.Path.{sym}
 use lib.ListN.{get_or-eq_default}
 use Rattle.forms.specs.Form.{plan_lines}
 use Rattle.forms.specs.declared.form.Field.TheVariants.{End}
-use borrow.Author.Rules.{rules}
 use Rattle.forms.proofs.form.plan_head.Goals as goal
 
 pub returns-in-0 : goal.returns-in-0

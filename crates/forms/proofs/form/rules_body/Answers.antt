@@ -7,7 +7,6 @@ use Rattle.lists.specs.Lists.{rule_at, tables_size}
 use Rattle.forms.specs.Form.{rules_body, rule_lines}
 use Rattle.forms.specs.declared.form.Field.TheVariants.{End}
 use native.Mathlib.Omega.{arith}
-use borrow.Author.Rules.{rules}
 use Rattle.forms.proofs.form.rules_body.Goals as goal
 
 pub returns-then-i-rules_at : goal.returns-then-i-rules_at

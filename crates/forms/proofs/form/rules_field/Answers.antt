@@ -6,7 +6,6 @@ use Rattle.lists.specs.declared.RuleTables.{RuleTables}
 use Rattle.forms.specs.Form.{field_of, rules_body}
 use Rattle.forms.proofs.Forms.{head-of-rules}
 use native.Mathlib.Omega.{arith}
-use borrow.Author.Rules.{rules}
 use Rattle.forms.proofs.form.rules_field.Goals as goal
 
 pub returns-then-i-lt-HEAD : goal.returns-then-i-lt-HEAD

@@ -6,7 +6,6 @@ use Rattle.lists.specs.Lists.{at}
 use Rattle.forms.specs.Form.{field_of, network_lines}
 use Rattle.forms.proofs.Forms.{head-there}
 use native.Mathlib.Omega.{arith}
-use borrow.Author.Rules.{rules}
 use Rattle.judges.proofs.judge.field_after.Goals as goal
 
 pub network_head_field-requires : goal.network_head_field-requires

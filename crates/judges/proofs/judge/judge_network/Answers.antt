@@ -7,8 +7,6 @@ use Rattle.forms.specs.Read.{add_up}
 use Rattle.forms.specs.declared.form.Form.TheVariants.{Network}
 use Rattle.forms.proofs.Walks.{judged-whole, whole-judged, not-good-then}
 use Rattle.forms.proofs.Good.{network-ranges}
-use native.Mathlib.Omega.{arith}
-use borrow.Author.Rules.{rules}
 use Rattle.judges.proofs.judge.judge_network.Goals as goal
 use Rattle.judges.proofs.judge.judge_network.Goals.{Then-is_network}
 

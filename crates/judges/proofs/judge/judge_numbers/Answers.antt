@@ -1,17 +1,15 @@
 -- `judges::judge::judge_numbers` meets its contract.
-use Prim.Native.Nat.{◌≤◌, ◌<◌, ◌+◌, ◌-◌}
+use Prim.Native.Nat.{◌<◌, ◌+◌}
 use mathlib.Core.Path.{◌≡◌, refl, sym, ap, ◌∙◌}
 use mathlib.Core.List.{[], ◌∷◌, ◌++◌}
 use native.Mathlib.Omega.{arith}
 use native.Mathlib.Numerals.{add-one}
 use native.Mathlib.Nat.{le_of_eq}
-use lib.ListN.{length, take, drop, get_or}
+use lib.ListN.{length, take, get_or}
 use lib.Seq.{length-take-le, take-suc}
 use Rattle.lists.specs.Answers.{done}
-use Rattle.lists.specs.Lists.{most_numbers}
-use Rattle.forms.specs.Form.{Sound, field_of}
-use Rattle.forms.specs.Read.{walk, judge_numbers}
-use Rattle.forms.specs.Turns.{itself}
+use Rattle.forms.specs.Form.{field_of}
+use Rattle.forms.specs.Read.{judge_numbers}
 use Rattle.forms.specs.declared.form.Field.TheVariants.{Line, End}
 use Rattle.lists.specs.declared.Answer.TheVariants.{Done}
 use Rattle.forms.proofs.Forms.{room-in-all, sound_more, sound_none}

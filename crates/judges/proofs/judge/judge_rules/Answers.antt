@@ -4,7 +4,6 @@ use Rattle.lists.specs.Answers.{done}
 use Rattle.forms.specs.Read.{add_up, judge_numbers}
 use Rattle.forms.specs.declared.form.Form.TheVariants.{Rules}
 use Rattle.forms.proofs.Walks.{good-judged, rules-no-sums}
-use borrow.Author.Rules.{rules}
 use Rattle.judges.proofs.judge.judge_rules.Goals as goal
 
 pub returns-then-is_rules : goal.returns-then-is_rules

@@ -1,12 +1,7 @@
 -- `judges::ranges::amounts_in` meets its contract.
-use Prim.Native.Nat.{◌≤◌, ◌-◌}
-use lib.ListN.{length}
-use Rattle.forms.specs.Form.{plan_lines}
-use Rattle.judges.specs.Ranges.{AmountsIn}
 use Rattle.judges.proofs.InRange.{decides-yes, decides-no}
 use Rattle.judges.proofs.PlanInRange.{amounts-none, amounts-more, amounts-all}
 use native.Mathlib.Omega.{arith}
-use borrow.Author.Rules.{rules}
 use Rattle.judges.proofs.ranges.amounts_in.Goals as goal
 
 pub loop-i-init : goal.loop-i-init

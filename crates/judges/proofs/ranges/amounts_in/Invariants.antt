@@ -3,9 +3,6 @@ use Prim.Native.Nat.{◌≤◌, ◌-◌}
 use lib.ListN.{length}
 use Rattle.forms.specs.Form.{plan_lines}
 use Rattle.judges.specs.Ranges.{AmountsIn}
-use Rattle.judges.proofs.InRange.{decides-yes, decides-no}
-use Rattle.judges.proofs.PlanInRange.{amounts-none, amounts-more, amounts-all}
-use native.Mathlib.Omega.{arith}
 use Rattle.judges.proofs.ranges.amounts_in.Given as goal
 
 abbrev pub invariant-loop-i : goal.invariant-loop-i

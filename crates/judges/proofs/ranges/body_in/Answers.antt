@@ -1,6 +1,5 @@
 -- `judges::ranges::body_in` meets its contract.
 use mathlib.Core.Path.{ap, subst, subst⁻¹}
-use Rattle.model.proofs.Searches.{not-false, not-true}
 use Rattle.lists.specs.Lists.{network_sizes, network_size}
 use Rattle.lists.specs.Good.{Limited, Sized}
 use Rattle.lists.specs.declared.Network as counts
@@ -9,7 +8,6 @@ use Rattle.forms.proofs.Forms.{head-there, limited}
 use Rattle.forms.proofs.Good.{network-size}
 use Rattle.judges.proofs.InRange.{in-range-whole, decides-no, decides-same, whole_in_range}
 use native.Mathlib.Omega.{arith}
-use borrow.Author.Rules.{rules}
 use Rattle.judges.proofs.ranges.body_in.Goals as goal
 use Rattle.judges.proofs.ranges.body_in.Goals.{Else-list-tunnel_at, Start}
 

@@ -1,20 +1,17 @@
 -- `judges::ranges::flows_in` meets its contract.
-use Prim.Native.Nat.{ℕ, ◌≤◌, ◌-◌, ◌+◌}
+use Prim.Native.Nat.{ℕ, ◌+◌}
 use mathlib.Core.Path.{◌≡◌, ap, ap₂, ◌∙◌}
 use mathlib.Core.List.{List}
 use Rattle.lists.specs.Lists.{at, next_in, network_sizes, flow_at}
 use Rattle.lists.specs.declared.Network as counts
 use Rattle.lists.proofs.Positions.{FlowPlace, NextPlace, flow-place, next_place, limited}
-use Rattle.lists.specs.Good.{FlowsIn}
 use Rattle.judges.proofs.InRange.{flows-none, flows-more, decides-yes, decides-no}
 use native.Mathlib.Omega.{arith}
-use borrow.Author.Rules.{rules}
 use Rattle.judges.proofs.ranges.flows_in.Goals as goal
 use Rattle.judges.proofs.ranges.flows_in.Goals.{After-flow_at-at}
 
 -- what is read in a turn: the class, the rate and the next
 module _ (c : After-flow_at-at) where
-
   abbrev list : List ℕ
   list = c.args.list.now
 

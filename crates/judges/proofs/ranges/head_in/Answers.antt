@@ -1,16 +1,14 @@
 -- `judges::ranges::head_in` meets its contract.
-use Prim.Native.Nat.{◌≤◌, ◌-◌}
 use mathlib.Core.Path.{◌≡◌, sym, ap, ◌∙◌}
 use mathlib.Core.List.{List}
 use lib.ListN.{get_or}
 use Rattle.forms.specs.declared.form.Field.{Field}
 use Rattle.forms.specs.declared.form.Field.TheVariants.{End}
 use Rattle.lists.specs.Lists.{at}
-use Rattle.judges.specs.Ranges.{head_lines, HeadIn}
+use Rattle.judges.specs.Ranges.{head_lines}
 use Rattle.judges.proofs.InRange.{head-none, head_more, decides-yes, decides-no, no_line, not-allowed}
 use Rattle.forms.proofs.Walks.{allows-line}
 use native.Mathlib.Omega.{arith}
-use borrow.Author.Rules.{rules}
 use Rattle.judges.proofs.ranges.head_in.Goals as goal
 use Rattle.judges.proofs.ranges.head_in.Goals.{After-head_line}
 

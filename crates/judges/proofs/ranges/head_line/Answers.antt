@@ -4,8 +4,6 @@ use lib.ListN.{get_or}
 use Rattle.forms.specs.declared.form.Form.{Form}
 use Rattle.forms.specs.declared.form.Field.TheVariants.{End}
 use Rattle.judges.specs.Ranges.{head_lines}
-use native.Mathlib.Omega.{arith}
-use borrow.Author.Rules.{rules}
 use Rattle.judges.proofs.ranges.head_line.Goals as goal
 
 pub returns-in-Network : goal.returns-in-Network

@@ -1,7 +1,5 @@
 -- `judges::ranges::is_network` meets its contract.
 use Rattle.judges.proofs.InRange.{decides-no, whole-head}
-use native.Mathlib.Omega.{arith}
-use borrow.Author.Rules.{rules}
 use Rattle.judges.proofs.ranges.is_network.Goals as goal
 
 pub body_in-requires : goal.body_in-requires

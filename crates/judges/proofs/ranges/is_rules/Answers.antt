@@ -2,7 +2,6 @@
 use Rattle.judges.proofs.InRange.{decides-no}
 use Rattle.judges.proofs.RulesInRange.{whole-tables}
 use native.Mathlib.Omega.{arith}
-use borrow.Author.Rules.{rules}
 use Rattle.judges.proofs.ranges.is_rules.Goals as goal
 
 pub returns-then-list-lt-HEAD : goal.returns-then-list-lt-HEAD

@@ -1,15 +1,13 @@
 -- `judges::ranges::links_in` meets its contract.
-use Prim.Native.Nat.{ℕ, ◌≤◌, ◌+◌, ◌-◌}
+use Prim.Native.Nat.{ℕ, ◌+◌, ◌-◌}
 use mathlib.Core.Path.{◌≡◌, ap}
 use mathlib.Core.List.{List}
 use Rattle.lists.specs.Lists.{at, per_link, network_sizes, link_at}
 use Rattle.lists.specs.declared.Network.{Network}
 use Rattle.lists.proofs.Positions.{link-some, LinkPlace, link-place, limited}
 use Rattle.lists.proofs.Held.{last-held, held-last}
-use Rattle.lists.specs.Good.{LinksIn}
 use Rattle.judges.proofs.InRange.{links-none, links-more, decides-yes, decides-no}
 use native.Mathlib.Omega.{arith}
-use borrow.Author.Rules.{rules}
 use Rattle.judges.proofs.ranges.links_in.Goals as goal
 use Rattle.judges.proofs.ranges.links_in.Goals.{After-link_at-at}
 

@@ -12,7 +12,6 @@ use Rattle.forms.proofs.Forms.{lines-in-head}
 use Rattle.judges.specs.Ranges.{NetworkHead}
 use Rattle.judges.proofs.InRange.{decides-no, decides-same, same_lines}
 use native.Mathlib.Omega.{arith}
-use borrow.Author.Rules.{rules}
 use Rattle.judges.proofs.ranges.network_head_in.Goals as goal
 use Rattle.judges.proofs.ranges.network_head_in.Goals.{Else-list-lt-HELD_SINCE, Then-list-lt-HELD_SINCE}
 

@@ -1,13 +1,10 @@
 -- `judges::ranges::rooms_in` meets its contract.
-use Prim.Native.Nat.{◌≤◌, ◌-◌}
 use mathlib.Core.Path.{◌≡◌, ap}
 use Rattle.lists.specs.Lists.{at}
 use Rattle.lists.specs.declared.RuleTables.{RuleTables}
-use Rattle.judges.specs.Ranges.{RoomsIn}
 use Rattle.judges.proofs.InRange.{decides-yes, decides-no}
 use Rattle.judges.proofs.RulesInRange.{rooms-none, rooms-more}
 use native.Mathlib.Omega.{arith}
-use borrow.Author.Rules.{rules}
 use Rattle.judges.proofs.ranges.rooms_in.Goals as goal
 
 pub loop-s-init : goal.loop-s-init

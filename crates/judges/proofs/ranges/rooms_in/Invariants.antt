@@ -1,12 +1,6 @@
 -- `judges::ranges::rooms_in` meets its contract.
 use Prim.Native.Nat.{◌≤◌, ◌-◌}
-use mathlib.Core.Path.{◌≡◌, ap}
-use Rattle.lists.specs.Lists.{at}
-use Rattle.lists.specs.declared.RuleTables.{RuleTables}
 use Rattle.judges.specs.Ranges.{RoomsIn}
-use Rattle.judges.proofs.InRange.{decides-yes, decides-no}
-use Rattle.judges.proofs.RulesInRange.{rooms-none, rooms-more}
-use native.Mathlib.Omega.{arith}
 use Rattle.judges.proofs.ranges.rooms_in.Given as goal
 
 abbrev pub invariant-loop-s : goal.invariant-loop-s

@@ -9,7 +9,6 @@ use Rattle.judges.specs.Ranges.{AmountsIn}
 use Rattle.judges.proofs.InRange.{decides-no, decides-same}
 use Rattle.judges.proofs.PlanInRange.{plan-counts, rows_whole, whole-rows}
 use native.Mathlib.Omega.{arith}
-use borrow.Author.Rules.{rules}
 use Rattle.judges.proofs.ranges.rows_in.Goals as goal
 
 pub row_at-requires : goal.row_at-requires

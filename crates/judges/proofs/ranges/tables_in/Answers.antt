@@ -6,7 +6,6 @@ use Rattle.judges.specs.Ranges.{TablesSized, RoomsIn, RulesIn}
 use Rattle.judges.proofs.InRange.{decides-no, decides-same}
 use Rattle.judges.proofs.RulesInRange.{head-counts, tables-sized, tables-whole, whole-tables}
 use native.Mathlib.Omega.{arith}
-use borrow.Author.Rules.{rules}
 use Rattle.judges.proofs.ranges.tables_in.Goals as goal
 use Rattle.judges.proofs.ranges.tables_in.Goals.{Else-list-rule_at}
 

@@ -4,7 +4,6 @@ use mathlib.Core.Path.{ap}
 use Rattle.lists.specs.Lists.{next_in}
 use Rattle.lists.proofs.Positions.{flow-some}
 use native.Mathlib.Omega.{arith}
-use borrow.Author.Rules.{rules}
 use Rattle.judges.proofs.sums.add_up.Goals as goal
 
 pub overflow_sub-last : goal.overflow_sub-last

@@ -1,14 +1,11 @@
 -- `judges::sums::first_missed` meets its contract.
-use Prim.Native.Nat.{ℕ, ◌≤◌, ◌<◌, ◌-◌, ◌+◌, ◌*◌, ◌^◌}
-use mathlib.Core.Path.{◌≡◌, refl, sym, ap, ap₂, ◌∙◌}
-use mathlib.Core.Logic.{⊎_elim}
+use Prim.Native.Nat.{ℕ, ◌≤◌, ◌<◌, ◌+◌, ◌*◌, ◌^◌}
+use mathlib.Core.Path.{◌≡◌, sym, ap, ap₂, ◌∙◌}
 use mathlib.Core.List.{List}
-use mathlib.Core.Option.{none}
 use lib.ListN.{get_or}
 use Rattle.model.specs.Net.{Net}
-use Rattle.model.specs.Search.{first}
 use Rattle.model.specs.Limits.{most_flows, most_amount}
-use Rattle.model.specs.Rule.{flow_sum, missed_by}
+use Rattle.model.specs.Rule.{flow_sum}
 use Rattle.model.proofs.Searches.{first-zero, first_on}
 use Rattle.lists.specs.Lists.{at, next_in, network_sizes, network_of}
 use Rattle.lists.specs.Good.{NetworkRanges}
@@ -17,13 +14,11 @@ use Rattle.lists.specs.declared.Answer.TheVariants.{Refused}
 use Rattle.lists.proofs.Positions.{FlowPlace, NextPlace, flow-place, next_place, limited}
 use Rattle.judges.proofs.Gathering.{gathered-all, sum-small, pair-sum, pair-met, pair-missed, missed-at, missed-none}
 use native.Mathlib.Omega.{arith}
-use borrow.Author.Rules.{rules}
 use Rattle.judges.proofs.sums.first_missed.Goals as goal
 use Rattle.judges.proofs.sums.first_missed.Goals.{else-loop-f-test, then-loop-f-test+then-sum-rate, After-flow_at-at, Start}
 
 -- in a turn: the flow's place, its rate, its next and its sums
 module _ (c : After-flow_at-at) where
-
   abbrev list : List ℕ
   list = c.args.list.now
 
@@ -125,7 +120,7 @@ returns-then-f-sizes c = let e : c.loop-f.f ≡ (network_sizes c.args.list.now).
 pub returns : goal.returns
 returns c =
     elim c.loop-f-test.branch [
-      else-loop-f-test w ↦ absurd (c.if-f-sizes.false (omega (arith, c.loop-f.invariant.0, w.loop-f-test.false)))
+      | else-loop-f-test w ↦ absurd (c.if-f-sizes.false (omega (arith, c.loop-f.invariant.0, w.loop-f-test.false)))
       | then-loop-f-test+then-sum-rate w ↦ let t : After-flow_at-at = record { before = record { before = record { before = c.before.before.before.before; loop-f-test = w.loop-f-test }; flow_at-at = w.flow_at-at }; type_inv = record { list = c.type_inv.list; sums = c.type_inv.sums } } in
-        ap (Refused 4 (f t)) w.second-is ∙ sym (missed-at (list t) (f t) _ c.loop-f.invariant.1 (pair-missed (N t) (f t) _ _ _ (sums_at t) (old-small t) (rate-at t) (next-at t) _ w.if-sum-rate.true w.missed-second.ensures) (there t))
+          ap (Refused 4 (f t)) w.second-is ∙ sym (missed-at (list t) (f t) _ c.loop-f.invariant.1 (pair-missed (N t) (f t) _ _ _ (sums_at t) (old-small t) (rate-at t) (next-at t) _ w.if-sum-rate.true w.missed-second.ensures) (there t))
     ]

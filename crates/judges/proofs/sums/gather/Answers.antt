@@ -1,6 +1,6 @@
 -- `judges::sums::gather` meets its contract.
-use Prim.Native.Nat.{ℕ, ◌≤◌, ◌<◌, ◌+◌, ◌*◌, ◌-◌, ◌^◌}
-use mathlib.Core.Path.{◌≡◌, sym, ap, ap₂, ◌∙◌}
+use Prim.Native.Nat.{ℕ, ◌≤◌, ◌<◌, ◌+◌, ◌*◌, ◌^◌}
+use mathlib.Core.Path.{◌≡◌, sym, ap, ◌∙◌}
 use mathlib.Core.List.{List}
 use native.Mathlib.Nat.{lt_of_lt_of_le}
 use lib.ListN.{length, get_or}
@@ -10,16 +10,14 @@ use Rattle.lists.specs.Lists.{at, network_sizes, network_of}
 use Rattle.lists.specs.Good.{NetworkRanges}
 use Rattle.lists.specs.declared.Network as counts
 use Rattle.lists.proofs.Positions.{TunnelPlace, tunnel-place, limited}
-use Rattle.judges.specs.Sums.{Gathered, pair_of}
+use Rattle.judges.specs.Sums.{pair_of}
 use Rattle.judges.proofs.Gathering.{gathered_none, gathered-more, gathered-fits}
 use native.Mathlib.Omega.{arith}
-use borrow.Author.Rules.{rules}
 use Rattle.judges.proofs.sums.gather.Goals as goal
 use Rattle.judges.proofs.sums.gather.Goals.{After-tunnel_at-at}
 
 -- in a turn: the tunnel's place, its flow and its amounts, and that the sum fits
 module _ (c : After-tunnel_at-at) where
-
   abbrev list : List ℕ
   list = c.args.list.now
 

@@ -1,9 +1,8 @@
 -- `loads::flows::chain_sums` meets its contract.
 use mathlib.Core.Path.{◌∙◌, sym, ◌≡◌}
 use Prim.Native.Nat.{◌+◌, ◌-◌}
-use Rattle.loads.proofs.Chains.{Walking, walk_start, walk_end, walk-tunnel, walk-room, walk-on}
+use Rattle.loads.proofs.Chains.{walk_start, walk_end, walk-room, walk-on}
 use native.Mathlib.Omega.{arith}
-use borrow.Author.Rules.{rules}
 use Rattle.loads.proofs.flows.chain_sums.Goals as goal
 
 pub clear-requires : goal.clear-requires

@@ -1,8 +1,5 @@
 -- `loads::flows::chain_sums` meets its contract.
-use mathlib.Core.Path.{◌∙◌, sym, ◌≡◌}
-use Prim.Native.Nat.{◌+◌, ◌-◌}
-use Rattle.loads.proofs.Chains.{Walking, walk_start, walk_end, walk-tunnel, walk-room, walk-on}
-use native.Mathlib.Omega.{arith}
+use Rattle.loads.proofs.Chains.{Walking}
 use Rattle.loads.proofs.flows.chain_sums.Given as goal
 
 abbrev pub invariant-loop-from : goal.invariant-loop-from

@@ -1,19 +1,17 @@
 -- `loads::flows::gather_flows` meets its contract.
-use Prim.Native.Nat.{ℕ, ◌≤◌, ◌-◌, ◌<◌, ◌*◌}
+use Prim.Native.Nat.{ℕ, ◌<◌}
 use mathlib.Core.Path.{◌≡◌, refl, sym, ap, ◌∙◌}
-use mathlib.Core.List.{List}
-use lib.ListN.{length, length-replicate}
+use lib.ListN.{length-replicate}
 use Rattle.model.specs.Limits.{most_flows, most_tunnels}
-use Rattle.lists.specs.Lists.{network_of, network_sizes}
+use Rattle.lists.specs.Lists.{network_sizes}
 use Rattle.lists.specs.declared.Network as counts
-use Rattle.lists.proofs.Positions.{FlowPlace, flow-place, limited, head_in}
-use Rattle.loads.specs.Tables.{part_of, LoadsWithin}
-use Rattle.loads.specs.Flows.{sums_size, FlowLoads}
+use Rattle.lists.proofs.Positions.{flow-place, limited, head_in}
+use Rattle.loads.specs.Tables.{part_of}
+use Rattle.loads.specs.Flows.{sums_size}
 use Rattle.loads.proofs.Chains.{chain-of, downward-of}
 use Rattle.loads.proofs.Places.{flow-class}
 use Rattle.loads.proofs.ByFlow.{amounts-of, fewer-amounts, flows-none, flows-more, flows-at, room-none, room-more, room-enough}
 use native.Mathlib.Omega.{arith}
-use borrow.Author.Rules.{rules}
 use Rattle.loads.proofs.flows.gather_flows.Goals as goal
 
 pub of-sizes-requires : goal.of-sizes-requires
@@ -71,6 +69,6 @@ pub returns : goal.returns
 returns c = let s = c.of-sizes.ensures in
     let f : c.loop-f.f ≡ (network_sizes c.args.network.now).flows = omega (arith, c.loop-f-test.false, c.loop-f.invariant.low, ap (λ (n : counts.Network). n.flows) s) in
     let l = ap (λ (n : counts.Network). n.links) s in record {
-  loads_within = room-enough _ _ _ _ _ (omega (arith, l)) (omega (arith, f, c.requires.0.ranges.sized.counts)) c.loop-f.invariant.room;
-  flow_loads = flows-at _ _ _ _ _ _ _ _ _ _ _ l f c.loop-f.invariant.summed;
-}
+      loads_within = room-enough _ _ _ _ _ (omega (arith, l)) (omega (arith, f, c.requires.0.ranges.sized.counts)) c.loop-f.invariant.room;
+      flow_loads = flows-at _ _ _ _ _ _ _ _ _ _ _ l f c.loop-f.invariant.summed;
+    }

@@ -1,18 +1,11 @@
 -- `loads::flows::gather_flows` meets its contract.
-use Prim.Native.Nat.{ℕ, ◌≤◌, ◌-◌, ◌<◌, ◌*◌}
-use mathlib.Core.Path.{◌≡◌, refl, sym, ap, ◌∙◌}
-use mathlib.Core.List.{List}
-use lib.ListN.{length, length-replicate}
-use Rattle.model.specs.Limits.{most_flows, most_tunnels}
+use Prim.Native.Nat.{◌≤◌, ◌-◌, ◌*◌}
+use mathlib.Core.Path.{◌≡◌}
+use lib.ListN.{length}
+use Rattle.model.specs.Limits.{most_tunnels}
 use Rattle.lists.specs.Lists.{network_of, network_sizes}
-use Rattle.lists.specs.declared.Network as counts
-use Rattle.lists.proofs.Positions.{FlowPlace, flow-place, limited, head_in}
-use Rattle.loads.specs.Tables.{part_of, LoadsWithin}
+use Rattle.loads.specs.Tables.{LoadsWithin}
 use Rattle.loads.specs.Flows.{sums_size, FlowLoads}
-use Rattle.loads.proofs.Chains.{chain-of, downward-of}
-use Rattle.loads.proofs.Places.{flow-class}
-use Rattle.loads.proofs.ByFlow.{amounts-of, fewer-amounts, flows-none, flows-more, flows-at, room-none, room-more, room-enough}
-use native.Mathlib.Omega.{arith}
 use Rattle.loads.proofs.flows.gather_flows.Given as goal
 
 abbrev pub invariant-loop-f : goal.invariant-loop-f

@@ -1,14 +1,11 @@
 -- `loads::gather::add_tunnel` meets its contract: the links below one are passed, and what is left of the set falls.
-use Prim.Native.Nat.{◌+◌, ◌*◌, ◌<◌, ◌≤◌}
+use Prim.Native.Nat.{◌*◌, ◌<◌, ◌≤◌}
 use native.Mathlib.Nat.{mul-le-mul}
 use borrow.Author.Tests.{eqb-true}
 use lib.Count.{trailing_le, count_trailing_zeros}
-use Rattle.model.proofs.Sets.{set-within, next-set, next-less, Passing, passing-start, passing-on, passing-end}
-use Rattle.lists.specs.Lists.{at}
-use Rattle.loads.specs.Tables.{number_at, AddedOn}
+use Rattle.model.proofs.Sets.{set-within, next-set, next-less, passing-start, passing-on, passing-end}
 use Rattle.loads.proofs.Vectors.{addable, added_more, added_none}
 use native.Mathlib.Omega.{arith}
-use borrow.Author.Rules.{rules}
 use Rattle.loads.proofs.gather.add_tunnel.Goals as goal
 
 pub loop-set-init : goal.loop-set-init

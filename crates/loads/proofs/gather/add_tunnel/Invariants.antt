@@ -1,13 +1,7 @@
 -- `loads::gather::add_tunnel` meets its contract: the links below one are passed, and what is left of the set falls.
-use Prim.Native.Nat.{◌+◌, ◌*◌, ◌<◌, ◌≤◌}
-use native.Mathlib.Nat.{mul-le-mul}
-use borrow.Author.Tests.{eqb-true}
-use lib.Count.{trailing_le, count_trailing_zeros}
-use Rattle.model.proofs.Sets.{set-within, next-set, next-less, Passing, passing-start, passing-on, passing-end}
+use Rattle.model.proofs.Sets.{Passing}
 use Rattle.lists.specs.Lists.{at}
 use Rattle.loads.specs.Tables.{number_at, AddedOn}
-use Rattle.loads.proofs.Vectors.{addable, added_more, added_none}
-use native.Mathlib.Omega.{arith}
 use Rattle.loads.proofs.gather.add_tunnel.Given as goal
 
 abbrev pub invariant-loop-set : goal.invariant-loop-set

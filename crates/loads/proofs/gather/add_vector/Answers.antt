@@ -1,10 +1,6 @@
 -- `loads::gather::add_vector` meets its contract.
-use Prim.Native.Nat.{◌≤◌, ◌-◌}
-use Rattle.lists.specs.Lists.{at}
-use Rattle.loads.specs.Tables.{block_rows, number_at}
-use Rattle.loads.proofs.Vectors.{Adding, adding-none, adding-more, adding-end}
+use Rattle.loads.proofs.Vectors.{adding-none, adding-more, adding-end}
 use native.Mathlib.Omega.{arith}
-use borrow.Author.Rules.{rules}
 use Rattle.loads.proofs.gather.add_vector.Goals as goal
 
 pub overflow_mul-source : goal.overflow_mul-source

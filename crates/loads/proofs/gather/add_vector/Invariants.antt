@@ -2,8 +2,7 @@
 use Prim.Native.Nat.{◌≤◌, ◌-◌}
 use Rattle.lists.specs.Lists.{at}
 use Rattle.loads.specs.Tables.{block_rows, number_at}
-use Rattle.loads.proofs.Vectors.{Adding, adding-none, adding-more, adding-end}
-use native.Mathlib.Omega.{arith}
+use Rattle.loads.proofs.Vectors.{Adding}
 use Rattle.loads.proofs.gather.add_vector.Given as goal
 
 abbrev pub invariant-loop-k : goal.invariant-loop-k

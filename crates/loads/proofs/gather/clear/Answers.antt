@@ -1,9 +1,6 @@
 -- `loads::gather::clear` meets its contract.
-use Prim.Native.Nat.{◌≤◌, ◌-◌, ◌*◌}
-use Rattle.loads.specs.Tables.{block_rows}
-use Rattle.loads.proofs.Vectors.{Zeros, zeros-none, zeros-more}
+use Rattle.loads.proofs.Vectors.{zeros-none, zeros-more}
 use native.Mathlib.Omega.{arith}
-use borrow.Author.Rules.{rules}
 use Rattle.loads.proofs.gather.clear.Goals as goal
 
 pub loop-i-init : goal.loop-i-init

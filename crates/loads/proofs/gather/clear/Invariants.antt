@@ -1,8 +1,7 @@
 -- `loads::gather::clear` meets its contract.
 use Prim.Native.Nat.{◌≤◌, ◌-◌, ◌*◌}
 use Rattle.loads.specs.Tables.{block_rows}
-use Rattle.loads.proofs.Vectors.{Zeros, zeros-none, zeros-more}
-use native.Mathlib.Omega.{arith}
+use Rattle.loads.proofs.Vectors.{Zeros}
 use Rattle.loads.proofs.gather.clear.Given as goal
 
 abbrev pub invariant-loop-i : goal.invariant-loop-i

@@ -1,10 +1,7 @@
 -- `loads::gather::gather` meets its contract.
-use Prim.Native.Nat.{◌+◌, ◌-◌, ◌≤◌, ◌*◌}
 use mathlib.Core.Path.{◌∙◌, sym}
-use Rattle.loads.specs.Tables.{Loads}
 use Rattle.loads.proofs.Passes.{loads-none, loads-more, loads-room, loads-at}
 use native.Mathlib.Omega.{arith}
-use borrow.Author.Rules.{rules}
 use Rattle.loads.proofs.gather.gather.Goals as goal
 
 pub clear-requires : goal.clear-requires

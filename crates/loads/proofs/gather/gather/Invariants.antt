@@ -1,9 +1,6 @@
 -- `loads::gather::gather` meets its contract.
-use Prim.Native.Nat.{◌+◌, ◌-◌, ◌≤◌, ◌*◌}
-use mathlib.Core.Path.{◌∙◌, sym}
+use Prim.Native.Nat.{◌-◌, ◌≤◌}
 use Rattle.loads.specs.Tables.{Loads}
-use Rattle.loads.proofs.Passes.{loads-none, loads-more, loads-room, loads-at}
-use native.Mathlib.Omega.{arith}
 use Rattle.loads.proofs.gather.gather.Given as goal
 
 abbrev pub invariant-loop-t : goal.invariant-loop-t

@@ -1,7 +1,6 @@
 -- `loads::gather::part_of` meets its contract.
 use borrow.Author.Tests.{le-leb, lt-leb}
 use native.Mathlib.Omega.{arith}
-use borrow.Author.Rules.{rules}
 use Rattle.loads.proofs.gather.part_of.Goals as goal
 
 pub returns-then-class-le1 : goal.returns-then-class-le1

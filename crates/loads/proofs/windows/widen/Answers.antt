@@ -1,9 +1,6 @@
 -- `loads::windows::widen` meets its contract.
-use Prim.Native.Nat.{◌+◌, ◌<◌, ◌-◌}
-use Rattle.loads.specs.Tables.{block_rows}
-use Rattle.loads.proofs.Widening.{Going, going-none, going_more, going_end}
+use Rattle.loads.proofs.Widening.{going-none, going_more, going_end}
 use native.Mathlib.Omega.{arith}
-use borrow.Author.Rules.{rules}
 use Rattle.loads.proofs.windows.widen.Goals as goal
 
 pub overflow_mul-at : goal.overflow_mul-at

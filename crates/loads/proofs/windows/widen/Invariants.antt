@@ -1,8 +1,7 @@
 -- `loads::windows::widen` meets its contract.
-use Prim.Native.Nat.{◌+◌, ◌<◌, ◌-◌}
+use Prim.Native.Nat.{◌<◌, ◌-◌}
 use Rattle.loads.specs.Tables.{block_rows}
-use Rattle.loads.proofs.Widening.{Going, going-none, going_more, going_end}
-use native.Mathlib.Omega.{arith}
+use Rattle.loads.proofs.Widening.{Going}
 use Rattle.loads.proofs.windows.widen.Given as goal
 
 abbrev pub invariant-loop-k : goal.invariant-loop-k

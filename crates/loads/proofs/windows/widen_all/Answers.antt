@@ -1,14 +1,7 @@
 -- `loads::windows::widen_all` meets its contract.
-use Prim.Native.Nat.{◌≤◌, ◌-◌}
-use lib.Dec.{ltb}
 use borrow.Author.Tests.{le-ltb}
-use Rattle.loads.specs.Windows.{WidenedOn}
-use mathlib.Core.Path.{◌≡◌, subst}
-use mathlib.Core.Bool.{Bool}
-use Prim.Native.Nat.{ℕ}
 use Rattle.loads.proofs.Widening.{widened_none, widened_more, below_next, below_at}
 use native.Mathlib.Omega.{arith}
-use borrow.Author.Rules.{rules}
 use Rattle.loads.proofs.windows.widen_all.Goals as goal
 
 pub loop-j-init : goal.loop-j-init

@@ -1,11 +1,6 @@
 -- `loads::windows::widen_by` meets its contract.
-use Prim.Native.Nat.{◌≤◌, ◌-◌}
-use mathlib.Core.Path.{◌∙◌, sym}
-use lib.Dec.{eqb}
-use Rattle.loads.specs.Windows.{WidenedOn}
 use Rattle.loads.proofs.Widening.{times_none, times_more, times-at}
 use native.Mathlib.Omega.{arith}
-use borrow.Author.Rules.{rules}
 use Rattle.loads.proofs.windows.widen_by.Goals as goal
 
 pub loop-p-init : goal.loop-p-init

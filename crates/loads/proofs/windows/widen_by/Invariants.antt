@@ -1,10 +1,7 @@
 -- `loads::windows::widen_by` meets its contract.
 use Prim.Native.Nat.{◌≤◌, ◌-◌}
-use mathlib.Core.Path.{◌∙◌, sym}
 use lib.Dec.{eqb}
 use Rattle.loads.specs.Windows.{WidenedOn}
-use Rattle.loads.proofs.Widening.{times_none, times_more, times-at}
-use native.Mathlib.Omega.{arith}
 use Rattle.loads.proofs.windows.widen_by.Given as goal
 
 abbrev pub invariant-loop-p : goal.invariant-loop-p

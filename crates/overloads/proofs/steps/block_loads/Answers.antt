@@ -1,12 +1,7 @@
 -- `overloads::steps::block_loads` meets its contract.
-use Prim.Native.Nat.{ℕ, ◌-◌}
-use mathlib.Core.Path.{◌≡◌, sym, ◌∙◌, subst}
-use Rattle.lists.specs.Lists.{network_of, plan_of}
+use mathlib.Core.Path.{sym, ◌∙◌}
 use Rattle.lists.proofs.Positions.{head_in}
-use Rattle.overloads.specs.Blocks.{Gathers}
 use Rattle.overloads.proofs.Blocks.{block_start}
-use native.Mathlib.Omega.{arith}
-use borrow.Author.Rules.{rules}
 use Rattle.overloads.proofs.steps.block_loads.Goals as goal
 
 pub returns-then-k-ne0 : goal.returns-then-k-ne0

@@ -6,7 +6,6 @@ use Rattle.loads.specs.Tables.{block_rows}
 use Rattle.overloads.specs.Blocks.{block_steps}
 use Rattle.overloads.proofs.Blocks.{times-few}
 use native.Mathlib.Omega.{arith}
-use borrow.Author.Rules.{rules}
 use Rattle.overloads.proofs.steps.block_steps.Goals as goal
 
 pub overflow_sub-result : goal.overflow_sub-result

@@ -1,5 +1,5 @@
 -- `overloads::steps::first_overload` meets its contract. The invariants: no step before this one, and no link before this one in it, breaks a bound.
-use Prim.Native.Nat.{ℕ, ◌≤◌, ◌-◌, ◌<◌}
+use Prim.Native.Nat.{ℕ, ◌<◌}
 use mathlib.Core.Path.{◌≡◌, refl, sym, ap, ◌∙◌, subst}
 use mathlib.Core.Option.{none}
 use lib.ListN.{length-replicate}
@@ -9,20 +9,18 @@ use Rattle.model.specs.Net.{Net, Plan}
 use Rattle.model.specs.Rule.{step_count, worst_over, first_overload}
 use Rattle.model.proofs.Searches.{first-zero, first_on}
 use Rattle.model.proofs.Scans.{step-on, scan-at, scan-end, test_step}
-use Rattle.lists.specs.Lists.{network_of, network_sizes, plan_of}
+use Rattle.lists.specs.Lists.{network_of, plan_of}
 use Rattle.lists.specs.declared.Network as counts
 use Rattle.lists.specs.declared.PlanSizes as lengths
 use Rattle.lists.proofs.Positions.{head_in}
-use Rattle.loads.specs.Tables.{loads_size, AmountTable}
+use Rattle.loads.specs.Tables.{loads_size}
 use Rattle.loads.proofs.ByFlow.{room-enough}
 use Rattle.amounts.proofs.Tables.{no-amounts}
-use Rattle.overloads.specs.declared.steps.Found.TheVariants.{At, Nothing}
+use Rattle.overloads.specs.declared.steps.Found.TheVariants.{At}
 use Rattle.overloads.specs.Inner.{found_of}
-use Rattle.overloads.specs.Blocks.{block_steps, InBlock}
 use Rattle.overloads.proofs.Overloads.{over_in, over_none, over-some}
 use Rattle.overloads.proofs.Blocks.{in-first, in-next, block-few, number_in}
 use native.Mathlib.Omega.{arith}
-use borrow.Author.Rules.{rules}
 use Rattle.overloads.proofs.steps.first_overload.Goals as goal
 use Rattle.overloads.proofs.steps.first_overload.Goals.{After-block_steps-in_block, After-over-number, In-loop-l}
 
@@ -114,12 +112,12 @@ next_in_block-k-requires c = (omega (arith, c.steps.invariant.3.low.1, c.block_s
 
 pub steps-preserved : goal.steps-preserved
 steps-preserved c = let e : c.loop-l.l ≡ (network_of c.args.network.now).links = omega (arith, c.loop-l-test.false, c.loop-l.invariant.0, links ((goal.at.steps-preserved c).After-block_steps-in_block)) in (
-      omega (arith, c.steps-test.true),
-      c.loop-l.invariant.1,
-      c.block_loads.ensures.amount_table,
-      in-next _ _ _ _ _ _ _ c.steps.invariant.3.low.0 (rw c.block_steps-in_block.ensures at c.next_in_block-k.ensures) c.block_loads.ensures.gathers,
-      step-on c.steps.i _ _ _ c.steps.invariant.4 (subst (λ (n : ℕ). first n (test_link (worst_over c.args.lag (network_of c.args.network.now) (plan_of c.args.plan.now)) c.steps.i) ≡ none) e c.loop-l.invariant.2),
-    )
+  omega (arith, c.steps-test.true),
+  c.loop-l.invariant.1,
+  c.block_loads.ensures.amount_table,
+  in-next _ _ _ _ _ _ _ c.steps.invariant.3.low.0 (rw c.block_steps-in_block.ensures at c.next_in_block-k.ensures) c.block_loads.ensures.gathers,
+  step-on c.steps.i _ _ _ c.steps.invariant.4 (subst (λ (n : ℕ). first n (test_link (worst_over c.args.lag (network_of c.args.network.now) (plan_of c.args.plan.now)) c.steps.i) ≡ none) e c.loop-l.invariant.2),
+)
 
 pub returns-after-steps : goal.returns-after-steps
 unfolding first_overload

@@ -1,8 +1,5 @@
 -- `overloads::steps::flow_loads` meets its contract.
-use mathlib.Core.Path.{◌≡◌, sym, ◌∙◌}
 use Rattle.overloads.proofs.Blocks.{sets-within, flows-gather}
-use native.Mathlib.Omega.{arith}
-use borrow.Author.Rules.{rules}
 use Rattle.overloads.proofs.steps.flow_loads.Goals as goal
 
 pub gather_flows-requires : goal.gather_flows-requires

@@ -1,6 +1,5 @@
 -- `overloads::steps::over` meets its contract.
 use native.Mathlib.Omega.{arith}
-use borrow.Author.Rules.{rules}
 use Rattle.overloads.proofs.steps.over.Goals as goal
 
 pub overflow_add-all : goal.overflow_add-all

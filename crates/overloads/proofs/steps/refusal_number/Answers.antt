@@ -1,6 +1,5 @@
 -- `overloads::steps::refusal_number` meets its contract.
 use borrow.Author.Tests.{lt-ltb, le-ltb}
-use borrow.Author.Rules.{rules}
 use Rattle.overloads.proofs.steps.refusal_number.Goals as goal
 
 pub returns-then-capacity-protected : goal.returns-then-capacity-protected

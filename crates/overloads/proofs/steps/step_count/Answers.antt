@@ -2,7 +2,6 @@
 use mathlib.Core.Path.{ap}
 use Rattle.lists.specs.declared.PlanSizes as lengths
 use native.Mathlib.Omega.{arith}
-use borrow.Author.Rules.{rules}
 use Rattle.overloads.proofs.steps.step_count.Goals as goal
 
 pub overflow_sub-result : goal.overflow_sub-result

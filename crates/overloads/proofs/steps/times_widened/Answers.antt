@@ -1,12 +1,9 @@
 -- `overloads::steps::times_widened` meets its contract.
 use Prim.Native.Nat.{ℕ, ◌-◌}
 use mathlib.Core.Path.{sym, ap, ◌∙◌}
-use Rattle.model.specs.Rule.{by_flow}
 use Rattle.lists.specs.Lists.{network_of, plan_of}
 use Rattle.lists.proofs.Positions.{head_in}
 use Rattle.overloads.proofs.Blocks.{times-flow, times-tunnel}
-use native.Mathlib.Omega.{arith}
-use borrow.Author.Rules.{rules}
 use Rattle.overloads.proofs.steps.times_widened.Goals as goal
 
 pub by_flow-whole-requires : goal.by_flow-whole-requires

@@ -1,10 +1,7 @@
 -- `overloads::steps::tunnel_loads` meets its contract.
-use Prim.Native.Nat.{◌*◌}
-use mathlib.Core.Path.{◌≡◌, sym, ◌∙◌}
 use Rattle.lists.proofs.Positions.{head_in}
 use Rattle.overloads.proofs.Blocks.{sets-within, widened-table, gathers}
 use native.Mathlib.Omega.{arith}
-use borrow.Author.Rules.{rules}
 use Rattle.overloads.proofs.steps.tunnel_loads.Goals as goal
 
 pub of-sizes-requires : goal.of-sizes-requires

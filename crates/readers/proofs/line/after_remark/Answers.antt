@@ -1,7 +1,6 @@
 -- `readers::line::after_remark` meets its contract.
-use Rattle.std.proofs.Common.{◌+◌, ◌-◌, ◌<◌, ◌≤◌, length, sym, arith}
-use Rattle.readers.proofs.Remarks.{Unfed, unfed-start, unfed-more, remark-many, remark-cut, remark-fits, remark-long}
-use borrow.Author.Rules.{rules}
+use Rattle.std.proofs.Common.{◌+◌, ◌<◌, length, sym, arith}
+use Rattle.readers.proofs.Remarks.{unfed-start, unfed-more, remark-many, remark-cut, remark-fits, remark-long}
 use Rattle.readers.proofs.line.after_remark.Goals as goal
 use Rattle.readers.proofs.line.after_remark.Goals.{Else-to-text}
 

@@ -1,6 +1,6 @@
 -- `readers::line::after_remark` meets its contract.
-use Rattle.std.proofs.Common.{◌+◌, ◌-◌, ◌<◌, ◌≤◌, length, sym, arith}
-use Rattle.readers.proofs.Remarks.{Unfed, unfed-start, unfed-more, remark-many, remark-cut, remark-fits, remark-long}
+use Rattle.std.proofs.Common.{◌-◌, ◌≤◌}
+use Rattle.readers.proofs.Remarks.{Unfed}
 use Rattle.readers.proofs.line.after_remark.Given as goal
 
 abbrev pub invariant-loop-n : goal.invariant-loop-n

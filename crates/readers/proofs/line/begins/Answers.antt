@@ -1,7 +1,6 @@
 -- `readers::line::begins` meets its contract.
-use Rattle.std.proofs.Common.{◌+◌, ◌≤◌, length, sym, ◌∙◌, add-zero, arith, length-drop, rules}
+use Rattle.std.proofs.Common.{sym, ◌∙◌, add-zero, arith, length-drop}
 use Rattle.readers.proofs.Lines.{prefix-short, four_same, four-other}
-use borrow.Author.Rules.{rules}
 use Rattle.readers.proofs.line.begins.Goals as goal
 
 pub returns-then-text-at : goal.returns-then-text-at

@@ -1,6 +1,5 @@
 -- `readers::line::byte` meets its contract.
-use Rattle.std.proofs.Common.{refl, arith, rules}
-use borrow.Author.Rules.{rules}
+use Rattle.std.proofs.Common.{refl, arith}
 use Rattle.readers.proofs.line.byte.Goals as goal
 
 pub overflow_cast-result : goal.overflow_cast-result

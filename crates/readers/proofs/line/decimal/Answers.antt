@@ -1,8 +1,7 @@
 -- `readers::line::decimal` meets its contract.
-use Rattle.std.proofs.Common.{◌≡◌, ℕ, ◌+◌, ◌<◌, List, length, arith, rules}
+use Rattle.std.proofs.Common.{◌≡◌, ℕ, ◌+◌, ◌<◌, List, length, arith}
 use Rattle.readers.specs.Line.{value_at, Leading}
 use Rattle.readers.proofs.Digits.{closed, decimal-cut, decimal-other, decimal-empty, decimal-one, decimal-zero, decimal-many}
-use borrow.Author.Rules.{rules}
 use Rattle.readers.proofs.line.decimal.Goals as goal
 use Rattle.readers.proofs.line.decimal.Goals.{Else-to-from, Else-to-text}
 

@@ -1,10 +1,9 @@
 -- `readers::line::digit` meets its contract: the table's rule is a test at each of its entries, which antt computes.
-use Rattle.std.proofs.Common.{◌≡◌, ℕ, ◌+◌, ◌<◌, length, get_or, sym, ap, ◌∙◌, arith, rules}
+use Rattle.std.proofs.Common.{◌≡◌, ℕ, ◌+◌, ◌<◌, length, get_or, sym, ap, ◌∙◌, arith}
 use Rattle.forms.specs.Line.{digit_of}
 use Rattle.model.proofs.Table.{value}
 use Rattle.readers.specs.Line.{digit_table}
 use Rattle.readers.proofs.Digits.{digit-outside}
-use borrow.Author.Rules.{rules}
 use Rattle.readers.proofs.line.digit.Goals as goal
 use Rattle.readers.proofs.line.digit.Goals.{After-wrapping_sub_u8-x}
 

@@ -1,11 +1,10 @@
 -- `readers::line::digits` meets its contract.
-use Rattle.std.proofs.Common.{◌≡◌, ℕ, ◌+◌, ◌-◌, ◌≤◌, List, length, drop, sym, refl, ◌∙◌, arith, length-drop, drop-drop, rules}
+use Rattle.std.proofs.Common.{◌≡◌, ℕ, ◌+◌, ◌-◌, ◌≤◌, List, length, drop, sym, refl, ◌∙◌, arith, length-drop, drop-drop}
 use mathlib.Core.Option.{none, some}
 use Rattle.forms.specs.Line.{value_part}
 use Rattle.readers.specs.Line.{first_line, value_at, number_of}
 use Rattle.readers.proofs.Lines.{AfterKey, after-key, value-other}
 use Rattle.readers.proofs.Digits.{no-digits, value-first, value-fits, value_none, value-some}
-use borrow.Author.Rules.{rules}
 use Rattle.readers.proofs.line.digits.Goals as goal
 use Rattle.readers.proofs.line.digits.Goals.{In-Is, Then-begins}
 

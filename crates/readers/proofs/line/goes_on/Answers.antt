@@ -1,8 +1,6 @@
 -- `readers::line::goes_on` meets its contract.
-use Rattle.std.proofs.Common.{◌≡◌, ◌+◌, ◌-◌, ◌<◌, ◌≤◌, length, drop, sym, refl, ◌∙◌, add_assoc, arith, rules}
-use Rattle.readers.specs.Line.{prefixed}
+use Rattle.std.proofs.Common.{◌+◌, ◌<◌, length, sym, refl, ◌∙◌, add_assoc, arith}
 use Rattle.readers.proofs.Lines.{prefix-other, prefix_same, prefix-end}
-use borrow.Author.Rules.{rules}
 use Rattle.readers.proofs.line.goes_on.Goals as goal
 use Rattle.readers.proofs.line.goes_on.Goals.{In-loop-i}
 
@@ -18,9 +16,9 @@ returns-then-text-at c = sym (c.loop-i.invariant.rest ∙ prefix-other _ _ _ _ c
 
 pub loop-i-preserved : goal.loop-i-preserved
 loop-i-preserved c = record {
-      within = omega (arith, c.loop-i-test.true);
-      rest = c.loop-i.invariant.rest ∙ rw (← add_assoc c.args.at c.loop-i.i 1) (prefix_same _ _ _ _ c.loop-i-test.true (inside ((goal.at.loop-i-preserved c).In-loop-i)) c.if-text-at.false);
-    }
+  within = omega (arith, c.loop-i-test.true);
+  rest = c.loop-i.invariant.rest ∙ rw (← add_assoc c.args.at c.loop-i.i 1) (prefix_same _ _ _ _ c.loop-i-test.true (inside ((goal.at.loop-i-preserved c).In-loop-i)) c.if-text-at.false);
+}
 
 pub returns : goal.returns
 returns c = sym (c.loop-i.invariant.rest ∙ prefix-end _ _ _ c.loop-i-test.false)

@@ -1,7 +1,6 @@
 -- `readers::line::goes_on` meets its contract.
-use Rattle.std.proofs.Common.{◌≡◌, ◌+◌, ◌-◌, ◌<◌, ◌≤◌, length, drop, sym, refl, ◌∙◌, add_assoc, arith, rules}
+use Rattle.std.proofs.Common.{◌≡◌, ◌+◌, ◌-◌, ◌≤◌, length, drop}
 use Rattle.readers.specs.Line.{prefixed}
-use Rattle.readers.proofs.Lines.{prefix-other, prefix_same, prefix-end}
 use Rattle.readers.proofs.line.goes_on.Given as goal
 
 abbrev pub invariant-loop-i : goal.invariant-loop-i

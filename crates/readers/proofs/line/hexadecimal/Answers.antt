@@ -1,8 +1,7 @@
 -- `readers::line::hexadecimal` meets its contract.
-use Rattle.std.proofs.Common.{◌≡◌, ◌+◌, ◌-◌, ◌*◌, ◌^◌, ◌<◌, ◌≤◌, length, sym, refl, le_refl, add-zero, add_assoc, arith, lit≤, rules}
+use Rattle.std.proofs.Common.{◌≡◌, ◌+◌, ◌*◌, ◌^◌, ◌<◌, length, sym, le_refl, add-zero, add_assoc, arith, lit≤}
 use Rattle.readers.specs.Line.{DigitsTo}
 use Rattle.readers.proofs.Digits.{digits-start, digits_more, digit_room, closed, hex-short, hex-other, hex-long, hex-some}
-use borrow.Author.Rules.{rules}
 use Rattle.readers.proofs.line.hexadecimal.Goals as goal
 use Rattle.readers.proofs.line.hexadecimal.Goals.{After-digit-x, After-loop-i, At-loop-i}
 

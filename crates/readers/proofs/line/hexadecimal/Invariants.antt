@@ -1,7 +1,6 @@
 -- `readers::line::hexadecimal` meets its contract.
-use Rattle.std.proofs.Common.{◌≡◌, ◌+◌, ◌-◌, ◌*◌, ◌^◌, ◌<◌, ◌≤◌, length, sym, refl, le_refl, add-zero, add_assoc, arith, lit≤, rules}
+use Rattle.std.proofs.Common.{◌+◌, ◌-◌, ◌≤◌}
 use Rattle.readers.specs.Line.{DigitsTo}
-use Rattle.readers.proofs.Digits.{digits-start, digits_more, digit_room, closed, hex-short, hex-other, hex-long, hex-some}
 use Rattle.readers.proofs.line.hexadecimal.Given as goal
 
 abbrev pub invariant-loop-i : goal.invariant-loop-i

@@ -1,9 +1,7 @@
 -- `readers::line::is_remark` meets its contract.
-use Rattle.std.proofs.Common.{◌≡◌, ℕ, true, false, eqb, sym, ap, ◌∙◌, rules}
+use Rattle.std.proofs.Common.{◌≡◌, ℕ, true, false, eqb, sym, ap, ◌∙◌}
 use Rattle.forms.specs.Form.{has_remarks}
-use Rattle.model.proofs.Searches.{not-true, not-false}
 use Rattle.readers.proofs.Remarks.{first-at, none-remark}
-use borrow.Author.Rules.{rules}
 use Rattle.readers.proofs.line.is_remark.Goals as goal
 use Rattle.readers.proofs.line.is_remark.Goals.{Else-not-has_remarks}
 

@@ -1,9 +1,7 @@
 -- `readers::line::leading_digits` meets its contract.
-use Rattle.std.proofs.Common.{◌≡◌, ◌+◌, ◌-◌, ◌*◌, ◌^◌, ◌<◌, ◌≤◌, length, get_or, inl, inr, add-zero, add_assoc, arith, lit≤, rules}
+use Rattle.std.proofs.Common.{◌≡◌, ◌+◌, ◌*◌, ◌^◌, ◌<◌, length, get_or, inl, inr, add-zero, add_assoc, arith, lit≤}
 use Rattle.forms.specs.Line.{digit_of}
-use Rattle.readers.specs.Line.{DigitsTo}
 use Rattle.readers.proofs.Digits.{digit-decimal, digit-above, digits-start, digits_more, digit_room}
-use borrow.Author.Rules.{rules}
 use Rattle.readers.proofs.line.leading_digits.Goals as goal
 use Rattle.readers.proofs.line.leading_digits.Goals.{Else-to-text, Else-x-ge10}
 

@@ -1,8 +1,6 @@
 -- `readers::line::leading_digits` meets its contract.
-use Rattle.std.proofs.Common.{◌≡◌, ◌+◌, ◌-◌, ◌*◌, ◌^◌, ◌<◌, ◌≤◌, length, get_or, inl, inr, add-zero, add_assoc, arith, lit≤, rules}
-use Rattle.forms.specs.Line.{digit_of}
+use Rattle.std.proofs.Common.{◌+◌, ◌-◌, ◌≤◌}
 use Rattle.readers.specs.Line.{DigitsTo}
-use Rattle.readers.proofs.Digits.{digit-decimal, digit-above, digits-start, digits_more, digit_room}
 use Rattle.readers.proofs.line.leading_digits.Given as goal
 
 abbrev pub invariant-loop-n : goal.invariant-loop-n

@@ -1,6 +1,4 @@
 -- `readers::line::parse` meets its contract.
-use Rattle.std.proofs.Common.{rules}
-use borrow.Author.Rules.{rules}
 use Rattle.readers.proofs.line.parse.Goals as goal
 
 pub returns-then-hex : goal.returns-then-hex

@@ -1,6 +1,4 @@
 -- `readers::read::answer` meets its contract.
-use Rattle.std.proofs.Common.{rules}
-use borrow.Author.Rules.{rules}
 use Rattle.readers.proofs.read.answer.Goals as goal
 
 pub returns-in-Number : goal.returns-in-Number

@@ -1,11 +1,10 @@
 -- `readers::read::body_after` meets its contract.
-use Rattle.std.proofs.Common.{◌≡◌, true, false, length, sym, refl, ap, ◌∙◌, arith, rules, ltb-false}
+use Rattle.std.proofs.Common.{◌≡◌, true, false, length, sym, refl, ap, ◌∙◌, arith, ltb-false}
 use Rattle.lists.specs.Lists.{at}
 use Rattle.forms.specs.Form.{network_lines}
 use Rattle.forms.proofs.Forms.{head-there}
 use Rattle.readers.specs.Read.{in_head}
 use Rattle.readers.specs.declared.read.Body.TheVariants.{Known}
-use borrow.Author.Rules.{rules}
 use Rattle.readers.proofs.read.body_after.Goals as goal
 
 pub of-requires : goal.of-requires

@@ -1,5 +1,5 @@
 -- `readers::read::copy` meets its contract.
-use Rattle.std.proofs.Common.{◌≡◌, ◌+◌, ◌-◌, ◌<◌, ◌≤◌, ◌++◌, length, take, drop, ◌∙◌, arith, length-set, rules}
+use Rattle.std.proofs.Common.{◌≡◌, ◌<◌, length, ◌∙◌, arith, length-set, rules}
 use lib.Seq.{take-length}
 use Rattle.readers.proofs.Lines.{copy_step}
 use borrow.Author.Rules.{rules}

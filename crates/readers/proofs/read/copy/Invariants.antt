@@ -1,7 +1,5 @@
 -- `readers::read::copy` meets its contract.
-use Rattle.std.proofs.Common.{◌≡◌, ◌+◌, ◌-◌, ◌<◌, ◌≤◌, ◌++◌, length, take, drop, ◌∙◌, arith, length-set, rules}
-use lib.Seq.{take-length}
-use Rattle.readers.proofs.Lines.{copy_step}
+use Rattle.std.proofs.Common.{◌≡◌, ◌-◌, ◌≤◌, ◌++◌, length, take, drop}
 use Rattle.readers.proofs.read.copy.Given as goal
 
 abbrev pub invariant-loop-i : goal.invariant-loop-i

@@ -1,7 +1,4 @@
 -- `readers::read::field_after` meets its contract.
-use Rattle.forms.specs.Form.{field_of}
-use Rattle.std.proofs.Common.{arith, rules}
-use borrow.Author.Rules.{rules}
 use Rattle.readers.proofs.read.field_after.Goals as goal
 
 pub network_field-requires : goal.network_field-requires

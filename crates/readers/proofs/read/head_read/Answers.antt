@@ -1,6 +1,5 @@
 -- `readers::read::head_read` meets its contract.
-use Rattle.std.proofs.Common.{not, refl, ap, arith, rules}
-use borrow.Author.Rules.{rules}
+use Rattle.std.proofs.Common.{not, ap}
 use Rattle.readers.proofs.read.head_read.Goals as goal
 
 pub returns-in-Unknown : goal.returns-in-Unknown

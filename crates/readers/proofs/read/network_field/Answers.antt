@@ -1,7 +1,6 @@
 -- `readers::read::network_field` meets its contract.
-use Rattle.std.proofs.Common.{◌≡◌, true, false, length, sym, refl, ◌∙◌, arith, rules, ltb-false, ltb-true}
+use Rattle.std.proofs.Common.{◌≡◌, true, false, sym, refl, ◌∙◌, ltb-false, ltb-true}
 use Rattle.readers.specs.Read.{in_head}
-use borrow.Author.Rules.{rules}
 use Rattle.readers.proofs.read.network_field.Goals as goal
 
 pub network_head_field-requires : goal.network_head_field-requires

@@ -1,9 +1,8 @@
 -- `readers::read::next_line` meets its contract.
-use Rattle.std.proofs.Common.{sym, ap, ◌∙◌, rules}
+use Rattle.std.proofs.Common.{sym, ap, ◌∙◌}
 use Rattle.forms.specs.declared.form.Field.{Field}
 use Rattle.readers.specs.Read.{next_of}
 use Rattle.readers.proofs.Reading.{next-ended, next-many}
-use borrow.Author.Rules.{rules}
 use Rattle.readers.proofs.read.next_line.Goals as goal
 
 pub returns-then-at-text : goal.returns-then-at-text

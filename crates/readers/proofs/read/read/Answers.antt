@@ -1,5 +1,5 @@
 -- `readers::read::read` meets its contract.
-use Rattle.std.proofs.Common.{◌≡◌, ℕ, ◌+◌, ◌-◌, ◌<◌, ◌≤◌, true, false, List, length, take, drop, sym, refl, ap, ◌∙◌, arith, length-take-le, rules}
+use Rattle.std.proofs.Common.{◌≡◌, ℕ, ◌+◌, ◌<◌, ◌≤◌, true, false, List, length, take, drop, sym, refl, ap, ◌∙◌, arith, length-take-le, rules}
 use Rattle.model.proofs.Searches.{and-true}
 use Rattle.lists.specs.Answers.{done}
 use Rattle.forms.specs.Form.{field_of, has_remarks}
@@ -10,7 +10,7 @@ use Rattle.forms.proofs.Forms.{sound_none, most-numbers}
 use Rattle.forms.proofs.Remarks.{read-by-turns}
 use Rattle.readers.specs.Line.{first_line, after_remark}
 use Rattle.readers.specs.declared.line.Remark.TheVariants.{Ends}
-use Rattle.readers.specs.Read.{body_of, head_read, next_of, Begun, onward, ReadOn}
+use Rattle.readers.specs.Read.{body_of, head_read, next_of, onward, ReadOn}
 use Rattle.readers.specs.declared.read.Body.{Body}
 use Rattle.readers.specs.declared.read.Stopped.{Stopped}
 use Rattle.readers.proofs.Reading.{fits-own, read_more, walk-disorder, onward-past, past-facts, walk-answer, holds-refused}
@@ -173,6 +173,6 @@ returns-else-is_remark c = let size = length-take-le c.read_on-stopped.result.co
     let real : is_remark c.args.form (first_line (drop c.read_on-stopped.result.at c.args.text.now)) ≡ false = sym c.is_remark.ensures ∙ c.if-is_remark.false in
     let p = walk-answer c.args.form (c.read_on-stopped.result.count + c.loop-stopped.remarks + 1) c.loop-stopped.remarks c.args.text.now c.read_on-stopped.new.vals c.read_on-stopped.result.at c.read_on-stopped.result.count
     size (read-on ((goal.at.returns-else-is_remark c).After-slice_known-in-loop-stopped-1)).begun.within real c.read_on-stopped.result.taken gives (read-on ((goal.at.returns-else-is_remark c).After-slice_known-in-loop-stopped-1)).stops in record {
-  value = c.answer.ensures ∙ p.0 ∙ sym (ap done (rest ((goal.at.returns-else-is_remark c).After-slice_known-in-loop-stopped-1)));
-  holds = rw (rest ((goal.at.returns-else-is_remark c).After-slice_known-in-loop-stopped-1)) p.1;
-}
+      value = c.answer.ensures ∙ p.0 ∙ sym (ap done (rest ((goal.at.returns-else-is_remark c).After-slice_known-in-loop-stopped-1)));
+      holds = rw (rest ((goal.at.returns-else-is_remark c).After-slice_known-in-loop-stopped-1)) p.1;
+    }

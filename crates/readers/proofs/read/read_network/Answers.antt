@@ -1,5 +1,5 @@
 -- `readers::read::read_network` meets its contract.
-use Rattle.std.proofs.Common.{◌≡◌, ℕ, ◌≤◌, List, length, take, sym, ap, ◌∙◌, arith, length-take-le, rules}
+use Rattle.std.proofs.Common.{◌≡◌, ℕ, ◌≤◌, List, length, take, sym, ap, ◌∙◌, length-take-le, rules}
 use Rattle.model.specs.Outcome.{good}
 use Rattle.model.specs.Outcome.{and_then}
 use Rattle.lists.specs.Lists.{link_at, flow_at, tunnel_at, most_network}
@@ -48,9 +48,9 @@ read-lines-requires-clause-vals_len c = search rules
 pub returns-in_default : goal.returns-in_default
 returns-in_default c = let a = c.args in
     let o = read_lines Network a.text.now in record {
-  value = (refused-room (and_then o (add_up Network)) _ a.out.now (refused-then o (add_up Network) _ c.read-lines.ensures.value c.in_default.not-Done) c.in_default.not-Done).0;
-  out_after = (refused-room (and_then o (add_up Network)) _ a.out.now (refused-then o (add_up Network) _ c.read-lines.ensures.value c.in_default.not-Done) c.in_default.not-Done).1;
-}
+      value = (refused-room (and_then o (add_up Network)) _ a.out.now (refused-then o (add_up Network) _ c.read-lines.ensures.value c.in_default.not-Done) c.in_default.not-Done).0;
+      out_after = (refused-room (and_then o (add_up Network)) _ a.out.now (refused-then o (add_up Network) _ c.read-lines.ensures.value c.in_default.not-Done) c.in_default.not-Done).1;
+    }
 
 pub slice_bounds-vals-end : goal.slice_bounds-vals-end
 slice_bounds-vals-end c = (all_read c).1

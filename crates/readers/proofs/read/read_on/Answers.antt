@@ -1,13 +1,12 @@
 -- `readers::read::read_on` meets its contract.
-use Rattle.std.proofs.Common.{◌≡◌, ℕ, ◌+◌, ◌-◌, ◌<◌, ◌≤◌, List, [], ◌∷◌, ◌++◌, length, take, set, sym, refl, ap, ◌∙◌, add-one, arith, length-set, length-take-le, take-suc-set, rules}
+use Rattle.std.proofs.Common.{◌≡◌, ℕ, ◌+◌, ◌<◌, List, [], ◌∷◌, ◌++◌, length, take, set, sym, refl, ap, ◌∙◌, add-one, arith, length-set, length-take-le, take-suc-set}
 use lib.Seq.{take-set-le}
 use Rattle.forms.specs.Form.{field_of, most_of}
 use Rattle.forms.specs.declared.form.Field.{Field}
 use Rattle.forms.proofs.Forms.{sound_more, room}
-use Rattle.readers.specs.Read.{Fits, field_by, next_of, Begun, onward}
+use Rattle.readers.specs.Read.{field_by, next_of}
 use Rattle.readers.specs.declared.read.Taken.TheVariants.{Number}
 use Rattle.readers.proofs.Reading.{Given, given, fits_more, number-field, onward-number, no_number}
-use borrow.Author.Rules.{rules}
 use Rattle.readers.proofs.read.read_on.Goals as goal
 use Rattle.readers.proofs.read.read_on.Goals.{After-next_line-taken, At-loop-v, In-Number}
 

@@ -1,12 +1,11 @@
 -- `readers::read::read_rules` meets its contract.
-use Rattle.std.proofs.Common.{◌≡◌, ℕ, ◌≤◌, List, length, take, sym, ◌∙◌, length-take-le, rules}
+use Rattle.std.proofs.Common.{◌≡◌, ℕ, ◌≤◌, List, length, take, sym, ◌∙◌, length-take-le}
 use Rattle.model.specs.Outcome.{good}
 use Rattle.model.specs.Outcome.{and_then}
 use Rattle.forms.specs.Read.{add_up, read_lines}
 use Rattle.forms.specs.declared.form.Form.TheVariants.{Rules}
 use Rattle.forms.proofs.Answers.{refused-then, refused-room}
 use Rattle.readers.proofs.Reading.{lines-read}
-use borrow.Author.Rules.{rules}
 use Rattle.readers.proofs.read.read_rules.Goals as goal
 use Rattle.readers.proofs.read.read_rules.Goals.{In-Done}
 
@@ -21,9 +20,9 @@ module _ (c : In-Done) where
 pub returns-in_default : goal.returns-in_default
 returns-in_default c = let a = c.args in
     let o = read_lines Rules a.text.now in record {
-  value = (refused-room (and_then o (add_up Rules)) _ a.out.now (refused-then o (add_up Rules) _ c.read-lines.ensures.value c.in_default.not-Done) c.in_default.not-Done).0;
-  out_after = (refused-room (and_then o (add_up Rules)) _ a.out.now (refused-then o (add_up Rules) _ c.read-lines.ensures.value c.in_default.not-Done) c.in_default.not-Done).1;
-}
+      value = (refused-room (and_then o (add_up Rules)) _ a.out.now (refused-then o (add_up Rules) _ c.read-lines.ensures.value c.in_default.not-Done) c.in_default.not-Done).0;
+      out_after = (refused-room (and_then o (add_up Rules)) _ a.out.now (refused-then o (add_up Rules) _ c.read-lines.ensures.value c.in_default.not-Done) c.in_default.not-Done).1;
+    }
 
 pub slice_bounds-vals-end : goal.slice_bounds-vals-end
 slice_bounds-vals-end c = (all_read c).1

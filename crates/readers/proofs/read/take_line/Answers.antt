@@ -1,5 +1,5 @@
 -- `readers::read::take_line` meets its contract.
-use Rattle.std.proofs.Common.{◌≡◌, ℕ, ◌+◌, ◌≤◌, Bool, List, length, drop, sym, ap, ◌∙◌, subst, arith, rules}
+use Rattle.std.proofs.Common.{◌≡◌, ℕ, ◌+◌, ◌≤◌, Bool, List, length, drop, sym, ap, ◌∙◌, subst, arith}
 use mathlib.Core.Option.{some}
 use Rattle.forms.specs.Keys.{prefix_of}
 use Rattle.forms.specs.Form.{is_hex}
@@ -11,7 +11,6 @@ use Rattle.readers.specs.declared.read.Taken.TheVariants.{Number}
 use Rattle.readers.proofs.Lines.{line-length}
 use Rattle.readers.proofs.Digits.{parsed-none, parsed-some}
 use Rattle.readers.proofs.Reading.{taken-missing, taken-malformed, taken-number, taken-outside, line-ends}
-use borrow.Author.Rules.{rules}
 use Rattle.readers.proofs.read.take_line.Goals as goal
 use Rattle.readers.proofs.read.take_line.Goals.{After-digits-d, Else-d-eq0}
 

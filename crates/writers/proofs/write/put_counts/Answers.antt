@@ -11,7 +11,6 @@ use Rattle.lines.specs.Puts.{Puts}
 use Rattle.lengths.specs.Lines.{lines_from}
 use Rattle.lengths.proofs.Runs.{DecimalAt, long, count-line, no_lines, next_fits, next-put}
 use native.Mathlib.Omega.{arith}
-use borrow.Author.Rules.{rules}
 use Rattle.writers.proofs.write.put_counts.Goals as goal
 use Rattle.writers.proofs.write.put_counts.Goals.{After-head-i, After-put_line-flows, After-put_line-tunnels}
 

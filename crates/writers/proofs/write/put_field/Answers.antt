@@ -5,7 +5,6 @@ use Rattle.forms.specs.Write.{line_of}
 use Rattle.lines.specs.Puts.{decimal_line, hex_line}
 use Rattle.lines.proofs.Writing.{puts_none}
 use Rattle.lengths.proofs.Runs.{set_line, number-line}
-use borrow.Author.Rules.{rules}
 use Rattle.writers.proofs.write.put_field.Goals as goal
 use Rattle.writers.proofs.write.put_field.Goals.{After-is_hex}
 

@@ -14,7 +14,6 @@ use Rattle.lines.specs.Puts.{Puts}
 use Rattle.lengths.specs.Lines.{lines_from}
 use Rattle.lengths.proofs.Runs.{DecimalAt, class-line, rate-line, next-line, no_lines, next_fits, next-put}
 use native.Mathlib.Omega.{arith}
-use borrow.Author.Rules.{rules}
 use Rattle.writers.proofs.write.put_flow.Goals as goal
 use Rattle.writers.proofs.write.put_flow.Goals.{After-flow_at-i, After-next, After-put_line-next, After-put_line-rate, Start}
 

@@ -1,5 +1,5 @@
 -- `writers::write::put_flows` meets its contract.
-use Prim.Native.Nat.{ℕ, ◌≤◌, ◌+◌, ◌*◌, ◌-◌, ◌<◌}
+use Prim.Native.Nat.{ℕ, ◌≤◌, ◌+◌, ◌*◌, ◌<◌}
 use mathlib.Core.Path.{◌≡◌, ap}
 use mathlib.Core.List.{List}
 use native.Mathlib.Nat.{mul-le-mul_left}
@@ -9,12 +9,9 @@ use Rattle.lists.specs.declared.Network as counts
 use Rattle.lists.proofs.Positions.{flow-at, head_in}
 use Rattle.forms.proofs.Good.{network-ranges}
 use Rattle.forms.specs.declared.form.Form.TheVariants.{Network}
-use Rattle.lines.specs.Puts.{Puts}
 use Rattle.lines.proofs.Writing.{puts-length}
-use Rattle.lengths.specs.Lines.{lines_from}
 use Rattle.lengths.proofs.Runs.{no_lines, run-within, run_fits, run-put}
 use native.Mathlib.Omega.{arith}
-use borrow.Author.Rules.{rules}
 use Rattle.writers.proofs.write.put_flows.Goals as goal
 use Rattle.writers.proofs.write.put_flows.Goals.{In-loop-f, Start}
 
@@ -62,9 +59,9 @@ overflow_add-f c = omega (arith, there ((goal.at.overflow_add-f c).In-loop-f), (
 
 pub loop-f-preserved : goal.loop-f-preserved
 loop-f-preserved c = record {
-      few = omega (arith, c.loop-f-test.true);
-      put = run-put Network c.args.list.now (first ((goal.at.loop-f-preserved c).In-loop-f)) _ c.requires.list_in_bounds (per ((goal.at.loop-f-preserved c).In-loop-f) * c.loop-f.f) (per ((goal.at.loop-f-preserved c).In-loop-f)) _ (within ((goal.at.loop-f-preserved c).In-loop-f)) (flow-at _ _) c.loop-f.invariant.put (per ((goal.at.loop-f-preserved c).In-loop-f) * (c.loop-f.f + 1)) (omega arith) c.put_flow-p.ensures;
-    }
+  few = omega (arith, c.loop-f-test.true);
+  put = run-put Network c.args.list.now (first ((goal.at.loop-f-preserved c).In-loop-f)) _ c.requires.list_in_bounds (per ((goal.at.loop-f-preserved c).In-loop-f) * c.loop-f.f) (per ((goal.at.loop-f-preserved c).In-loop-f)) _ (within ((goal.at.loop-f-preserved c).In-loop-f)) (flow-at _ _) c.loop-f.invariant.put (per ((goal.at.loop-f-preserved c).In-loop-f) * (c.loop-f.f + 1)) (omega arith) c.put_flow-p.ensures;
+}
 
 pub shape_of-out : goal.shape_of-out
 shape_of-out c = let v = c.loop-f.invariant in

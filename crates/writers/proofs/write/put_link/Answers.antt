@@ -14,7 +14,6 @@ use Rattle.lines.specs.Puts.{Puts}
 use Rattle.lengths.specs.Lines.{lines_from}
 use Rattle.lengths.proofs.Runs.{DecimalAt, cap-line, held-line, no_lines, next_fits, next-put}
 use native.Mathlib.Omega.{arith}
-use borrow.Author.Rules.{rules}
 use Rattle.writers.proofs.write.put_link.Goals as goal
 use Rattle.writers.proofs.write.put_link.Goals.{After-link_at-i, After-put_line-held, Start, Then-has_held}
 

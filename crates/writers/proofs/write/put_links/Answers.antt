@@ -1,5 +1,5 @@
 -- `writers::write::put_links` meets its contract.
-use Prim.Native.Nat.{ℕ, ◌≤◌, ◌+◌, ◌*◌, ◌-◌, ◌<◌}
+use Prim.Native.Nat.{ℕ, ◌≤◌, ◌+◌, ◌*◌, ◌<◌}
 use mathlib.Core.Path.{◌≡◌, ap}
 use mathlib.Core.List.{List}
 use native.Mathlib.Nat.{mul-le-mul_left}
@@ -9,12 +9,9 @@ use Rattle.lists.specs.declared.Network as counts
 use Rattle.lists.proofs.Positions.{link-at, head_in}
 use Rattle.forms.proofs.Good.{network-ranges}
 use Rattle.forms.specs.declared.form.Form.TheVariants.{Network}
-use Rattle.lines.specs.Puts.{Puts}
 use Rattle.lines.proofs.Writing.{puts-length}
-use Rattle.lengths.specs.Lines.{lines_from}
 use Rattle.lengths.proofs.Runs.{no_lines, run-within, run_fits, run-put}
 use native.Mathlib.Omega.{arith}
-use borrow.Author.Rules.{rules}
 use Rattle.writers.proofs.write.put_links.Goals as goal
 use Rattle.writers.proofs.write.put_links.Goals.{In-loop-k, Start}
 
@@ -59,9 +56,9 @@ overflow_add-k c = omega (arith, there ((goal.at.overflow_add-k c).In-loop-k), (
 
 pub loop-k-preserved : goal.loop-k-preserved
 loop-k-preserved c = record {
-      few = omega (arith, c.loop-k-test.true);
-      put = run-put Network c.args.list.now (first ((goal.at.loop-k-preserved c).In-loop-k)) _ c.requires.list_in_bounds (per ((goal.at.loop-k-preserved c).In-loop-k) * c.loop-k.k) (per ((goal.at.loop-k-preserved c).In-loop-k)) _ (within ((goal.at.loop-k-preserved c).In-loop-k)) (link-at _ _) c.loop-k.invariant.put (per ((goal.at.loop-k-preserved c).In-loop-k) * (c.loop-k.k + 1)) (omega arith) c.put_link-p.ensures;
-    }
+  few = omega (arith, c.loop-k-test.true);
+  put = run-put Network c.args.list.now (first ((goal.at.loop-k-preserved c).In-loop-k)) _ c.requires.list_in_bounds (per ((goal.at.loop-k-preserved c).In-loop-k) * c.loop-k.k) (per ((goal.at.loop-k-preserved c).In-loop-k)) _ (within ((goal.at.loop-k-preserved c).In-loop-k)) (link-at _ _) c.loop-k.invariant.put (per ((goal.at.loop-k-preserved c).In-loop-k) * (c.loop-k.k + 1)) (omega arith) c.put_link-p.ensures;
+}
 
 pub shape_of-out : goal.shape_of-out
 shape_of-out c = let v = c.loop-k.invariant in

@@ -1,19 +1,9 @@
 -- `writers::write::put_links` meets its contract.
-use Prim.Native.Nat.{ℕ, ◌≤◌, ◌+◌, ◌*◌, ◌-◌, ◌<◌}
-use mathlib.Core.Path.{◌≡◌, ap}
-use mathlib.Core.List.{List}
-use native.Mathlib.Nat.{mul-le-mul_left}
+use Prim.Native.Nat.{◌≤◌, ◌*◌, ◌-◌}
 use Rattle.lists.specs.Lists.{per_link, network_sizes, link_at}
-use Rattle.lists.specs.Good.{Sized}
-use Rattle.lists.specs.declared.Network as counts
-use Rattle.lists.proofs.Positions.{link-at, head_in}
-use Rattle.forms.proofs.Good.{network-ranges}
 use Rattle.forms.specs.declared.form.Form.TheVariants.{Network}
 use Rattle.lines.specs.Puts.{Puts}
-use Rattle.lines.proofs.Writing.{puts-length}
 use Rattle.lengths.specs.Lines.{lines_from}
-use Rattle.lengths.proofs.Runs.{no_lines, run-within, run_fits, run-put}
-use native.Mathlib.Omega.{arith}
 use Rattle.writers.proofs.write.put_links.Given as goal
 
 abbrev pub invariant-loop-k : goal.invariant-loop-k

@@ -13,7 +13,6 @@ use Rattle.lines.specs.Puts.{Puts}
 use Rattle.lengths.specs.Lines.{lines_from}
 use Rattle.lengths.proofs.Runs.{long, all_lines, front_fits, rest-fits, rest_put}
 use native.Mathlib.Omega.{arith}
-use borrow.Author.Rules.{rules}
 use Rattle.writers.proofs.write.put_network.Goals as goal
 use Rattle.writers.proofs.write.put_network.Goals.{After-put_flows-tunnels, After-put_links-flows, After-put_network_head-links, Start}
 

@@ -12,7 +12,6 @@ use Rattle.lines.specs.Puts.{Puts}
 use Rattle.lengths.specs.Lines.{lines_from}
 use Rattle.lengths.proofs.Runs.{DecimalAt, network-head-line, unit-line, no_lines, head-fits, head-next, run_fits, run-put}
 use native.Mathlib.Omega.{arith}
-use borrow.Author.Rules.{rules}
 use Rattle.writers.proofs.write.put_network_head.Goals as goal
 use Rattle.writers.proofs.write.put_network_head.Goals.{After-put_line-links, After-put_line-overrun, After-put_line-scratch, After-put_line-unit, Start}
 

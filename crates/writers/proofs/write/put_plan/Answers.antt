@@ -7,7 +7,6 @@ use Rattle.forms.specs.Form.{plan_lines}
 use Rattle.forms.specs.declared.form.Form.TheVariants.{Plan}
 use Rattle.forms.proofs.Good.{plan-size}
 use Rattle.lengths.proofs.Runs.{all_lines, front_fits, rest-fits, rest_put}
-use borrow.Author.Rules.{rules}
 use Rattle.writers.proofs.write.put_plan.Goals as goal
 use Rattle.writers.proofs.write.put_plan.Goals.{Start}
 

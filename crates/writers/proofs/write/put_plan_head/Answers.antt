@@ -13,7 +13,6 @@ use Rattle.forms.specs.declared.form.Field.TheVariants.{Line, End}
 use Rattle.lines.specs.Puts.{Puts}
 use Rattle.lengths.specs.Lines.{lines_from}
 use Rattle.lengths.proofs.Runs.{DecimalAt, plan-head-line, no_lines, head-fits, head-next}
-use borrow.Author.Rules.{rules}
 use Rattle.writers.proofs.write.put_plan_head.Goals as goal
 use Rattle.writers.proofs.write.put_plan_head.Goals.{After-put_line, After-put_line-parts, After-put_line-steps, After-put_line-tunnels, Start}
 

@@ -8,8 +8,7 @@ use Rattle.forms.specs.Bytes.{bytes}
 use Rattle.forms.specs.Form.{plan_lines}
 use Rattle.forms.specs.declared.form.Form.TheVariants.{Plan}
 use Rattle.forms.proofs.Good.{plan-size}
-use Rattle.lines.specs.Puts.{Puts, decimal_value, decimal_line}
-use Rattle.lengths.specs.Lines.{lines_from}
+use Rattle.lines.specs.Puts.{decimal_value, decimal_line}
 use Rattle.lines.proofs.Writing.{puts-length, then-fits, then-puts}
 use Rattle.lengths.proofs.Runs.{DecimalAt, at-line, no_lines, run-within, next_fits, next-put}
 use borrow.Author.Rules.{rules}

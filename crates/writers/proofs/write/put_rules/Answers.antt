@@ -1,5 +1,5 @@
 -- `writers::write::put_rules` meets its contract.
-use Prim.Native.Nat.{ℕ, ◌≤◌, ◌+◌, ◌-◌}
+use Prim.Native.Nat.{ℕ, ◌≤◌, ◌+◌}
 use mathlib.Core.Path.{◌≡◌, refl, sym, ap}
 use native.Mathlib.Nat.{zero-add, le_of_lt}
 use native.Mathlib.Omega.{arith}
@@ -9,7 +9,6 @@ use Rattle.forms.specs.Write.{line_of}
 use Rattle.forms.specs.declared.form.Form.TheVariants.{Rules}
 use Rattle.forms.proofs.Forms.{sound-take}
 use Rattle.forms.proofs.Rendering.{at_most}
-use Rattle.lines.specs.Puts.{Puts}
 use Rattle.lengths.specs.Lines.{Writable, lines_from, line_at}
 use Rattle.lines.proofs.Writing.{puts-length}
 use Rattle.lengths.proofs.Runs.{all_lines, no_lines, run-within, next_fits, next-put, writable, line-here}

@@ -1,5 +1,5 @@
 -- `writers::write::put_tunnels` meets its contract.
-use Prim.Native.Nat.{ℕ, ◌≤◌, ◌+◌, ◌*◌, ◌-◌}
+use Prim.Native.Nat.{ℕ, ◌+◌, ◌*◌}
 use mathlib.Core.Path.{◌≡◌, refl, ap}
 use mathlib.Core.List.{List}
 use lib.ListN.{length, get_or}
@@ -16,7 +16,6 @@ use Rattle.lengths.specs.Lines.{line_at, lines_from}
 use Rattle.lines.proofs.Writing.{puts-length}
 use Rattle.lengths.proofs.Runs.{DecimalAt, flow-line, via-line, old-line, new_line, no_lines, run-within, next_fits, next-put}
 use native.Mathlib.Omega.{arith}
-use borrow.Author.Rules.{rules}
 use Rattle.writers.proofs.write.put_tunnels.Goals as goal
 use Rattle.writers.proofs.write.put_tunnels.Goals.{After-put_line-new, After-put_line-via, After-put_set_line-old, After-tunnel_at-i, Start}
 
@@ -156,9 +155,9 @@ overflow_add-t c = omega (arith, (place ((goal.at.overflow_add-t c).After-tunnel
 
 pub loop-t-preserved : goal.loop-t-preserved
 loop-t-preserved c = record {
-      few = omega (arith, c.loop-t-test.true);
-      put = next-put Network c.args.list.now (first ((goal.at.loop-t-preserved c).After-tunnel_at-i)) _ c.requires.list_in_bounds (done ((goal.at.loop-t-preserved c).After-tunnel_at-i) + 3) (c.tunnel_at-i.result + 3) (omega (arith, (place ((goal.at.loop-t-preserved c).After-tunnel_at-i)).there)) (omega (arith, here ((goal.at.loop-t-preserved c).After-tunnel_at-i))) (new ((goal.at.loop-t-preserved c).After-tunnel_at-i)).line (with-old ((goal.at.loop-t-preserved c).After-put_line-new)) (length (tunnel_lines (network_sizes c.args.list.now)) * (c.loop-t.t + 1)) (omega arith) c.put_line-p.ensures;
-    }
+  few = omega (arith, c.loop-t-test.true);
+  put = next-put Network c.args.list.now (first ((goal.at.loop-t-preserved c).After-tunnel_at-i)) _ c.requires.list_in_bounds (done ((goal.at.loop-t-preserved c).After-tunnel_at-i) + 3) (c.tunnel_at-i.result + 3) (omega (arith, (place ((goal.at.loop-t-preserved c).After-tunnel_at-i)).there)) (omega (arith, here ((goal.at.loop-t-preserved c).After-tunnel_at-i))) (new ((goal.at.loop-t-preserved c).After-tunnel_at-i)).line (with-old ((goal.at.loop-t-preserved c).After-put_line-new)) (length (tunnel_lines (network_sizes c.args.list.now)) * (c.loop-t.t + 1)) (omega arith) c.put_line-p.ensures;
+}
 
 pub shape_of-out : goal.shape_of-out
 shape_of-out c = let v = c.loop-t.invariant in

@@ -7,7 +7,6 @@ use Rattle.forms.specs.Write.{render, write_text}
 use Rattle.forms.specs.declared.form.Form.TheVariants.{Plan}
 use Rattle.forms.proofs.Answers.{refused-then, refused-room}
 use Rattle.writers.proofs.Answered.{judged-done, too_long, written}
-use borrow.Author.Rules.{rules}
 use Rattle.writers.proofs.write.write_plan.Goals as goal
 use Rattle.writers.proofs.write.write_plan.Goals.{In-Done}
 

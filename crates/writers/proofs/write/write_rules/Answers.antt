@@ -10,7 +10,6 @@ use Rattle.forms.specs.declared.form.Form.TheVariants.{Rules}
 use Rattle.forms.proofs.Answers.{refused-then, refused-room}
 use Rattle.lengths.specs.Lines.{Needed}
 use Rattle.writers.proofs.Answered.{judged-done, too_long, written}
-use borrow.Author.Rules.{rules}
 use Rattle.writers.proofs.write.write_rules.Goals as goal
 use Rattle.writers.proofs.write.write_rules.Goals.{After-rules_len-rules_size, In-Done}
 
