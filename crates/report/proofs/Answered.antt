@@ -5,7 +5,7 @@ use mathlib.Core.List.{List, ◌++◌}
 use native.Mathlib.Omega.{arith}
 use lib.ListN.{length, take, drop, length-append}
 use lib.Seq.{take-append_seam, length-take-le}
-use Rattle.io.specs.Counts.{IsPrefixLen}
+use Rattle.report.specs.Counts.{IsPrefixLen}
 use Rattle.model.specs.Outcome.{Outcome, good, refused, number}
 use Rattle.lists.specs.Answers.{done, lent}
 use Rattle.lists.specs.declared.Answer.{Answer}
