@@ -1,4 +1,4 @@
-use Rattle.std.proofs.Common.{arith, ap, sym, ◌∙◌}
+use Rattle.std.proofs.Common.{arith, ap, ◌∙◌}
 use Rattle.forms.specs.Bytes.{bytes}
 use Rattle.report.specs.Printed.{printed_check}
 use Rattle.report.proofs.Answered.{puts-front, refusal-front}

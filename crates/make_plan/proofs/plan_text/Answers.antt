@@ -1,7 +1,7 @@
-use Rattle.std.proofs.Common.{ℕ, ◌≡◌, List, length, refl, sym, ap, ◌∙◌}
+use Rattle.std.proofs.Common.{ℕ, ◌≡◌, List, length, refl, ap, ◌∙◌}
 use Rattle.model.specs.Outcome.{Outcome, and_then}
 use Rattle.lists.specs.Answers.{with_room, done, plan, lent}
-use Rattle.lists.specs.Lists.{link_at, flow_at, tunnel_at, most_network, most_plan}
+use Rattle.lists.specs.Lists.{link_at, flow_at, tunnel_at, most_network}
 use Rattle.lists.specs.declared.Answer.{Answer}
 use Rattle.forms.specs.Named.{read_network, write_plan}
 use Rattle.planner.specs.Planned.{planned}

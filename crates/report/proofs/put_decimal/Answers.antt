@@ -1,4 +1,4 @@
-use Rattle.std.proofs.Common.{◌+◌, ◌-◌, ◌≡◌, ◌≤◌, ◌∙◌, length, arith, refl}
+use Rattle.std.proofs.Common.{◌+◌, ◌-◌, ◌≡◌, ◌≤◌, ◌∙◌, length, arith}
 use Rattle.forms.proofs.Numbers.{length_digits}
 use Rattle.lines.proofs.Writing.{digits-start, digits-turn}
 use Rattle.report.specs.Printed.{decimal}
