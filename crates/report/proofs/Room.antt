@@ -69,11 +69,6 @@ given-plan room o a k out s f e d h =
 
 -- ---- a refusal stands, whatever would come after
 
-pub read-refused : (o : Outcome (List ℕ)) (next : List ℕ → Outcome (List ℕ)) (a : Answer) (out : List ℕ) → a ≡ done o → ((k : ℕ) → a ≡ Done k → ⊥)
-    → (a ≡ done (with_room (length out) (and_then o next))) × (out ≡ lent (with_room (length out) (and_then o next)) out)
-read-refused (good l) next a out e not = absurd (not (length l) e)
-read-refused (refused c place second) next a out e not = (e, refl)
-
 pub plan-refused : (o : Outcome (List ℕ)) (next : List ℕ → Outcome (List ℕ)) (a : Answer) (out : List ℕ) → a ≡ plan o → ((k : ℕ) → a ≡ Plan k → ⊥)
     → (a ≡ done (with_room (length out) (and_then o next))) × (out ≡ lent (with_room (length out) (and_then o next)) out)
 plan-refused (good l) next a out e not = absurd (not (length l) e)

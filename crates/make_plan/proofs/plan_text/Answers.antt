@@ -3,10 +3,11 @@ use Rattle.model.specs.Outcome.{Outcome, and_then}
 use Rattle.lists.specs.Answers.{with_room, done, plan, lent}
 use Rattle.lists.specs.Lists.{link_at, flow_at, tunnel_at, most_network}
 use Rattle.lists.specs.declared.Answer.{Answer}
+use Rattle.forms.proofs.Answers.{refused-then, refused-room}
 use Rattle.forms.specs.Named.{read_network, write_plan}
 use Rattle.planner.specs.Planned.{planned}
 use Rattle.report.specs.Printed.{plan_text}
-use Rattle.report.proofs.Room.{network-fits, planned-fits, given-done, read-refused, plan-refused}
+use Rattle.report.proofs.Room.{network-fits, planned-fits, given-done, plan-refused}
 use Rattle.make_plan.proofs.plan_text.Goals as goal
 
 -- an outcome that is the same has the same answer, and leaves the same
@@ -20,7 +21,8 @@ unfolding most_network link_at flow_at tunnel_at
 returns-in_default c =
     let text = c.args.text.now in
     let next : List ℕ → Outcome (List ℕ) = λ n. and_then (planned 1 n) write_plan in
-    let r = read-refused (read_network text) next _ c.args.out.now (c.read_network-read.ensures.value ∙ ap done (network-fits text)) c.in_default.not-Done in
+    let e = refused-then (read_network text) next _ (c.read_network-read.ensures.value ∙ ap done (network-fits text)) c.in_default.not-Done in
+    let r = refused-room (and_then (read_network text) next) _ c.args.out.now e c.in_default.not-Done in
     record { value = r.0; out_after = r.1 }
 
 -- the network is read, and no plan is made
