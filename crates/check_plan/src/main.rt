@@ -2,26 +2,25 @@
 #![tactic(auto)]
 
 ghost use Rattle.std.specs.Prelude.{◌≤◌, ◌≡◌, length, take};
-ghost use Rattle.io.specs.Counts.{IsPrefixLen};
+ghost use Rattle.report.specs.Counts.{IsPrefixLen};
 ghost use Rattle.report.specs.Printed.{check_texts, printed_check};
 
-use libc::{STDERR_FILENO, STDOUT_FILENO};
 use lists::{Answer, Network, PlanSizes};
+use std::fs::File;
+use std::io::Write;
+use std::rt::Files;
 
 // The marks are lent since the check asks for them; only the answer is printed.
 const MARKS: usize = Network::TUNNELS as usize;
 
 // Fills buf from the start of a file and answers how many bytes it has. A file that cannot be opened, or cannot be read, has none.
-fn read_file(path: &[u8], buf: &mut [u8]) -> usize
+fn read_file<R: Files>(rt: &R, path: &str, buf: &mut [u8]) -> usize
     ensures { IsPrefixLen result buf.new }
 {
-    let file = os::open_read(path);
-    if file < 0 {
-        return 0;
+    match File::open(rt, path) {
+        Ok(mut file) => report::read_full(&mut file, buf),
+        Err(_) => 0,
     }
-    let length = io::read_full(file, buf);
-    libc::close(file);
-    length
 }
 
 // "The checker reads the whole network first, then the whole plan".
@@ -66,17 +65,16 @@ fn put_answer(network: &[u8], plan: &[u8], out: &mut [u8]) -> usize
     }
 }
 
-fn main() {
-    let mut network = io::large_buffer();
-    let network_length = read_file(b"network.txt", &mut network);
-    let mut plan = io::large_buffer();
-    let plan_length = read_file(b"plan.txt", &mut plan);
-    let mut out = io::buffer();
+fn main(rt: HostRuntime) {
+    let mut network = [0u8; report::TEXT];
+    let network_length = read_file(&rt, "network.txt", &mut network);
+    let mut plan = [0u8; report::TEXT];
+    let plan_length = read_file(&rt, "plan.txt", &mut plan);
+    let mut out = [0u8; 4096];
     let length = put_answer(&network[..network_length], &plan[..plan_length], &mut out);
-    if !io::write_all(STDOUT_FILENO, &out[..length]) {
-        io::write_all(
-            STDERR_FILENO,
-            b"check_plan: the answer could not be written\n",
-        );
+    if rt.stdout().write_all(&out[..length]).is_err() {
+        let _ = rt
+            .stderr()
+            .write_all(b"check_plan: the answer could not be written\n");
     }
 }

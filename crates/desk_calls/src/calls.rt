@@ -58,12 +58,10 @@ pub fn run(calls: &[u64], answers: &mut [u64])
 {
     let count = smaller(calls.len() / 3, answers.len() / 4);
     let mut s = desks::none_waiting();
-    let mut i = 0usize;
-    while i < count {
+    for i in 0..count {
         let called = call(s, calls, 3 * i);
         let answer = called.answer;
         put(answers, 4 * i, answer);
         s = called.desks;
-        i += 1;
     }
 }

@@ -2,11 +2,13 @@
 //! each. What is printed is held to a stored output, and that to the second implementation.
 #![tactic(auto)]
 
-ghost use Rattle.std.specs.Prelude.{◌+◌, ◌*◌, ◌≤◌, ◌<◌};
+ghost use Rattle.std.specs.Prelude.{◌+◌, ◌*◌, ◌≤◌, ◌<◌, ◌++◌, OnOk, decimal};
+ghost use Rattle.std.specs.Io.KnownBytes.{Appends};
 
 mod calls;
 
-use libc::STDOUT_FILENO;
+use std::io;
+use std::io::{BufWriter, Write};
 
 const CALLS: usize = 1000;
 
@@ -46,58 +48,62 @@ fn desk_of(x: u64, i: usize) -> u64 {
 fn sequence() -> [u64; 3000] {
     let mut calls = [0u64; 3000];
     let mut x = 20_130_812;
-    let mut i = 0usize;
-    while i < CALLS {
+    for i in 0..CALLS {
         x = draw(x);
         calls[3 * i] = kind_of(x, i);
         calls[3 * i + 1] = desk_of(x, i);
         x = draw(x);
         calls[3 * i + 2] = 2 * x;
-        i += 1;
     }
     calls
 }
 
-// A name and a number.
-fn print_number(name: &[u8], number: u64) {
-    io::write_all(STDOUT_FILENO, name);
-    io::print_decimal(STDOUT_FILENO, number);
+// Writes a name and a number.
+fn print_number<W: Write>(out: &mut W, name: &str, number: u64) -> io::Result<()>
+    ensures { OnOk result (Appends (W.contents out.old) (W.contents out.new) (name.now ++ decimal number)) }
+{
+    write!(out, "{name}{number}")
 }
 
-// The answer whose four numbers begin at `at`, to a call of this kind.
-fn print_answer(kind: u64, answers: &[u64; 4000], at: usize)
+// Writes the answer whose four numbers begin at `at`, to a call of this kind.
+fn print_answer<W: Write>(
+    out: &mut W,
+    kind: u64,
+    answers: &[u64; 4000],
+    at: usize,
+) -> io::Result<()>
     requires { at + 4 ≤ 4000 }
 {
     if answers[at] != 0 {
-        print_number(b" refused=", answers[at + 1]);
-        print_number(b" place=", answers[at + 2]);
-        print_number(b" second=", answers[at + 3]);
+        print_number(out, " refused=", answers[at + 1])?;
+        print_number(out, " place=", answers[at + 2])?;
+        print_number(out, " second=", answers[at + 3])?;
     } else if kind == 0 {
-        print_number(b" number=", answers[at + 1]);
-        print_number(b" before=", answers[at + 2]);
+        print_number(out, " number=", answers[at + 1])?;
+        print_number(out, " before=", answers[at + 2])?;
     } else {
-        print_number(b" desk=", answers[at + 1]);
-        print_number(b" number=", answers[at + 2]);
-        print_number(b" tag=", answers[at + 3]);
+        print_number(out, " desk=", answers[at + 1])?;
+        print_number(out, " number=", answers[at + 2])?;
+        print_number(out, " tag=", answers[at + 3])?;
     }
-    io::write_all(STDOUT_FILENO, b"\n");
+    out.write_all(b"\n")
 }
 
-fn main() {
+fn main(rt: HostRuntime) -> io::Result<()> {
     let calls = sequence();
     let mut answers = [0u64; 4000];
     calls::run(&calls, &mut answers);
-    let mut i = 0usize;
-    while i < CALLS {
+    let mut out = BufWriter::new(rt.alloc(), rt.stdout())?;
+    for i in 0..CALLS {
         let kind = calls[3 * i];
         if kind == 0 {
-            print_number(b"submit desk=", calls[3 * i + 1]);
-            print_number(b" tag=", calls[3 * i + 2]);
-            io::write_all(STDOUT_FILENO, b":");
+            print_number(&mut out, "submit desk=", calls[3 * i + 1])?;
+            print_number(&mut out, " tag=", calls[3 * i + 2])?;
+            out.write_all(b":")?;
         } else {
-            io::write_all(STDOUT_FILENO, b"hand_out:");
+            out.write_all(b"hand_out:")?;
         }
-        print_answer(kind, &answers, 4 * i);
-        i += 1;
+        print_answer(&mut out, kind, &answers, 4 * i)?;
     }
+    out.flush()
 }

@@ -3,11 +3,11 @@
 
 ghost use Rattle.std.specs.Prelude.{◌≡◌, ◌≤◌, length, take};
 ghost use Rattle.lists.specs.Answers.{with_room, done, lent};
-ghost use Rattle.io.specs.Counts.{IsPrefixLen};
+ghost use Rattle.report.specs.Counts.{IsPrefixLen};
 ghost use Rattle.report.specs.Printed.{plan_text, printed_plan};
 
-use libc::{STDERR_FILENO, STDIN_FILENO, STDOUT_FILENO};
 use lists::{Answer, Network, PlanSizes};
+use std::io::Write;
 
 // Writes the plan text for a network text. `Done` carries its length; a refusal is that of the first operation that refuses.
 fn plan_text(text: &[u8], out: &mut [u8]) -> Answer
@@ -46,15 +46,14 @@ fn put_answer(text: &[u8], out: &mut [u8]) -> usize
     }
 }
 
-fn main() {
-    let mut text = io::large_buffer();
-    let read = io::read_full(STDIN_FILENO, &mut text);
-    let mut out = io::large_buffer();
+fn main(rt: HostRuntime) {
+    let mut text = [0u8; report::TEXT];
+    let read = report::read_full(&mut rt.stdin(), &mut text);
+    let mut out = [0u8; report::TEXT];
     let length = put_answer(&text[..read], &mut out);
-    if !io::write_all(STDOUT_FILENO, &out[..length]) {
-        io::write_all(
-            STDERR_FILENO,
-            b"make_plan: the answer could not be written\n",
-        );
+    if rt.stdout().write_all(&out[..length]).is_err() {
+        let _ = rt
+            .stderr()
+            .write_all(b"make_plan: the answer could not be written\n");
     }
 }

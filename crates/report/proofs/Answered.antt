@@ -1,11 +1,11 @@
 -- What stands at the front of the output is what is printed.
-use Prim.Native.Nat.{ℕ, ◌+◌, ◌≤◌}
-use mathlib.Core.Path.{◌≡◌, refl, sym, ap, ◌∙◌}
+use Prim.Native.Nat.{ℕ, ◌≤◌}
+use mathlib.Core.Path.{◌≡◌, sym, ap, ◌∙◌}
 use mathlib.Core.List.{List, ◌++◌}
 use native.Mathlib.Omega.{arith}
 use lib.ListN.{length, take, drop, length-append}
 use lib.Seq.{take-append_seam, length-take-le}
-use Rattle.io.specs.Counts.{IsPrefixLen}
+use Rattle.report.specs.Counts.{IsPrefixLen}
 use Rattle.model.specs.Outcome.{Outcome, good, refused, number}
 use Rattle.lists.specs.Answers.{done, lent}
 use Rattle.lists.specs.declared.Answer.{Answer}

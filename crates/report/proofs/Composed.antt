@@ -1,15 +1,12 @@
 -- What holds of the two programs together.
 use Prim.Native.Nat.{ℕ, ◌≤◌}
-use mathlib.Core.Path.{◌≡◌, refl, sym, ap, ap₂, ◌∙◌}
+use mathlib.Core.Path.{◌≡◌, sym, ap, ap₂, ◌∙◌}
 use mathlib.Core.List.{List}
-use native.Mathlib.Omega.{arith}
-use lib.ListN.{length, take}
-use Rattle.model.specs.Outcome.{Outcome, good, refused, and_then}
+use lib.ListN.{length}
+use Rattle.model.specs.Outcome.{Outcome, good, and_then}
 use Rattle.model.specs.Limits.{most_tunnels}
 use Rattle.model.proofs.Outcomes.{then-good, good-same}
-use Rattle.lists.specs.Answers.{with_room}
 use Rattle.lists.specs.Lists.{network_of}
-use Rattle.lists.specs.declared.Answer.{Answer}
 use Rattle.lists.specs.declared.Answer.TheVariants.{Done}
 use Rattle.forms.specs.Laws.{most_bytes}
 use Rattle.forms.specs.Write.{render}

@@ -2,17 +2,14 @@
 use Prim.Native.Nat.{ℕ, ◌+◌, ◌≤◌}
 use mathlib.Core.Path.{◌≡◌, refl, sym, ap, ◌∙◌}
 use mathlib.Core.List.{List, ◌++◌}
-use mathlib.Core.Logic.{◌⊎◌, ⊎_elim}
 use native.Mathlib.Omega.{arith}
 use lib.ListN.{length, take, drop, length-append}
 use lib.Seq.{take-append_seam}
-use denote.Enum.Declared.{tag_of}
 use Rattle.model.specs.Outcome.{Outcome, good, refused, and_then}
 use Rattle.lists.specs.Lists.{most_network, most_plan}
 use Rattle.lists.specs.Answers.{with_room, done, plan, lent}
 use Rattle.lists.specs.declared.Answer.{Answer}
 use Rattle.lists.specs.declared.Answer.TheVariants.{Done, Plan}
-use Rattle.lists.specs.contracts.Answer.{the_type}
 use Rattle.forms.specs.declared.form.Form.TheVariants as form
 use Rattle.lists.proofs.Positions.{short, short-plan}
 use Rattle.lists.proofs.Rooms.{good-room}
@@ -72,11 +69,7 @@ given-plan room o a k out s f e d h =
 
 -- ---- a refusal stands, whatever would come after
 
--- an answer that is no plan. It is what the `else` of `let Answer::Plan(n) = a else { .. }` knows
-abbrev NotPlan : Answer → Type 0
-NotPlan a = (tag_of the_type a ≡ 0) ⊎ (tag_of the_type a ≡ 2)
-
-pub plan-refused : (o : Outcome (List ℕ)) (next : List ℕ → Outcome (List ℕ)) (a : Answer) (out : List ℕ) → a ≡ plan o → NotPlan a
+pub plan-refused : (o : Outcome (List ℕ)) (next : List ℕ → Outcome (List ℕ)) (a : Answer) (out : List ℕ) → a ≡ plan o → ((k : ℕ) → a ≡ Plan k → ⊥)
     → (a ≡ done (with_room (length out) (and_then o next))) × (out ≡ lent (with_room (length out) (and_then o next)) out)
-plan-refused (good l) next a out e t = absurd (⊎_elim (λ k. omega arith) (λ k. omega arith) (rw e at t))
-plan-refused (refused c place second) next a out e t = (e, refl)
+plan-refused (good l) next a out e not = absurd (not (length l) e)
+plan-refused (refused c place second) next a out e not = (e, refl)

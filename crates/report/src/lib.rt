@@ -1,21 +1,49 @@
-//! What the two programs share: the lag, and the lines of a refusal.
+//! What the two programs share: the lag, the lines of a refusal, and how a text is read.
 #![tactic(auto)]
 
-ghost use Rattle.std.specs.Prelude.{◌+◌, ◌≤◌, length};
+ghost use Rattle.std.specs.Prelude.{◌≡◌, ◌+◌, ◌≤◌, length};
+ghost use Rattle.forms.specs.Write.{width_from};
 ghost use Rattle.lines.specs.Puts.{Puts};
 ghost use Rattle.report.specs.Printed.{decimal, printed_line, refusal_lines};
 
+mod input;
+
+pub use input::read_full;
+
 // The lag that the programs use.
 pub const LAG: u64 = 1;
+
+// The most bytes that the programs read of a text.
+pub const TEXT: usize = 65_536;
+
+// How many decimal digits a number has.
+fn digit_count(v: u64) -> usize
+    ensures value { result ≡ width_from 19 1 v }
+    ensures most { result ≤ 20 }
+{
+    let mut count = 1usize;
+    let mut rest = v / 10;
+    while rest > 0 {
+        rest /= 10;
+        count += 1;
+    }
+    count
+}
 
 // Puts a number in decimal at a place. This and the functions below answer the place past what they put.
 fn put_decimal(out: &mut [u8], at: usize, v: u64) -> usize
     requires { at + 20 ≤ length out.old }
     ensures { Puts (decimal v) at out.old out.new result }
 {
-    let mut digits = [0u8; 20];
-    let count = io::decimal(v, &mut digits);
-    lines::put(out, at, &digits[..count])
+    let count = digit_count(v);
+    let mut rest = v;
+    let mut i = count;
+    while i > 0 {
+        i -= 1;
+        out[at + i] = b'0' + (rest % 10) as u8;
+        rest /= 10;
+    }
+    at + count
 }
 
 // Puts a line: a key and a number.
