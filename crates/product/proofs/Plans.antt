@@ -17,7 +17,7 @@ use Rattle.model.proofs.Outcomes.{good-same}
 use Rattle.model.proofs.Rows.{accepted-both, even-adds-up}
 use Rattle.lists.specs.Lists.{network_of}
 use Rattle.lists.specs.Answers.{with_room, plan}
-use Rattle.lists.specs.declared.Answer.TheVariants.{Done, Refused}
+use Rattle.lists.specs.declared.Answer.TheVariants.{Refused}
 use Rattle.forms.specs.Named.{judge_network}
 use Rattle.forms.proofs.Good.{good-network}
 use Rattle.planner.specs.Planned.{even_list, planned}
@@ -25,7 +25,6 @@ use Rattle.planner.proofs.Main as planner
 use Rattle.checker.specs.Check.{verdict, checked}
 use Rattle.checker.proofs.Main.{checker, weighed}
 use Rattle.product.specs.Demand2.{Accepts, NoneAccepted, Demand2}
-use Rattle.product.specs.Demand3.{Returns}
 use Rattle.product.proofs.Main as main
 
 -- ---- an even plan as a list

@@ -1,7 +1,6 @@
 -- `link_sums::gather` meets its contract: the two tables, by tunnels or by flows, are joined to that of all classes.
 use Prim.Native.Nat.{ℕ}
 use mathlib.Core.Path.{sym, ap, ◌∙◌}
-use mathlib.Core.Logic.{⊎_elim}
 use native.Mathlib.Nat.{le_refl}
 use lib.ListN.{length, length-replicate}
 use Rattle.model.specs.Scan.{Bound}
@@ -11,7 +10,6 @@ use Rattle.lists.proofs.Positions.{head_in}
 use Rattle.link_sums.specs.Tables.{table_size, Loads, Table, unprotected}
 use Rattle.link_sums.proofs.Tables.{table-room, tables-join}
 use Rattle.link_sums.proofs.Good.{good-range}
-use borrow.Author.Rules.{rules}
 use Rattle.link_sums.proofs.gather.Goals as goal
 use Rattle.link_sums.proofs.gather.Goals.{Joined-by_flow, then-by_flow, else-by_flow}
 
@@ -19,7 +17,7 @@ use Rattle.link_sums.proofs.gather.Goals.{Joined-by_flow, then-by_flow, else-by_
 tables : (c : Joined-by_flow) → let N = network_of c.args.network.now in Loads N Bound.protected c.if-by_flow.protected × Table N (movers N) (unprotected N) c.if-by_flow.all
 tables c =
     elim c.if-by_flow.branch [
-      then-by_flow w ↦ (rw w.protected-is w.gather_flows.ensures.loads, rw w.all-is w.gather_flows.ensures.table)
+      | then-by_flow w ↦ (rw w.protected-is w.gather_flows.ensures.loads, rw w.all-is w.gather_flows.ensures.table)
       | else-by_flow w ↦ (rw w.protected-is w.split_tunnels.ensures.loads, rw w.all-is w.split_tunnels.ensures.table)
     ]
 

@@ -5,7 +5,6 @@ use lib.Dec.{leb}
 use Rattle.lists.specs.Lists.{at, network_of}
 use Rattle.lists.proofs.Positions.{FlowPlace, flow-place, limited}
 use native.Mathlib.Omega.{arith}
-use borrow.Author.Rules.{rules}
 use Rattle.link_sums.proofs.is_protected.Goals as goal
 use Rattle.link_sums.proofs.is_protected.Goals.{After-flow_at}
 

@@ -3,14 +3,12 @@ use mathlib.Core.Path.{◌≡◌, sym, ap, ◌∙◌}
 use mathlib.Core.Bool.{true}
 use lib.ListN.{length}
 use Rattle.model.specs.Outcome.{good, is_lag}
-use Rattle.model.proofs.Searches.{not-true, not-false}
 use Rattle.lists.specs.Answers.{with_room, plan, lent}
 use Rattle.lists.specs.Good.{GoodNetwork}
 use Rattle.forms.proofs.Answers.{done-good}
 use Rattle.forms.proofs.Good.{good-network}
 use Rattle.planner.proofs.Judged.{lag-most, planned-outside, planned-good, planned-refused}
 use Rattle.forms.specs.Named.{judge_network}
-use borrow.Author.Rules.{rules}
 use Rattle.planner.proofs.make_plan.Goals as goal
 use Rattle.planner.proofs.make_plan.Goals.{In-Done}
 
@@ -29,9 +27,9 @@ pub returns-then-not-is_lag : goal.returns-then-not-is_lag
 returns-then-not-is_lag c = let a = c.args in
     let o = a.out.now in
     let e = planned-outside _ a.network.now (sym c.is_lag.ensures ∙ c.if-not-is_lag.true) in record {
-  value = sym (ap (λ p. plan (with_room (length o) p)) e);
-  out_after = sym (ap (λ p. lent (with_room (length o) p) o) e);
-}
+      value = sym (ap (λ p. plan (with_room (length o) p)) e);
+      out_after = sym (ap (λ p. lent (with_room (length o) p) o) e);
+    }
 
 pub returns-in_default : goal.returns-in_default
 returns-in_default c = let o = c.args.out.now in record {
@@ -47,6 +45,6 @@ returns c = let a = c.args in
     let o = a.out.now in
     let e = planned-good _ a.network.now (good-lag ((goal.at.returns c).In-Done)) (judged ((goal.at.returns c).In-Done)).0 in
     let r = c.plan_good.ensures in record {
-  value = r.value ∙ sym (ap (λ p. plan (with_room (length o) p)) e);
-  out_after = r.out_after ∙ sym (ap (λ p. lent (with_room (length o) p) o) e);
-}
+      value = r.value ∙ sym (ap (λ p. plan (with_room (length o) p)) e);
+      out_after = r.out_after ∙ sym (ap (λ p. lent (with_room (length o) p) o) e);
+    }

@@ -1,5 +1,5 @@
 -- `planner::plan_good` meets its contract: each return is a case of the definition.
-use Prim.Native.Nat.{ℕ, ◌-◌}
+use Prim.Native.Nat.{ℕ}
 use mathlib.Core.Path.{◌≡◌, sym, ap, ◌∙◌}
 use mathlib.Core.Option.{some}
 use lib.ListN.{length}
@@ -13,7 +13,6 @@ use Rattle.link_sums.proofs.Good.{good-range}
 use Rattle.planner.proofs.EvenLists.{list_length}
 use Rattle.planner.proofs.Planned.{answered-some, answered-none, no-plan, room-short, room-enough}
 use native.Mathlib.Omega.{arith}
-use borrow.Author.Rules.{rules}
 use Rattle.planner.proofs.plan_good.Goals as goal
 use Rattle.planner.proofs.plan_good.Goals.{After-row_at-size, In-Steps}
 
@@ -39,9 +38,9 @@ row_at-size-requires c = let e = c.plan_sizes-sizes.ensures in
 pub returns-then-out-size : goal.returns-then-out-size
 returns-then-out-size c = let n = size ((goal.at.returns-then-out-size c).After-row_at-size) in
     let k = room-short _ _ c.args.out.now _ (found ((goal.at.returns-then-out-size c).In-Steps)) (omega (arith, n, c.if-out-size.true)) in record {
-  value = ap (λ (m : ℕ). Refused 10 m 0) n ∙ sym k.0;
-  out_after = sym k.1;
-}
+      value = ap (λ (m : ℕ). Refused 10 m 0) n ∙ sym k.0;
+      out_after = sym k.1;
+    }
 
 pub write_plan-requires : goal.write_plan-requires
 write_plan-requires c = let f = fewest-some _ _ _ (found ((goal.at.write_plan-requires c).In-Steps)) in record {
@@ -52,6 +51,6 @@ write_plan-requires c = let f = fewest-some _ _ _ (found ((goal.at.write_plan-re
 pub returns : goal.returns
 returns c = let n = size ((goal.at.returns c).After-row_at-size) in
     let k = room-enough _ _ c.args.out.now _ (found ((goal.at.returns c).In-Steps)) (omega (arith, n, c.if-out-size.false)) in record {
-  value = ap Plan n ∙ sym k.0;
-  out_after = c.write_plan.ensures ∙ sym k.1;
-}
+      value = ap Plan n ∙ sym k.0;
+      out_after = c.write_plan.ensures ∙ sym k.1;
+    }

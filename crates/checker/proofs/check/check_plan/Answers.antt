@@ -2,12 +2,10 @@
 use mathlib.Core.Path.{◌≡◌, sym, ap, ◌∙◌}
 use Rattle.lists.specs.Lists.{network_of}
 use Rattle.lists.specs.declared.Network as counts
-use Rattle.model.proofs.Searches.{not-true, not-false}
 use Rattle.lists.proofs.Positions.{head_in}
 use Rattle.checker.proofs.Pairs.{pair-judged}
 use Rattle.checker.proofs.Checking.{lag-in, lag-gives, refused-gives, short-gives, steps-give}
 use native.Mathlib.Omega.{arith}
-use borrow.Author.Rules.{rules}
 use Rattle.checker.proofs.check.check_plan.Goals as goal
 
 pub returns-then-not-is_lag : goal.returns-then-not-is_lag
@@ -30,9 +28,9 @@ pub returns-then-marks-n : goal.returns-then-marks-n
 unfolding network_of
 returns-then-marks-n c = let j = pair-judged _ _ _ _ c.judge_pair-judged.ensures c.in-Done.is in
     let n : c.of-n.result.tunnels ≡ (network_of c.args.network.now).tunnels = ap (λ (m : counts.Network). m.tunnels) c.of-n.ensures in record {
-  value = rw n ((short-gives c.args.lag c.args.network.now c.args.plan.now c.args.marks.now (sym c.is_lag.ensures ∙ c.if-not-is_lag.false) j.0 (omega (arith, n, c.if-marks-n.true))).0);
-  marks_after = ((short-gives c.args.lag c.args.network.now c.args.plan.now c.args.marks.now (sym c.is_lag.ensures ∙ c.if-not-is_lag.false) j.0 (omega (arith, n, c.if-marks-n.true)))).1;
-}
+      value = rw n ((short-gives c.args.lag c.args.network.now c.args.plan.now c.args.marks.now (sym c.is_lag.ensures ∙ c.if-not-is_lag.false) j.0 (omega (arith, n, c.if-marks-n.true))).0);
+      marks_after = ((short-gives c.args.lag c.args.network.now c.args.plan.now c.args.marks.now (sym c.is_lag.ensures ∙ c.if-not-is_lag.false) j.0 (omega (arith, n, c.if-marks-n.true)))).1;
+    }
 
 pub check_steps-requires : goal.check_steps-requires
 unfolding network_of
@@ -45,6 +43,6 @@ pub returns : goal.returns
 unfolding network_of
 returns c = let j = pair-judged _ _ _ _ c.judge_pair-judged.ensures c.in-Done.is in
     let n : c.of-n.result.tunnels ≡ (network_of c.args.network.now).tunnels = ap (λ (m : counts.Network). m.tunnels) c.of-n.ensures in record {
-  value = (steps-give c.args.lag c.args.network.now c.args.plan.now c.args.marks.now (sym c.is_lag.ensures ∙ c.if-not-is_lag.false) _ _ j.0 (omega (arith, n, c.if-marks-n.false)) (c.check_steps.ensures.value, c.check_steps.ensures.marks_after)).0;
-  marks_after = (steps-give c.args.lag c.args.network.now c.args.plan.now c.args.marks.now (sym c.is_lag.ensures ∙ c.if-not-is_lag.false) _ _ j.0 (omega (arith, n, c.if-marks-n.false)) (c.check_steps.ensures.value, c.check_steps.ensures.marks_after)).1;
-}
+      value = (steps-give c.args.lag c.args.network.now c.args.plan.now c.args.marks.now (sym c.is_lag.ensures ∙ c.if-not-is_lag.false) _ _ j.0 (omega (arith, n, c.if-marks-n.false)) (c.check_steps.ensures.value, c.check_steps.ensures.marks_after)).0;
+      marks_after = (steps-give c.args.lag c.args.network.now c.args.plan.now c.args.marks.now (sym c.is_lag.ensures ∙ c.if-not-is_lag.false) _ _ j.0 (omega (arith, n, c.if-marks-n.false)) (c.check_steps.ensures.value, c.check_steps.ensures.marks_after)).1;
+    }

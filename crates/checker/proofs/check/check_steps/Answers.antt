@@ -6,7 +6,6 @@ use Rattle.lists.specs.declared.Network as counts
 use Rattle.lists.proofs.Positions.{head_in}
 use Rattle.checker.proofs.Checking.{Named, none-gives, found_none, found_some, found_in, found-gives}
 use native.Mathlib.Omega.{arith}
-use borrow.Author.Rules.{rules}
 use Rattle.checker.proofs.check.check_steps.Goals as goal
 
 pub of-n-requires : goal.of-n-requires

@@ -1,13 +1,8 @@
 -- `checker::marks::clear` meets its contract.
-use Prim.Native.Nat.{◌≤◌, ◌-◌}
-use mathlib.Core.Path.{◌≡◌, refl}
-use mathlib.Core.Bool.{false}
-use mathlib.Core.List.{◌++◌}
+use mathlib.Core.Path.{refl}
 use native.Mathlib.Omega.{arith}
-use lib.ListN.{length, drop, length-set}
-use Rattle.checker.specs.Inner.{marks_of}
+use lib.ListN.{length-set}
 use Rattle.model.proofs.Listed.{listed-none, listed-on, listed-to}
-use borrow.Author.Rules.{rules}
 use Rattle.checker.proofs.marks.clear.Goals as goal
 
 pub loop-t-init : goal.loop-t-init

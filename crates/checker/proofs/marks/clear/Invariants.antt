@@ -1,12 +1,10 @@
 -- `checker::marks::clear` meets its contract.
 use Prim.Native.Nat.{◌≤◌, ◌-◌}
-use mathlib.Core.Path.{◌≡◌, refl}
+use mathlib.Core.Path.{◌≡◌}
 use mathlib.Core.Bool.{false}
 use mathlib.Core.List.{◌++◌}
-use native.Mathlib.Omega.{arith}
-use lib.ListN.{length, drop, length-set}
+use lib.ListN.{length, drop}
 use Rattle.checker.specs.Inner.{marks_of}
-use Rattle.model.proofs.Listed.{listed-none, listed-on, listed-to}
 use Rattle.checker.proofs.marks.clear.Given as goal
 
 abbrev pub invariant-loop-t : goal.invariant-loop-t

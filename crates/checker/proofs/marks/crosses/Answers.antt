@@ -3,7 +3,6 @@ use Prim.Native.Nat.{◌/◌, ◌^◌}
 use mathlib.Core.Path.{ap}
 use lib.Bits.{and_mask}
 use lib.Dec.{eqb}
-use borrow.Author.Rules.{rules}
 use Rattle.checker.proofs.marks.crosses.Goals as goal
 
 pub returns : goal.returns

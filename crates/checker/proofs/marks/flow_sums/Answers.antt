@@ -1,5 +1,5 @@
 -- `checker::marks::flow_sums` meets its contract.
-use Prim.Native.Nat.{◌≤◌, ◌-◌, ◌*◌, ◌<◌}
+use Prim.Native.Nat.{◌*◌, ◌<◌}
 use mathlib.Core.Path.{◌≡◌, ap, ◌∙◌, sym}
 use lib.ListN.{length}
 use Rattle.model.specs.Limits.{most_flows, most_steps, most_amount}
@@ -7,15 +7,13 @@ use Rattle.model.specs.Net.{row}
 use Rattle.model.specs.Rule.{across}
 use Rattle.lists.specs.Lists.{at, network_of, plan_of}
 use Rattle.lists.specs.declared.Network as counts
-use Rattle.lists.proofs.Positions.{TunnelPlace, tunnel-place, limited, head_in}
-use Rattle.judges.specs.Sums.{Gathered}
+use Rattle.lists.proofs.Positions.{tunnel-place, limited, head_in}
 use Rattle.judges.proofs.Gathering.{gathered_none, gathered-more, gathered-fits}
 use Rattle.loads.proofs.Places.{flow-here, flow-low}
 use Rattle.amounts.proofs.Good.{via-here}
 use Rattle.checker.proofs.Totals.{gathered-at}
 use Rattle.checker.proofs.Marking.{across-of, across-small}
 use native.Mathlib.Omega.{arith}
-use borrow.Author.Rules.{rules}
 use Rattle.checker.proofs.marks.flow_sums.Goals as goal
 
 pub of-sizes-requires : goal.of-sizes-requires

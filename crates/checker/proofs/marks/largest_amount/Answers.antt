@@ -1,13 +1,6 @@
 -- `checker::marks::largest_amount` meets its contract.
-use Prim.Native.Nat.{◌+◌, ◌≤◌, ◌-◌}
-use mathlib.Core.Path.{◌≡◌, ap, ◌∙◌, sym, subst}
-use native.Mathlib.Nat.{add-zero}
-use Rattle.model.specs.Largest as model
-use Rattle.model.specs.Net.{row}
-use Rattle.lists.specs.Lists.{network_of, plan_of}
 use Rattle.checker.proofs.Marking.{largest-none, largest-more, largest-to, row_zero}
 use native.Mathlib.Omega.{arith}
-use borrow.Author.Rules.{rules}
 use Rattle.checker.proofs.marks.largest_amount.Goals as goal
 
 pub amount-largest-requires : goal.amount-largest-requires

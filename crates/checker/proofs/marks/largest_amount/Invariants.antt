@@ -1,12 +1,9 @@
 -- `checker::marks::largest_amount` meets its contract.
 use Prim.Native.Nat.{◌+◌, ◌≤◌, ◌-◌}
-use mathlib.Core.Path.{◌≡◌, ap, ◌∙◌, sym, subst}
-use native.Mathlib.Nat.{add-zero}
+use mathlib.Core.Path.{◌≡◌}
 use Rattle.model.specs.Largest as model
 use Rattle.model.specs.Net.{row}
 use Rattle.lists.specs.Lists.{network_of, plan_of}
-use Rattle.checker.proofs.Marking.{largest-none, largest-more, largest-to, row_zero}
-use native.Mathlib.Omega.{arith}
 use Rattle.checker.proofs.marks.largest_amount.Given as goal
 
 abbrev pub invariant-loop-k : goal.invariant-loop-k

@@ -1,11 +1,7 @@
 -- `checker::marks::largest_sums` meets its contract.
-use Prim.Native.Nat.{◌+◌, ◌≤◌, ◌-◌}
-use mathlib.Core.Path.{◌≡◌, refl, ◌∙◌, sym}
-use Rattle.lists.specs.Lists.{network_of, plan_of}
-use Rattle.checker.specs.Inner.{LargestSums}
+use mathlib.Core.Path.{refl, ◌∙◌, sym}
 use Rattle.checker.proofs.Marking.{sums-more, sums_at}
 use native.Mathlib.Omega.{arith}
-use borrow.Author.Rules.{rules}
 use Rattle.checker.proofs.marks.largest_sums.Goals as goal
 
 pub loop-k-init : goal.loop-k-init

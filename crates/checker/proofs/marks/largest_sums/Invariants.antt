@@ -1,10 +1,7 @@
 -- `checker::marks::largest_sums` meets its contract.
-use Prim.Native.Nat.{◌+◌, ◌≤◌, ◌-◌}
-use mathlib.Core.Path.{◌≡◌, refl, ◌∙◌, sym}
+use Prim.Native.Nat.{◌≤◌, ◌-◌}
 use Rattle.lists.specs.Lists.{network_of, plan_of}
 use Rattle.checker.specs.Inner.{LargestSums}
-use Rattle.checker.proofs.Marking.{sums-more, sums_at}
-use native.Mathlib.Omega.{arith}
 use Rattle.checker.proofs.marks.largest_sums.Given as goal
 
 abbrev pub invariant-loop-k : goal.invariant-loop-k

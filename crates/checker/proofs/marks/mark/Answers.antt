@@ -1,8 +1,6 @@
 -- `checker::marks::mark` meets its contract.
 use mathlib.Core.Path.{sym, ◌∙◌}
 use Rattle.lists.proofs.Positions.{head_in}
-use native.Mathlib.Omega.{arith}
-use borrow.Author.Rules.{rules}
 use Rattle.checker.proofs.marks.mark.Goals as goal
 
 pub by_flow-requires : goal.by_flow-requires

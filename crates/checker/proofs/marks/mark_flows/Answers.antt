@@ -1,19 +1,16 @@
 -- `checker::marks::mark_flows` meets its contract.
-use Prim.Native.Nat.{◌+◌, ◌≤◌, ◌-◌, ◌<◌}
-use mathlib.Core.Path.{◌≡◌, refl, ap, sym, ◌∙◌}
-use mathlib.Core.List.{◌++◌}
-use lib.ListN.{length, drop, length-set}
+use Prim.Native.Nat.{◌<◌}
+use mathlib.Core.Path.{refl, ap}
+use lib.ListN.{length-set}
 use Rattle.model.specs.Limits.{most_flows}
 use Rattle.lists.specs.Lists.{at, network_of, plan_of}
 use Rattle.lists.specs.declared.Network as counts
-use Rattle.lists.proofs.Positions.{TunnelPlace, tunnel-place, limited, head_in}
+use Rattle.lists.proofs.Positions.{tunnel-place, limited, head_in}
 use Rattle.model.proofs.Listed.{listed-none, listed-on, listed-to}
 use Rattle.loads.proofs.Places.{flow-here, flow-low}
 use Rattle.amounts.proofs.Good.{via-here}
-use Rattle.checker.specs.Inner.{marks_at}
-use Rattle.checker.proofs.Marking.{rows_in, sum_of, sums_first, mark-of-tunnel, mark-of-flow}
+use Rattle.checker.proofs.Marking.{rows_in, sum_of, sums_first, mark-of-flow}
 use native.Mathlib.Omega.{arith}
-use borrow.Author.Rules.{rules}
 use Rattle.checker.proofs.marks.mark_flows.Goals as goal
 
 pub of-sizes-requires : goal.of-sizes-requires

@@ -1,18 +1,10 @@
 -- `checker::marks::mark_flows` meets its contract.
-use Prim.Native.Nat.{◌+◌, ◌≤◌, ◌-◌, ◌<◌}
-use mathlib.Core.Path.{◌≡◌, refl, ap, sym, ◌∙◌}
+use Prim.Native.Nat.{◌≤◌, ◌-◌}
+use mathlib.Core.Path.{◌≡◌}
 use mathlib.Core.List.{◌++◌}
-use lib.ListN.{length, drop, length-set}
-use Rattle.model.specs.Limits.{most_flows}
-use Rattle.lists.specs.Lists.{at, network_of, plan_of}
-use Rattle.lists.specs.declared.Network as counts
-use Rattle.lists.proofs.Positions.{TunnelPlace, tunnel-place, limited, head_in}
-use Rattle.model.proofs.Listed.{listed-none, listed-on, listed-to}
-use Rattle.loads.proofs.Places.{flow-here, flow-low}
-use Rattle.amounts.proofs.Good.{via-here}
+use lib.ListN.{length, drop}
+use Rattle.lists.specs.Lists.{network_of, plan_of}
 use Rattle.checker.specs.Inner.{marks_at}
-use Rattle.checker.proofs.Marking.{rows_in, sum_of, sums_first, mark-of-tunnel, mark-of-flow}
-use native.Mathlib.Omega.{arith}
 use Rattle.checker.proofs.marks.mark_flows.Given as goal
 
 abbrev pub invariant-loop-t : goal.invariant-loop-t

@@ -1,6 +1,5 @@
 -- `checker::marks::on_link` meets its contract.
 use mathlib.Core.Path.{sym, ◌∙◌}
-use borrow.Author.Rules.{rules}
 use Rattle.checker.proofs.marks.on_link.Goals as goal
 
 pub returns-then-crosses : goal.returns-then-crosses

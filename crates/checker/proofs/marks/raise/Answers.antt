@@ -1,9 +1,6 @@
 -- `checker::marks::raise` meets its contract.
-use Prim.Native.Nat.{◌≤◌, ◌-◌}
-use Rattle.model.specs.Limits.{most_flows}
-use Rattle.checker.proofs.Marking.{Raising, raising-none, raising-more, raising-end}
+use Rattle.checker.proofs.Marking.{raising-none, raising-more, raising-end}
 use native.Mathlib.Omega.{arith}
-use borrow.Author.Rules.{rules}
 use Rattle.checker.proofs.marks.raise.Goals as goal
 
 pub loop-f-init : goal.loop-f-init

@@ -1,8 +1,7 @@
 -- `checker::marks::raise` meets its contract.
 use Prim.Native.Nat.{◌≤◌, ◌-◌}
 use Rattle.model.specs.Limits.{most_flows}
-use Rattle.checker.proofs.Marking.{Raising, raising-none, raising-more, raising-end}
-use native.Mathlib.Omega.{arith}
+use Rattle.checker.proofs.Marking.{Raising}
 use Rattle.checker.proofs.marks.raise.Given as goal
 
 abbrev pub invariant-loop-f : goal.invariant-loop-f

@@ -1,7 +1,6 @@
 -- `checker::marks::rises` meets its contract.
 use mathlib.Core.Path.{sym, ◌∙◌}
 use borrow.Author.Tests.{lt-ltb, le-ltb}
-use borrow.Author.Rules.{rules}
 use Rattle.checker.proofs.marks.rises.Goals as goal
 
 pub returns-then-first-largest : goal.returns-then-first-largest

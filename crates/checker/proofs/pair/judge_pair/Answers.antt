@@ -5,7 +5,6 @@ use Rattle.lists.specs.Answers.{done}
 use Rattle.lists.specs.Good.{GoodNetwork, GoodPlan}
 use Rattle.forms.specs.Named.{judge_network, judge_plan}
 use Rattle.checker.proofs.Pairs.{network-judged, plan-judged, network-refused, plan-refused, pair-rows}
-use borrow.Author.Rules.{rules}
 use Rattle.checker.proofs.pair.judge_pair.Goals as goal
 use Rattle.checker.proofs.pair.judge_pair.Goals.{In-Done, In-Done-plan_judged}
 

@@ -5,7 +5,6 @@ use Rattle.lists.specs.declared.Network as counts
 use Rattle.lists.specs.declared.PlanSizes as lengths
 use Rattle.lists.proofs.Positions.{head_in}
 use Rattle.checker.proofs.Pairs.{other-tunnels, rows-met, row-missed}
-use borrow.Author.Rules.{rules}
 use Rattle.checker.proofs.pair.judge_rows.Goals as goal
 use Rattle.checker.proofs.pair.judge_rows.Goals.{After-of, Else-of-tunnels}
 

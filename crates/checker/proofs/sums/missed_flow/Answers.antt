@@ -1,20 +1,18 @@
 -- `checker::sums::missed_flow` meets its contract.
-use Prim.Native.Nat.{ℕ, ◌≤◌, ◌<◌, ◌-◌, ◌+◌, ◌*◌, min, max}
+use Prim.Native.Nat.{ℕ, ◌≤◌, ◌<◌, ◌+◌, ◌*◌, min, max}
 use mathlib.Core.Path.{◌≡◌, sym, ap, ap₂, ◌∙◌}
-use mathlib.Core.Bool.{true, ◌&&◌}
+use mathlib.Core.Bool.{◌&&◌}
 use mathlib.Core.List.{List}
 use lib.Dec.{leb}
 use lib.ListN.{get_or}
 use Rattle.model.specs.Limits.{most_flows, most_amount}
 use Rattle.model.specs.Net.{Net}
 use Rattle.model.specs.Rule.{between}
-use Rattle.model.proofs.Searches.{not-false, not-true}
 use Rattle.lists.specs.Lists.{at, next_in, network_sizes, network_of}
 use Rattle.lists.specs.declared.Network as counts
 use Rattle.lists.proofs.Positions.{FlowPlace, NextPlace, flow-place, next_place, limited, head_in}
 use Rattle.checker.proofs.Totals.{met-more}
 use native.Mathlib.Omega.{arith}
-use borrow.Author.Rules.{rules}
 use Rattle.checker.proofs.sums.missed_flow.Goals as goal
 use Rattle.checker.proofs.sums.missed_flow.Goals.{After-flow_at-at, After-lies_between}
 
@@ -106,16 +104,16 @@ lies_between-requires c = (c.requires.1, omega (arith, rate-at ((goal.at.lies_be
 pub returns-then-not-lies_between : goal.returns-then-not-lies_between
 unfolding network_of
 returns-then-not-lies_between c = record {
-      most = omega (arith, (place ((goal.at.returns-then-not-lies_between c).After-flow_at-at)).there);
-      before = c.loop-f.invariant.met;
-      here = λ _. sym (told ((goal.at.returns-then-not-lies_between c).After-lies_between)) ∙ c.if-not-lies_between.true;
-    }
+  most = omega (arith, (place ((goal.at.returns-then-not-lies_between c).After-flow_at-at)).there);
+  before = c.loop-f.invariant.met;
+  here = λ _. sym (told ((goal.at.returns-then-not-lies_between c).After-lies_between)) ∙ c.if-not-lies_between.true;
+}
 
 pub loop-f-preserved : goal.loop-f-preserved
 loop-f-preserved c = record {
-      low = omega (arith, c.loop-f-test.true);
-      met = met-more (N ((goal.at.loop-f-preserved c).After-flow_at-at)) c.args.parts c.args.sums.now _ c.loop-f.invariant.met (sym (told ((goal.at.loop-f-preserved c).After-lies_between)) ∙ c.if-not-lies_between.false);
-    }
+  low = omega (arith, c.loop-f-test.true);
+  met = met-more (N ((goal.at.loop-f-preserved c).After-flow_at-at)) c.args.parts c.args.sums.now _ c.loop-f.invariant.met (sym (told ((goal.at.loop-f-preserved c).After-lies_between)) ∙ c.if-not-lies_between.false);
+}
 
 pub returns : goal.returns
 unfolding network_of

@@ -5,7 +5,7 @@ use mathlib.Core.Option.{none, Option, some}
 use Rattle.model.specs.Search.{first}
 use Rattle.model.specs.Rule.{missed_in, missed_row}
 use Rattle.model.proofs.Searches.{first-zero, first_on, first-at}
-use Rattle.lists.specs.Lists.{network_of, plan_sizes, plan_of}
+use Rattle.lists.specs.Lists.{network_of, plan_of}
 use Rattle.lists.specs.declared.Network as counts
 use Rattle.lists.specs.declared.PlanSizes as lengths
 use Rattle.lists.proofs.Positions.{head_in}
@@ -15,7 +15,6 @@ use Rattle.model.specs.Limits.{most_flows}
 use Rattle.model.specs.Net.{Net, Plan}
 use Rattle.model.specs.Outcome.{Place}
 use native.Mathlib.Omega.{arith}
-use borrow.Author.Rules.{rules}
 use Rattle.checker.proofs.sums.missed_row.Goals as goal
 use Rattle.checker.proofs.sums.missed_row.Goals.{After-missed_flow-f, After-of-sizes}
 

@@ -1,20 +1,17 @@
 -- `checker::sums::row_sums` meets its contract.
-use Prim.Native.Nat.{suc, ◌≤◌, ◌-◌, ◌*◌}
+use Prim.Native.Nat.{◌*◌}
 use mathlib.Core.Path.{ap, ◌∙◌, sym}
 use native.Mathlib.Nat.{lt_of_lt_of_le}
 use lib.ListN.{length}
 use Rattle.model.specs.Limits.{most_steps, most_amount}
-use Rattle.model.specs.Net.{row}
-use Rattle.lists.specs.Lists.{network_of, plan_of}
+use Rattle.lists.specs.Lists.{network_of}
 use Rattle.lists.specs.declared.Network as counts
 use Rattle.lists.proofs.Positions.{TunnelPlace, tunnel-place, limited, head_in}
-use Rattle.judges.specs.Sums.{Gathered}
 use Rattle.judges.proofs.Gathering.{gathered_none, gathered-more, gathered-fits}
 use Rattle.checker.proofs.Totals.{gathered-at}
 use Rattle.loads.proofs.Places.{flow-here, flow-low}
 use Rattle.amounts.proofs.Good.{row_small}
 use native.Mathlib.Omega.{arith}
-use borrow.Author.Rules.{rules}
 use Rattle.checker.proofs.sums.row_sums.Goals as goal
 use Rattle.checker.proofs.sums.row_sums.Goals.{After-tunnel_at}
 

@@ -2,11 +2,9 @@
 use Prim.Native.Nat.{◌<◌}
 use lib.Count.{count_trailing_zeros, trailing_le}
 use Rattle.model.specs.Limits.{most_links}
-use Rattle.model.proofs.Sets.{next-within, next-less, Passing, passing-start, passing-on, passing-end}
-use Rattle.link_sums.specs.Tables.{FlowAdded}
+use Rattle.model.proofs.Sets.{next-within, next-less, passing-start, passing-on, passing-end}
 use Rattle.link_sums.proofs.Flows.{across-none, across-on, across-most}
 use native.Mathlib.Omega.{arith}
-use borrow.Author.Rules.{rules}
 use Rattle.link_sums.proofs.by_flow.add_across.Goals as goal
 use Rattle.link_sums.proofs.by_flow.add_across.Goals.{In-loop-set}
 

@@ -1,11 +1,6 @@
 -- `link_sums::by_flow::add_across` meets its contract: the links below one are passed, and what is left of the set falls.
-use Prim.Native.Nat.{◌<◌}
-use lib.Count.{count_trailing_zeros, trailing_le}
-use Rattle.model.specs.Limits.{most_links}
-use Rattle.model.proofs.Sets.{next-within, next-less, Passing, passing-start, passing-on, passing-end}
+use Rattle.model.proofs.Sets.{Passing}
 use Rattle.link_sums.specs.Tables.{FlowAdded}
-use Rattle.link_sums.proofs.Flows.{across-none, across-on, across-most}
-use native.Mathlib.Omega.{arith}
 use Rattle.link_sums.proofs.by_flow.add_across.Given as goal
 
 abbrev pub invariant-loop-set : goal.invariant-loop-set

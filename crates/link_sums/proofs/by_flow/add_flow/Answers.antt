@@ -1,7 +1,6 @@
 -- `link_sums::by_flow::add_flow` meets its contract: by the flow's sums on the links that its tunnels cross.
 use Rattle.link_sums.proofs.Flows.{sums-within, with-flow}
 use Rattle.link_sums.proofs.Good.{good-range}
-use borrow.Author.Rules.{rules}
 use Rattle.link_sums.proofs.by_flow.add_flow.Goals as goal
 
 pub add_sums-requires : goal.add_sums-requires

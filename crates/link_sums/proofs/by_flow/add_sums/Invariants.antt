@@ -1,11 +1,6 @@
 -- `link_sums::by_flow::add_sums` meets its contract: the links below one have the flow's sums added, and what is left of the set falls.
-use Prim.Native.Nat.{◌<◌}
-use lib.Count.{count_trailing_zeros, trailing_le}
-use Rattle.model.specs.Limits.{most_links}
-use Rattle.model.proofs.Sets.{next-within, next-less, Passing, passing-start, passing-on, passing-end}
+use Rattle.model.proofs.Sets.{Passing}
 use Rattle.link_sums.specs.Tables.{SumsAdded}
-use Rattle.link_sums.proofs.Flows.{sums_none, sums_on, sums-room}
-use native.Mathlib.Omega.{arith}
 use Rattle.link_sums.proofs.by_flow.add_sums.Given as goal
 
 abbrev pub invariant-loop-set : goal.invariant-loop-set

@@ -1,5 +1,5 @@
 -- `link_sums::by_flow::chain` meets its contract: the tunnels passed are chained.
-use Prim.Native.Nat.{ℕ, ◌-◌, ◌≤◌, ◌<◌}
+use Prim.Native.Nat.{ℕ, ◌<◌}
 use mathlib.Core.Path.{◌≡◌, sym, ap, subst, ◌∙◌}
 use mathlib.Core.List.{List}
 use lib.ListN.{length, get_or, length-replicate}
@@ -11,13 +11,11 @@ use Rattle.link_sums.specs.Tables.{Chains}
 use Rattle.link_sums.proofs.Flows.{chains-none, chains-more}
 use Rattle.link_sums.proofs.Good.{good-range, TunnelAt, tunnel-at}
 use native.Mathlib.Omega.{arith}
-use borrow.Author.Rules.{rules}
 use Rattle.link_sums.proofs.by_flow.chain.Goals as goal
 use Rattle.link_sums.proofs.by_flow.chain.Goals.{After-tunnel_at-at}
 
 -- in a turn: the tunnel's numbers
 module _ (c : After-tunnel_at-at) where
-
   abbrev list : List ℕ
   list = c.args.network.now
 

@@ -1,7 +1,6 @@
 -- `link_sums::by_flow::split_flows` meets its contract: each table has those of the flows passed that it is for.
-use Prim.Native.Nat.{ℕ, ◌+◌, ◌-◌, ◌≤◌, ◌<◌}
+use Prim.Native.Nat.{ℕ, ◌+◌, ◌<◌}
 use mathlib.Core.Path.{◌≡◌, sym, ap, subst, ◌∙◌}
-use mathlib.Core.Logic.{⊎_elim}
 use mathlib.Core.Bool.{Bool, not}
 use mathlib.Core.List.{List}
 use Rattle.model.specs.Limits.{most_flows}
@@ -18,13 +17,11 @@ use Rattle.link_sums.proofs.Tables.{table-zero, table-skip, table-room}
 use Rattle.link_sums.proofs.Flows.{flow-take}
 use Rattle.link_sums.proofs.Good.{good-range}
 use native.Mathlib.Omega.{arith}
-use borrow.Author.Rules.{rules}
 use Rattle.link_sums.proofs.by_flow.split_flows.Goals as goal
 use Rattle.link_sums.proofs.by_flow.split_flows.Goals.{then-is_protected, else-is_protected, After-is_protected}
 
 -- in a turn: the flow
 module _ (c : After-is_protected) where
-
   abbrev list : List ℕ
   list = c.args.network.now
 
@@ -78,10 +75,10 @@ loop-flow-preserved c = let e = class-told ((goal.at.loop-flow-preserved c).Afte
     let k = c.loop-flow.flow in
     let tables : Table n (k + 1) (counts n Bound.protected) c.if-is_protected.protected × Table n (k + 1) (unprotected n) c.if-is_protected.others =
     elim c.if-is_protected.branch [
-      then-is_protected w ↦ let q = e ∙ w.if-is_protected.true in
-        (rw w.protected-is (flow-take n k _ _ _ c.loop-flow.invariant.protected q w.add_flow.ensures), rw w.others-is (table-skip n k _ _ c.loop-flow.invariant.others (ap not q)))
+      | then-is_protected w ↦ let q = e ∙ w.if-is_protected.true in
+          (rw w.protected-is (flow-take n k _ _ _ c.loop-flow.invariant.protected q w.add_flow.ensures), rw w.others-is (table-skip n k _ _ c.loop-flow.invariant.others (ap not q)))
       | else-is_protected w ↦ let q = e ∙ w.if-is_protected.false in
-        (rw w.protected-is (table-skip n k _ _ c.loop-flow.invariant.protected q), rw w.others-is (flow-take n k _ _ _ c.loop-flow.invariant.others (ap not q) w.add_flow-else-is_protected.ensures))
+          (rw w.protected-is (table-skip n k _ _ c.loop-flow.invariant.protected q), rw w.others-is (flow-take n k _ _ _ c.loop-flow.invariant.others (ap not q) w.add_flow-else-is_protected.ensures))
     ] in
     record { low = omega (arith, c.loop-flow-test.true); protected = tables.0; others = tables.1 }
 
@@ -89,6 +86,6 @@ pub returns : goal.returns
 unfolding network_of
 returns c = let N = network_of c.args.network.now in
     let e : c.loop-flow.flow ≡ movers N = omega (arith, c.loop-flow.invariant.low, c.loop-flow-test.false, ap (λ (n : sizes.Network). n.flows) c.of-sizes.ensures, movers-flows N c.requires.good_network.1) in record {
-  loads = subst (λ (n : ℕ). Table N n (counts N Bound.protected) c.loop-flow.protected) e c.loop-flow.invariant.protected;
-  table = subst (λ (n : ℕ). Table N n (unprotected N) c.loop-flow.others) e c.loop-flow.invariant.others;
-}
+      loads = subst (λ (n : ℕ). Table N n (counts N Bound.protected) c.loop-flow.protected) e c.loop-flow.invariant.protected;
+      table = subst (λ (n : ℕ). Table N n (unprotected N) c.loop-flow.others) e c.loop-flow.invariant.others;
+    }

@@ -1,5 +1,5 @@
 -- `link_sums::by_flow::sum_flow` meets its contract: what is added, with what the rest of the chain has, is the flow's sum.
-use Prim.Native.Nat.{ℕ, ◌+◌, ◌-◌, ◌≤◌, ◌<◌}
+use Prim.Native.Nat.{ℕ, ◌+◌, ◌-◌, ◌<◌}
 use mathlib.Core.Path.{◌≡◌, sym, ap, subst, ◌∙◌}
 use mathlib.Core.Bool.{true}
 use mathlib.Core.List.{List}
@@ -10,18 +10,16 @@ use Rattle.model.specs.Net.{Net}
 use Rattle.lists.specs.Lists.{at, network_of}
 use Rattle.lists.specs.declared.Network as sizes
 use Rattle.lists.proofs.Positions.{TunnelPlace, tunnel-place, limited, head_in}
-use Rattle.link_sums.specs.Tables.{of_flow, LastOf, NoneOutside}
+use Rattle.link_sums.specs.Tables.{of_flow, LastOf}
 use Rattle.link_sums.proofs.Tables.{InRange}
 use Rattle.link_sums.proofs.Flows.{Left, left-start, left-on, left_end, left-room, outside-start, outside-on}
 use Rattle.link_sums.proofs.Good.{good-range, TunnelAt, tunnel-at}
 use native.Mathlib.Omega.{arith}
-use borrow.Author.Rules.{rules}
 use Rattle.link_sums.proofs.by_flow.sum_flow.Goals as goal
 use Rattle.link_sums.proofs.by_flow.sum_flow.Goals.{After-tunnel_at-at, In-loop-entry}
 
 -- in a turn: the tunnel of the entry is the flow's, and the next entry is of the one before
 module _ (c : In-loop-entry) where
-
   abbrev N : Net
   N = network_of c.args.network.now
 

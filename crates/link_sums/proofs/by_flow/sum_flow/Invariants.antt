@@ -1,20 +1,10 @@
 -- `link_sums::by_flow::sum_flow` meets its contract: what is added, with what the rest of the chain has, is the flow's sum.
-use Prim.Native.Nat.{ℕ, ◌+◌, ◌-◌, ◌≤◌, ◌<◌}
-use mathlib.Core.Path.{◌≡◌, sym, ap, subst, ◌∙◌}
+use Prim.Native.Nat.{ℕ, ◌+◌, ◌≤◌}
+use mathlib.Core.Path.{◌≡◌}
 use mathlib.Core.Bool.{true}
-use mathlib.Core.List.{List}
-use lib.ListN.{length, length-replicate}
-use borrow.Author.Tests.{eqb-true}
-use Rattle.model.specs.Limits.{most_links, most_tunnels}
-use Rattle.model.specs.Net.{Net}
-use Rattle.lists.specs.Lists.{at, network_of}
-use Rattle.lists.specs.declared.Network as sizes
-use Rattle.lists.proofs.Positions.{TunnelPlace, tunnel-place, limited, head_in}
-use Rattle.link_sums.specs.Tables.{of_flow, LastOf, NoneOutside}
-use Rattle.link_sums.proofs.Tables.{InRange}
-use Rattle.link_sums.proofs.Flows.{Left, left-start, left-on, left_end, left-room, outside-start, outside-on}
-use Rattle.link_sums.proofs.Good.{good-range, TunnelAt, tunnel-at}
-use native.Mathlib.Omega.{arith}
+use Rattle.lists.specs.Lists.{network_of}
+use Rattle.link_sums.specs.Tables.{of_flow, NoneOutside}
+use Rattle.link_sums.proofs.Flows.{Left}
 use Rattle.link_sums.proofs.by_flow.sum_flow.Given as goal
 
 abbrev pub invariant-loop-entry : goal.invariant-loop-entry

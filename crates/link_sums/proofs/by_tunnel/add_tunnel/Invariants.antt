@@ -1,9 +1,6 @@
 -- `link_sums::by_tunnel::add_tunnel` meets its contract: the links below one are passed, and what is left of the set falls.
-use native.Mathlib.Omega.{arith}
-use lib.Count.{trailing_le}
-use Rattle.model.proofs.Sets.{next-within, next-less, Passing, passing-start, passing-on, passing-end}
+use Rattle.model.proofs.Sets.{Passing}
 use Rattle.link_sums.specs.Tables.{Added}
-use Rattle.link_sums.proofs.Tables.{added-both, added_none, added-room}
 use Rattle.link_sums.proofs.by_tunnel.add_tunnel.Given as goal
 
 abbrev pub invariant-loop-set : goal.invariant-loop-set

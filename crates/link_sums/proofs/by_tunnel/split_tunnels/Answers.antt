@@ -1,7 +1,6 @@
 -- `link_sums::by_tunnel::split_tunnels` meets its contract: each table has those of the tunnels passed that it is for.
-use Prim.Native.Nat.{ℕ, ◌+◌, ◌-◌, ◌≤◌}
+use Prim.Native.Nat.{ℕ, ◌+◌}
 use mathlib.Core.Path.{◌≡◌, sym, ap, subst, ◌∙◌}
-use mathlib.Core.Logic.{⊎_elim}
 use mathlib.Core.Bool.{Bool, not}
 use mathlib.Core.List.{List}
 use lib.Dec.{leb}
@@ -19,13 +18,11 @@ use Rattle.link_sums.specs.Tables.{most_sums, Room, Added, Table, unprotected}
 use Rattle.link_sums.proofs.Tables.{table-zero, table-take, table-skip, table-room}
 use Rattle.link_sums.proofs.Good.{good-range, TunnelAt, tunnel-at}
 use native.Mathlib.Omega.{arith}
-use borrow.Author.Rules.{rules}
 use Rattle.link_sums.proofs.by_tunnel.split_tunnels.Goals as goal
 use Rattle.link_sums.proofs.by_tunnel.split_tunnels.Goals.{then-is_protected, else-is_protected, After-is_protected, After-tunnel_at-at}
 
 -- in a turn: the tunnel's numbers
 module _ (c : After-tunnel_at-at) where
-
   abbrev list : List ℕ
   list = c.args.network.now
 
@@ -112,10 +109,10 @@ loop-t-preserved c = let e = class-told ((goal.at.loop-t-preserved c).After-is_p
     let k = c.loop-t.t in
     let tables : Table n (k + 1) (counts n Bound.protected) c.if-is_protected.protected × Table n (k + 1) (unprotected n) c.if-is_protected.others =
     elim c.if-is_protected.branch [
-      then-is_protected w ↦ let q = e ∙ w.if-is_protected.true in
-        (rw w.protected-is (table-take n u k _ _ _ c.loop-t.invariant.protected q (added ((goal.at.loop-t-preserved c).After-tunnel_at-at) w.add_tunnel.ensures)), rw w.others-is (table-skip n k _ _ c.loop-t.invariant.others (ap not q)))
+      | then-is_protected w ↦ let q = e ∙ w.if-is_protected.true in
+          (rw w.protected-is (table-take n u k _ _ _ c.loop-t.invariant.protected q (added ((goal.at.loop-t-preserved c).After-tunnel_at-at) w.add_tunnel.ensures)), rw w.others-is (table-skip n k _ _ c.loop-t.invariant.others (ap not q)))
       | else-is_protected w ↦ let q = e ∙ w.if-is_protected.false in
-        (rw w.protected-is (table-skip n k _ _ c.loop-t.invariant.protected q), rw w.others-is (table-take n u k _ _ _ c.loop-t.invariant.others (ap not q) (added ((goal.at.loop-t-preserved c).After-tunnel_at-at) w.add_tunnel-else-is_protected.ensures)))
+          (rw w.protected-is (table-skip n k _ _ c.loop-t.invariant.protected q), rw w.others-is (table-take n u k _ _ _ c.loop-t.invariant.others (ap not q) (added ((goal.at.loop-t-preserved c).After-tunnel_at-at) w.add_tunnel-else-is_protected.ensures)))
     ] in
     record { low = omega (arith, c.loop-t-test.true); protected = tables.0; others = tables.1 }
 
@@ -123,6 +120,6 @@ pub returns : goal.returns
 unfolding network_of
 returns c = let N = network_of c.args.network.now in
     let e : c.loop-t.t ≡ movers N = omega (arith, c.loop-t.invariant.low, c.loop-t-test.false, ap (λ (n : sizes.Network). n.tunnels) c.of-sizes.ensures, movers-tunnels N c.requires.good_network.1) in record {
-  loads = subst (λ (n : ℕ). Table N n (counts N Bound.protected) c.loop-t.protected) e c.loop-t.invariant.protected;
-  table = subst (λ (n : ℕ). Table N n (unprotected N) c.loop-t.others) e c.loop-t.invariant.others;
-}
+      loads = subst (λ (n : ℕ). Table N n (counts N Bound.protected) c.loop-t.protected) e c.loop-t.invariant.protected;
+      table = subst (λ (n : ℕ). Table N n (unprotected N) c.loop-t.others) e c.loop-t.invariant.others;
+    }

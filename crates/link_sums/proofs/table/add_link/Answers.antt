@@ -3,7 +3,6 @@ use Prim.Native.Nat.{◌+◌}
 use native.Mathlib.Omega.{arith}
 use Rattle.link_sums.specs.Tables.{Part}
 use Rattle.link_sums.proofs.Tables.{stored_other, link-added}
-use borrow.Author.Rules.{rules}
 use Rattle.link_sums.proofs.table.add_link.Goals as goal
 
 pub add-requires : goal.add-requires

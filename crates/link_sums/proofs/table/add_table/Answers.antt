@@ -1,10 +1,9 @@
 -- `link_sums::table::add_table` meets its contract: the numbers below i are joined, the others are as they were.
-use Prim.Native.Nat.{ℕ, ◌-◌, ◌≤◌, ◌<◌}
+use Prim.Native.Nat.{ℕ, ◌<◌}
 use mathlib.Core.Path.{◌≡◌, subst}
 use native.Mathlib.Omega.{arith}
 use Rattle.link_sums.specs.Tables.{table_size, most_sums}
 use Rattle.link_sums.proofs.Tables.{Joining, join-none, join-on, join-all, join-ahead, room-at}
-use borrow.Author.Rules.{rules}
 use Rattle.link_sums.proofs.table.add_table.Goals as goal
 
 pub loop-i-init : goal.loop-i-init

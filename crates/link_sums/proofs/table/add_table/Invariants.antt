@@ -1,9 +1,7 @@
 -- `link_sums::table::add_table` meets its contract: the numbers below i are joined, the others are as they were.
-use Prim.Native.Nat.{ℕ, ◌-◌, ◌≤◌, ◌<◌}
-use mathlib.Core.Path.{◌≡◌, subst}
-use native.Mathlib.Omega.{arith}
-use Rattle.link_sums.specs.Tables.{table_size, most_sums}
-use Rattle.link_sums.proofs.Tables.{Joining, join-none, join-on, join-all, join-ahead, room-at}
+use Prim.Native.Nat.{◌-◌, ◌≤◌}
+use Rattle.link_sums.specs.Tables.{table_size}
+use Rattle.link_sums.proofs.Tables.{Joining}
 use Rattle.link_sums.proofs.table.add_table.Given as goal
 
 abbrev pub invariant-loop-i : goal.invariant-loop-i

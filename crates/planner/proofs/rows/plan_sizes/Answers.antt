@@ -4,7 +4,6 @@ use Rattle.lists.specs.Lists.{network_of}
 use Rattle.lists.specs.declared.Network as counts
 use Rattle.lists.proofs.Positions.{head_in}
 use Prim.Native.Nat.{ℕ}
-use borrow.Author.Rules.{rules}
 use Rattle.planner.proofs.rows.plan_sizes.Goals as goal
 
 pub of-sizes-requires : goal.of-sizes-requires

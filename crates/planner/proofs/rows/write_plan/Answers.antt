@@ -11,9 +11,8 @@ use Rattle.lists.specs.Lists.{network_of}
 use Rattle.lists.specs.declared.PlanSizes.{PlanSizes}
 use Rattle.planner.specs.Planned.{even_list}
 use Rattle.link_sums.proofs.Good.{good-range}
-use Rattle.planner.proofs.EvenLists.{list_length, head-stored, head-length, head-rest, Written, written_none, written_on, written-length, written_all}
+use Rattle.planner.proofs.EvenLists.{list_length, head-stored, head-length, head-rest, written_none, written_on, written-length, written_all}
 use native.Mathlib.Omega.{arith}
-use borrow.Author.Rules.{rules}
 use Rattle.planner.proofs.rows.write_plan.Goals as goal
 use Rattle.planner.proofs.rows.write_plan.Goals.{After-plan_sizes-sizes, In-loop-done}
 
@@ -87,9 +86,9 @@ pub write_row-requires : goal.write_row-requires
 write_row-requires c = let T = c.plan_sizes-sizes.result.tunnels in
     let i = c.loop-done.at in
     let k : i + T - i ≡ (network_of c.args.network.now).tunnels = omega (arith, width ((goal.at.write_row-requires c).After-plan_sizes-sizes)) in record {
-  good_network = c.requires.good_network;
-  a_le_q = (omega (arith, c.loop-done-test.true), c.requires.le_q.1, length-take-le _ (drop i c.loop-done.out) (simp length-drop (omega (arith, inside ((goal.at.write_row-requires c).In-loop-done), width ((goal.at.write_row-requires c).After-plan_sizes-sizes)))) ∙ k);
-}
+      good_network = c.requires.good_network;
+      a_le_q = (omega (arith, c.loop-done-test.true), c.requires.le_q.1, length-take-le _ (drop i c.loop-done.out) (simp length-drop (omega (arith, inside ((goal.at.write_row-requires c).In-loop-done), width ((goal.at.write_row-requires c).After-plan_sizes-sizes)))) ∙ k);
+    }
 
 pub overflow_add-at-in-loop-done : goal.overflow_add-at-in-loop-done
 overflow_add-at-in-loop-done c = omega (arith, small ((goal.at.overflow_add-at-in-loop-done c).In-loop-done), width ((goal.at.overflow_add-at-in-loop-done c).After-plan_sizes-sizes))

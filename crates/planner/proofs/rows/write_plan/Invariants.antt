@@ -1,18 +1,8 @@
 -- `planner::rows::write_plan` meets its contract: the output has the list's head and the rows written, and then what it had.
-use Prim.Native.Nat.{ℕ, ◌+◌, ◌-◌, ◌*◌, ◌≤◌}
-use mathlib.Core.Path.{◌≡◌, sym, ap, ◌∙◌}
-use mathlib.Core.List.{List, [], ◌∷◌, ◌++◌}
-use native.Mathlib.Nat.{mul-le-mul, mul-le-mul_right}
-use lib.ListN.{length, take, drop, length-set, length-drop}
-use lib.Seq.{length-take-le}
-use Rattle.model.specs.Limits.{most_steps, most_tunnels}
-use Rattle.model.specs.Net.{Net}
+use Prim.Native.Nat.{◌+◌, ◌-◌, ◌*◌, ◌≤◌}
+use mathlib.Core.Path.{◌≡◌}
 use Rattle.lists.specs.Lists.{network_of}
-use Rattle.lists.specs.declared.PlanSizes.{PlanSizes}
-use Rattle.planner.specs.Planned.{even_list}
-use Rattle.link_sums.proofs.Good.{good-range}
-use Rattle.planner.proofs.EvenLists.{list_length, head-stored, head-length, head-rest, Written, written_none, written_on, written-length, written_all}
-use native.Mathlib.Omega.{arith}
+use Rattle.planner.proofs.EvenLists.{Written}
 use Rattle.planner.proofs.rows.write_plan.Given as goal
 
 abbrev pub invariant-loop-done : goal.invariant-loop-done

@@ -1,9 +1,9 @@
 -- `planner::rows::write_row` meets its contract: the row has the numbers of the tunnels passed, and then what it had.
 use Prim.Native.Nat.{ℕ, ◌+◌, ◌-◌, ◌*◌, ◌≤◌, ◌<◌}
 use mathlib.Core.Path.{◌≡◌, refl, ap, ap₂, ◌∙◌}
-use mathlib.Core.List.{List, ◌++◌}
+use mathlib.Core.List.{List}
 use native.Mathlib.Nat.{mul-le-mul}
-use lib.ListN.{length, get_or, drop, length-set}
+use lib.ListN.{get_or, length-set}
 use Rattle.model.specs.Limits.{most_steps, most_amount}
 use Rattle.model.specs.Net.{Net}
 use Rattle.model.specs.Even.{even_row}
@@ -14,7 +14,6 @@ use Rattle.lists.specs.declared.Network as counts
 use Rattle.lists.proofs.Positions.{TunnelPlace, tunnel-place, limited, head_in}
 use Rattle.planner.proofs.EvenLists.{listed-all, even-number}
 use native.Mathlib.Omega.{arith}
-use borrow.Author.Rules.{rules}
 use Rattle.planner.proofs.rows.write_row.Goals as goal
 use Rattle.planner.proofs.rows.write_row.Goals.{After-tunnel_at-at}
 
@@ -99,11 +98,11 @@ overflow_add-t c = omega (arith, there ((goal.at.overflow_add-t c).After-tunnel_
 
 pub loop-t-preserved : goal.loop-t-preserved
 loop-t-preserved c = record {
-      size = simp length-set c.loop-t.invariant.size;
-      low = omega (arith, c.loop-t-test.true, c.loop-t.invariant.size);
-      done = listed-on _ c.loop-t.t _ _ _ c.loop-t.invariant.done (omega (arith, c.loop-t-test.true, c.loop-t.invariant.size))
-          (ap₂ (λ (o n : ℕ). (c.args.q - c.args.a) * o + c.args.a * n) (old-at ((goal.at.loop-t-preserved c).After-tunnel_at-at)) (new-at ((goal.at.loop-t-preserved c).After-tunnel_at-at)) ∙ even-number (N ((goal.at.loop-t-preserved c).After-tunnel_at-at)) c.args.q c.args.a c.loop-t.t c.requires.a_le_q.0);
-    }
+  size = simp length-set c.loop-t.invariant.size;
+  low = omega (arith, c.loop-t-test.true, c.loop-t.invariant.size);
+  done = listed-on _ c.loop-t.t _ _ _ c.loop-t.invariant.done (omega (arith, c.loop-t-test.true, c.loop-t.invariant.size))
+      (ap₂ (λ (o n : ℕ). (c.args.q - c.args.a) * o + c.args.a * n) (old-at ((goal.at.loop-t-preserved c).After-tunnel_at-at)) (new-at ((goal.at.loop-t-preserved c).After-tunnel_at-at)) ∙ even-number (N ((goal.at.loop-t-preserved c).After-tunnel_at-at)) c.args.q c.args.a c.loop-t.t c.requires.a_le_q.0);
+}
 
 pub returns : goal.returns
 unfolding network_of

@@ -1,19 +1,11 @@
 -- `planner::rows::write_row` meets its contract: the row has the numbers of the tunnels passed, and then what it had.
-use Prim.Native.Nat.{ℕ, ◌+◌, ◌-◌, ◌*◌, ◌≤◌, ◌<◌}
-use mathlib.Core.Path.{◌≡◌, refl, ap, ap₂, ◌∙◌}
-use mathlib.Core.List.{List, ◌++◌}
-use native.Mathlib.Nat.{mul-le-mul}
-use lib.ListN.{length, get_or, drop, length-set}
-use Rattle.model.specs.Limits.{most_steps, most_amount}
-use Rattle.model.specs.Net.{Net}
+use Prim.Native.Nat.{◌-◌, ◌≤◌}
+use mathlib.Core.Path.{◌≡◌}
+use mathlib.Core.List.{◌++◌}
+use lib.ListN.{length, drop}
 use Rattle.model.specs.Even.{even_row}
 use Rattle.model.specs.Listed.{listed}
-use Rattle.model.proofs.Listed.{listed-none, listed-on}
-use Rattle.lists.specs.Lists.{at, network_sizes, network_of}
-use Rattle.lists.specs.declared.Network as counts
-use Rattle.lists.proofs.Positions.{TunnelPlace, tunnel-place, limited, head_in}
-use Rattle.planner.proofs.EvenLists.{listed-all, even-number}
-use native.Mathlib.Omega.{arith}
+use Rattle.lists.specs.Lists.{network_of}
 use Rattle.planner.proofs.rows.write_row.Given as goal
 
 abbrev pub invariant-loop-t : goal.invariant-loop-t

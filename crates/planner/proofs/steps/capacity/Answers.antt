@@ -5,7 +5,6 @@ use Rattle.lists.specs.Lists.{at, network_of}
 use Rattle.lists.proofs.Positions.{LinkPlace, link-place, limited}
 use Rattle.lists.proofs.Held.{held-most}
 use native.Mathlib.Omega.{arith}
-use borrow.Author.Rules.{rules}
 use Rattle.planner.proofs.steps.capacity.Goals as goal
 use Rattle.planner.proofs.steps.capacity.Goals.{After-link_at}
 

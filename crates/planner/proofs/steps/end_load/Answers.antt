@@ -4,7 +4,6 @@ use mathlib.Core.Path.{ap}
 use native.Mathlib.Omega.{arith}
 use Rattle.link_sums.specs.Tables.{Part, sum_at}
 use Rattle.planner.proofs.Figures.{most_product, product-room, most-room}
-use borrow.Author.Rules.{rules}
 use Rattle.planner.proofs.steps.end_load.Goals as goal
 use Rattle.planner.proofs.steps.end_load.Goals.{After-larger-most}
 

@@ -1,15 +1,12 @@
 -- `planner::steps::fewest_steps` meets its contract: no even plan of fewer steps is accepted, and the links passed keep both bounds.
-use Prim.Native.Nat.{◌+◌, ◌-◌, ◌≤◌}
+use Prim.Native.Nat.{◌+◌}
 use mathlib.Core.Path.{◌≡◌, sym, ap, ◌∙◌}
 use native.Mathlib.Omega.{arith}
-use Rattle.model.specs.Limits.{most_steps}
-use Rattle.model.proofs.Searches.{not-true, not-false}
 use Rattle.lists.specs.Lists.{network_of}
 use Rattle.lists.specs.declared.Network as counts
 use Rattle.lists.proofs.Positions.{head_in}
 use Rattle.planner.specs.Search.{answered}
-use Rattle.planner.proofs.Searching.{not-accepted, NoneFewer, none-fewer, fewest-at, fewer-on, fewest-none, Kept, kept_on, kept_more, all-kept}
-use borrow.Author.Rules.{rules}
+use Rattle.planner.proofs.Searching.{not-accepted, NoneFewer, none-fewer, fewest-at, fewer-on, fewest-none, kept_on, kept_more, all-kept}
 use Rattle.planner.proofs.steps.fewest_steps.Goals as goal
 use Rattle.planner.proofs.steps.fewest_steps.Goals.{After-of-links, Else-not-is_short}
 

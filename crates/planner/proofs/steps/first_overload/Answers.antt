@@ -1,5 +1,5 @@
 -- `planner::steps::first_overload` meets its contract.
-use Prim.Native.Nat.{ℕ, ◌-◌, ◌≤◌}
+use Prim.Native.Nat.{ℕ}
 use mathlib.Core.Path.{◌≡◌, refl, sym, ap, ap₂, subst, ◌∙◌}
 use Rattle.model.specs.Limits.{most_steps}
 use Rattle.model.specs.Rule.{worst_over}
@@ -12,7 +12,6 @@ use Rattle.lists.specs.declared.Network as counts
 use Rattle.lists.proofs.Positions.{head_in}
 use Rattle.planner.proofs.Searching.{steps_kept, windows, links_kept, links-on, stuck-here, stuck-nowhere}
 use native.Mathlib.Omega.{arith}
-use borrow.Author.Rules.{rules}
 use Rattle.planner.proofs.steps.first_overload.Goals as goal
 use Rattle.planner.proofs.steps.first_overload.Goals.{After-of-links}
 

@@ -1,17 +1,8 @@
 -- `planner::steps::first_overload` meets its contract.
-use Prim.Native.Nat.{ℕ, ◌-◌, ◌≤◌}
-use mathlib.Core.Path.{◌≡◌, refl, sym, ap, ap₂, subst, ◌∙◌}
-use Rattle.model.specs.Limits.{most_steps}
-use Rattle.model.specs.Rule.{worst_over}
-use Rattle.model.specs.Even.{even}
-use Rattle.model.proofs.Searches.{first-zero}
-use Rattle.model.proofs.Scans.{step-on}
+use Prim.Native.Nat.{◌-◌, ◌≤◌}
+use mathlib.Core.Path.{◌≡◌}
 use Rattle.lists.specs.Lists.{network_of}
-use Rattle.lists.specs.declared.Answer.TheVariants.{Refused}
-use Rattle.lists.specs.declared.Network as counts
-use Rattle.lists.proofs.Positions.{head_in}
-use Rattle.planner.proofs.Searching.{steps_kept, windows, links_kept, links-on, stuck-here, stuck-nowhere}
-use native.Mathlib.Omega.{arith}
+use Rattle.planner.proofs.Searching.{steps_kept, windows, links_kept}
 use Rattle.planner.proofs.steps.first_overload.Given as goal
 
 abbrev pub invariant-loop-link : goal.invariant-loop-link

@@ -10,7 +10,6 @@ use Rattle.lists.specs.declared.Network as counts
 use Rattle.lists.proofs.Held.{cap-most}
 use Rattle.lists.proofs.Positions.{head_in, head-least}
 use Rattle.planner.proofs.Searching.{over_first, over-second}
-use borrow.Author.Rules.{rules}
 use Rattle.planner.proofs.steps.is_over.Goals as goal
 use Rattle.planner.proofs.steps.is_over.Goals.{After-capacity}
 

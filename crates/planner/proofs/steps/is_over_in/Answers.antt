@@ -6,7 +6,6 @@ use Rattle.lists.specs.Lists.{network_of}
 use Rattle.planner.specs.Search.{is_over}
 use Rattle.planner.proofs.Figures.{step_room}
 use Rattle.planner.proofs.Searching.{link-low, protected-room, all_room, over-same}
-use borrow.Author.Rules.{rules}
 use Rattle.planner.proofs.steps.is_over_in.Goals as goal
 
 pub step_load-worst-requires : goal.step_load-worst-requires

@@ -9,7 +9,6 @@ use Rattle.planner.specs.Tables.{end_sum}
 use Rattle.planner.specs.Search.{is_over}
 use Rattle.planner.proofs.Figures.{most_product, end-room}
 use Rattle.planner.proofs.Searching.{link-low, protected-room, all_room, short-same}
-use borrow.Author.Rules.{rules}
 use Rattle.planner.proofs.steps.is_short.Goals as goal
 use Rattle.planner.proofs.steps.is_short.Goals.{After-smaller-more}
 

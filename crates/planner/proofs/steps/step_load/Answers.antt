@@ -4,7 +4,6 @@ use native.Mathlib.Omega.{arith}
 use Rattle.model.specs.Limits.{most_steps, most_amount}
 use Rattle.link_sums.specs.Tables.{Part, sum_at, most_sums}
 use Rattle.planner.proofs.Figures.{most_product, product-room}
-use borrow.Author.Rules.{rules}
 use Rattle.planner.proofs.steps.step_load.Goals as goal
 use Rattle.planner.proofs.steps.step_load.Goals.{After-shared_slice_known-3-1}
 
