@@ -6,7 +6,6 @@ use mathlib.Core.List.{List}
 use native.Mathlib.Nat.{div-mul-le_self, lt-div-mul-add, le-div_iff_mul-le}
 use native.Mathlib.Omega.{arith}
 use lib.ListN.{length}
-use Rattle.lists.specs.Lists.{at}
 use Rattle.sharing.specs.Share.{total, up_to, level, above}
 use Rattle.sharing.specs.Inner.{met_by}
 use Rattle.sharing.proofs.Levels.{up-to-most, up-to-exact, up-to-count, up-to-all, met-mono, above-mono, above-count, level-found, demand-most}

@@ -1,7 +1,6 @@
 -- `desks::none_waiting` meets its contract. Assumes nothing.
 use mathlib.Core.Path.{refl}
 use Rattle.desks.proofs.Queues.{seen-empty}
-use borrow.Author.Rules.{rules}
 use Rattle.desks.proofs.none_waiting.Goals as goal
 
 pub returns : goal.returns

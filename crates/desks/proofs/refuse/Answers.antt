@@ -1,6 +1,5 @@
 -- `desks::refuse` meets its contract. Assumes nothing.
 use mathlib.Core.Path.{refl}
-use borrow.Author.Rules.{rules}
 use Rattle.desks.proofs.refuse.Goals as goal
 
 pub returns : goal.returns

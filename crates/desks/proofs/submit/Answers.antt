@@ -10,7 +10,6 @@ use Rattle.desks.specs.declared.Submission.{Submission}
 use Rattle.desks.specs.declared.Submission.TheVariants.{Accepted, Refused}
 use Rattle.desks.proofs.States.{no-desk, full, accepts}
 use Rattle.desks.proofs.Queues.{seen-length, seen-before}
-use borrow.Author.Rules.{rules}
 use Rattle.desks.proofs.submit.Goals as goal
 
 -- a refusal that is due, and the value that it was given
@@ -30,14 +29,14 @@ returns-then-desk-ge-DESKS c = let s = c.args in record {
 pub returns-then-s-d-ge-WAITING : goal.returns-then-s-d-ge-WAITING
 returns-then-s-d-ge-WAITING c = let s = c.args in record {
   answer_value = (refusal s.s _ s.desk s.tag Cause.four_wait _
-    (full s.desk s.tag (seen s.s) c.if-desk-ge-DESKS.false (omega (arith, seen-length s.s s.desk, c.if-s-d-ge-WAITING.true)))
-    c.refuse-then-s-d-ge-WAITING.ensures.answer_value c.refuse-then-s-d-ge-WAITING.ensures.desks_value).0;
+      (full s.desk s.tag (seen s.s) c.if-desk-ge-DESKS.false (omega (arith, seen-length s.s s.desk, c.if-s-d-ge-WAITING.true)))
+      c.refuse-then-s-d-ge-WAITING.ensures.answer_value c.refuse-then-s-d-ge-WAITING.ensures.desks_value).0;
   desks_value = (refusal s.s _ s.desk s.tag Cause.four_wait _
-    (full s.desk s.tag (seen s.s) c.if-desk-ge-DESKS.false (omega (arith, seen-length s.s s.desk, c.if-s-d-ge-WAITING.true)))
-    c.refuse-then-s-d-ge-WAITING.ensures.answer_value c.refuse-then-s-d-ge-WAITING.ensures.desks_value).1.0;
+      (full s.desk s.tag (seen s.s) c.if-desk-ge-DESKS.false (omega (arith, seen-length s.s s.desk, c.if-s-d-ge-WAITING.true)))
+      c.refuse-then-s-d-ge-WAITING.ensures.answer_value c.refuse-then-s-d-ge-WAITING.ensures.desks_value).1.0;
   untouched = (refusal s.s _ s.desk s.tag Cause.four_wait _
-    (full s.desk s.tag (seen s.s) c.if-desk-ge-DESKS.false (omega (arith, seen-length s.s s.desk, c.if-s-d-ge-WAITING.true)))
-    c.refuse-then-s-d-ge-WAITING.ensures.answer_value c.refuse-then-s-d-ge-WAITING.ensures.desks_value).1.1;
+      (full s.desk s.tag (seen s.s) c.if-desk-ge-DESKS.false (omega (arith, seen-length s.s s.desk, c.if-s-d-ge-WAITING.true)))
+      c.refuse-then-s-d-ge-WAITING.ensures.answer_value c.refuse-then-s-d-ge-WAITING.ensures.desks_value).1.1;
 }
 
 pub returns : goal.returns
@@ -46,7 +45,7 @@ returns c = let s = c.args in
     let n = c.next_number-number.ensures in
     let b = c.jobs_before-before.ensures ∙ seen-before s.s s.desk in
     let e = accepts s.desk s.tag (seen s.s) c.if-desk-ge-DESKS.false (omega (arith, seen-length s.s s.desk, c.if-s-d-ge-WAITING.false)) in record {
-  answer_value = ap₂ Accepted n b ∙ ap (λ r. told_acceptance r.answer) (sym e);
-  desks_value = c.put-desks.ensures ∙ ap (λ m. joined s.desk (record { number = m; tag = s.tag }) (seen s.s)) n ∙ ap (λ r. r.state) (sym e);
-  untouched = subst (λ r. Untouched r.answer s.s c.put-desks.result) (sym e) tt;
-}
+      answer_value = ap₂ Accepted n b ∙ ap (λ r. told_acceptance r.answer) (sym e);
+      desks_value = c.put-desks.ensures ∙ ap (λ m. joined s.desk (record { number = m; tag = s.tag }) (seen s.s)) n ∙ ap (λ r. r.state) (sym e);
+      untouched = subst (λ r. Untouched r.answer s.s c.put-desks.result) (sym e) tt;
+    }

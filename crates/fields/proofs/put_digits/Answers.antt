@@ -1,14 +1,11 @@
 -- `fields::put_digits` meets its contract.
-use Prim.Native.Nat.{◌≤◌, ◌+◌, ◌-◌, ◌/◌, ◌%◌, ◌^◌}
+use Prim.Native.Nat.{◌+◌, ◌-◌, ◌%◌}
 use mathlib.Core.Path.{◌≡◌, refl, ◌∙◌}
-use lib.ListN.{length, length-set}
-use Rattle.forms.specs.Write.{digits_in}
+use lib.ListN.{length-set}
 use Rattle.forms.proofs.Numbers.{length_digits}
-use Rattle.lines.specs.Puts.{placed}
 use Rattle.lines.proofs.Writing.{digits-start, digits-turn}
 use Rattle.fields.proofs.Fields.{digit_char_lem}
 use native.Mathlib.Omega.{arith}
-use borrow.Author.Rules.{rules}
 use Rattle.fields.proofs.put_digits.Goals as goal
 
 pub loop-i-init : goal.loop-i-init

@@ -1,13 +1,9 @@
 -- `fields::put_digits` meets its contract.
-use Prim.Native.Nat.{◌≤◌, ◌+◌, ◌-◌, ◌/◌, ◌%◌, ◌^◌}
-use mathlib.Core.Path.{◌≡◌, refl, ◌∙◌}
-use lib.ListN.{length, length-set}
+use Prim.Native.Nat.{◌≤◌, ◌+◌, ◌-◌, ◌/◌, ◌^◌}
+use mathlib.Core.Path.{◌≡◌}
+use lib.ListN.{length}
 use Rattle.forms.specs.Write.{digits_in}
-use Rattle.forms.proofs.Numbers.{length_digits}
 use Rattle.lines.specs.Puts.{placed}
-use Rattle.lines.proofs.Writing.{digits-start, digits-turn}
-use Rattle.fields.proofs.Fields.{digit_char_lem}
-use native.Mathlib.Omega.{arith}
 use Rattle.fields.proofs.put_digits.Given as goal
 
 abbrev pub invariant-loop-i : goal.invariant-loop-i

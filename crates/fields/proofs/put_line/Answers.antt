@@ -8,7 +8,6 @@ use lib.ListN.{length, length-set}
 use Rattle.lines.proofs.Writing.{puts-byte}
 use Rattle.fields.specs.Columns.{right_in, digits, numbers}
 use Rattle.fields.proofs.Fields.{Put, put_first, put_next, number-length, line-fields}
-use borrow.Author.Rules.{rules}
 use Rattle.fields.proofs.put_line.Goals as goal
 use Rattle.fields.proofs.put_line.Goals.{After-put_number-feed, After-put_number-fifth, After-put_number-fourth, After-put_number-second, After-put_number-third, Start}
 

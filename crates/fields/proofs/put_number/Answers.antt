@@ -4,7 +4,6 @@ use lib.ListN.{replicate, length-replicate}
 use Rattle.forms.specs.Write.{width_of}
 use Rattle.fields.proofs.Fields.{Put, put_first, number-width, number-puts, below-ten}
 use native.Mathlib.Omega.{arith}
-use borrow.Author.Rules.{rules}
 use Rattle.fields.proofs.put_number.Goals as goal
 use Rattle.fields.proofs.put_number.Goals.{After-put_spaces-first}
 

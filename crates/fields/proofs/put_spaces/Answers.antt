@@ -1,11 +1,10 @@
 -- `fields::put_spaces` meets its contract.
-use Prim.Native.Nat.{◌+◌, ◌-◌, ◌≤◌}
+use Prim.Native.Nat.{◌+◌}
 use mathlib.Core.Path.{◌≡◌}
 use native.Mathlib.Nat.{add-zero}
 use native.Mathlib.Omega.{arith}
-use lib.ListN.{replicate}
 use Rattle.lines.proofs.Writing.{puts-byte}
-use Rattle.fields.proofs.Fields.{Put, spaces-none, spaces-next}
+use Rattle.fields.proofs.Fields.{spaces-none, spaces-next}
 use borrow.Author.Rules.{rules}
 use Rattle.fields.proofs.put_spaces.Goals as goal
 

@@ -1,11 +1,7 @@
 -- `fields::put_spaces` meets its contract.
 use Prim.Native.Nat.{◌+◌, ◌-◌, ◌≤◌}
-use mathlib.Core.Path.{◌≡◌}
-use native.Mathlib.Nat.{add-zero}
-use native.Mathlib.Omega.{arith}
 use lib.ListN.{replicate}
-use Rattle.lines.proofs.Writing.{puts-byte}
-use Rattle.fields.proofs.Fields.{Put, spaces-none, spaces-next}
+use Rattle.fields.proofs.Fields.{Put}
 use Rattle.fields.proofs.put_spaces.Given as goal
 
 abbrev pub invariant-loop-k : goal.invariant-loop-k

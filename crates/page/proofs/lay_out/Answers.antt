@@ -1,8 +1,7 @@
 -- `page::lay_out` meets its contract: each return is a case of the definition.
 use Prim.Native.Nat.{◌+◌, ◌*◌, ◌-◌, ◌≤◌, ◌<◌}
 use mathlib.Core.Path.{◌≡◌, ap}
-use mathlib.Core.Logic.{◌⊎◌, ⊎_elim, inl, inr}
-use borrow.Author.Tests.{ltb-true, ltb-false}
+use mathlib.Core.Logic.{◌⊎◌, inl, inr}
 use lib.ListN.{length}
 use Rattle.lists.specs.Lists.{network_of, plan_sizes, plan_of}
 use Rattle.lists.specs.declared.Network as networks
@@ -13,7 +12,6 @@ use Rattle.page.specs.Page.{page}
 use Rattle.page.proofs.Pages.{page-length}
 use Rattle.page.proofs.Answers.{none-given, short-given, all-given}
 use native.Mathlib.Omega.{arith}
-use borrow.Author.Rules.{rules}
 use Rattle.page.proofs.lay_out.Goals as goal
 use Rattle.page.proofs.lay_out.Goals.{then-step-lt1-via-then-step-lt1, then-step-lt1-via-else-step-lt1+then-steps-step, After-of-sizes}
 
@@ -40,7 +38,7 @@ returns-then-step-lt1 c =
     let a = c.args in
     let outside : (a.step < 1) ⊎ ((plan_of a.plan.now).steps < a.step) =
     elim c.then-step-lt1.branch [
-      then-step-lt1-via-then-step-lt1 w ↦ inl w.if-step-lt1.true
+      | then-step-lt1-via-then-step-lt1 w ↦ inl w.if-step-lt1.true
       | then-step-lt1-via-else-step-lt1+then-steps-step w ↦ inr (omega (arith, w.if-steps-step.true, ap (λ (m : plans.PlanSizes). m.steps) c.of-steps.ensures))
     ] in
     let g = none-given (network_of a.network.now) (plan_of a.plan.now) a.step a.out.now outside in

@@ -5,7 +5,6 @@ use Rattle.model.specs.Limits.{most_tunnels}
 use Rattle.model.specs.Outcome.{good}
 use Rattle.checker.specs.Check.{verdict}
 use Rattle.page.proofs.Answers.{check-refused, check-passed, after-pass, accepted}
-use borrow.Author.Rules.{rules}
 use Rattle.page.proofs.page.Goals as goal
 use Rattle.page.proofs.page.Goals.{In-Done}
 

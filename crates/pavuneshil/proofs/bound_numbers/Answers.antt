@@ -1,7 +1,6 @@
 -- `pavuneshil::bound_numbers` meets its contract. Each arm gives the numbers of its case. Assumes nothing.
 use mathlib.Core.Path.{sym, ap}
 use Rattle.pavuneshil.specs.Four.{four_of_bound}
-use borrow.Author.Rules.{rules}
 use Rattle.pavuneshil.proofs.bound_numbers.Goals as goal
 
 pub returns-in-Steps : goal.returns-in-Steps

@@ -1,7 +1,6 @@
 -- `pavuneshil::numbers` meets its contract. Each arm gives the numbers of its case. Assumes nothing.
 use mathlib.Core.Path.{sym, ap}
 use Rattle.pavuneshil.specs.Four.{four}
-use borrow.Author.Rules.{rules}
 use Rattle.pavuneshil.proofs.numbers.Goals as goal
 
 pub returns-in-Done : goal.returns-in-Done

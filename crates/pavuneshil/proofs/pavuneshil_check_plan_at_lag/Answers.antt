@@ -1,7 +1,6 @@
 -- `pavuneshil::pavuneshil_check_plan_at_lag` meets its contract. What `product` answers, as four numbers. Assumes nothing.
 use mathlib.Core.Path.{ap, ◌∙◌}
 use Rattle.pavuneshil.specs.Four.{four}
-use borrow.Author.Rules.{rules}
 use Rattle.pavuneshil.proofs.pavuneshil_check_plan_at_lag.Goals as goal
 
 pub returns : goal.returns

@@ -1,7 +1,6 @@
 -- `pavuneshil::pavuneshil_page` meets its contract. What `page` answers, as four numbers. Assumes nothing.
 use mathlib.Core.Path.{ap, ◌∙◌}
 use Rattle.pavuneshil.specs.Four.{four}
-use borrow.Author.Rules.{rules}
 use Rattle.pavuneshil.proofs.pavuneshil_page.Goals as goal
 
 pub returns : goal.returns

@@ -1,7 +1,6 @@
 -- `pavuneshil::pavuneshil_share` meets its contract. What `sharing` answers, as four numbers. Assumes nothing.
 use mathlib.Core.Path.{ap, ◌∙◌}
 use Rattle.pavuneshil.specs.Four.{four}
-use borrow.Author.Rules.{rules}
 use Rattle.pavuneshil.proofs.pavuneshil_share.Goals as goal
 
 pub returns : goal.returns

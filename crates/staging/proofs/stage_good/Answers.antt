@@ -6,7 +6,6 @@ use Rattle.lists.specs.declared.Answer.TheVariants.{Done, Refused}
 use Rattle.lists.specs.declared.RuleTables.{RuleTables}
 use Rattle.staging.proofs.Answers.{stage-refused, stage-spares, stage-none, stage-all}
 use native.Mathlib.Omega.{arith}
-use borrow.Author.Rules.{rules}
 use Rattle.staging.proofs.stage_good.Goals as goal
 use Rattle.staging.proofs.stage_good.Goals.{After-of-tunnels}
 
@@ -25,9 +24,9 @@ of-tunnels-requires c = omega (arith, c.requires.size)
 pub returns-then-out-tunnels : goal.returns-then-out-tunnels
 returns-then-out-tunnels c = let e = tunnels ((goal.at.returns-then-out-tunnels c).After-of-tunnels) in
     let n = stage-none c.args.list.now c.args.out.now _ _ c.judge-judged.ensures.0 _ c.in-Done.is (omega (arith, e, c.if-out-tunnels.true)) in record {
-  value = ap (λ (k : ℕ). Refused 10 k 0) e ∙ n.0;
-  out_after = n.1;
-}
+      value = ap (λ (k : ℕ). Refused 10 k 0) e ∙ n.0;
+      out_after = n.1;
+    }
 
 pub give-requires : goal.give-requires
 give-requires c = let j = c.judge-judged.ensures in
@@ -36,6 +35,6 @@ give-requires c = let j = c.judge-judged.ensures in
 pub returns : goal.returns
 returns c = let e = tunnels ((goal.at.returns c).After-of-tunnels) in
     let all = stage-all c.args.list.now c.args.out.now _ _ c.judge-judged.ensures.0 _ c.in-Done.is (omega (arith, e, c.if-out-tunnels.false)) in record {
-  value = ap Done e ∙ all.0;
-  out_after = c.give.ensures ∙ all.1;
-}
+      value = ap Done e ∙ all.0;
+      out_after = c.give.ensures ∙ all.1;
+    }

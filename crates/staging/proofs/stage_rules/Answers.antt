@@ -7,7 +7,6 @@ use Rattle.forms.proofs.Answers.{refused-then, refused-room}
 use Rattle.rules.specs.Stage.{staged}
 use Rattle.rules.specs.Lists.{rules_of, staged_list, GoodRules}
 use Rattle.rules.proofs.Judged.{judged-done}
-use borrow.Author.Rules.{rules}
 use Rattle.staging.proofs.stage_rules.Goals as goal
 use Rattle.staging.proofs.stage_rules.Goals.{In-Done}
 

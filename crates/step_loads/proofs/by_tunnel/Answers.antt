@@ -1,9 +1,9 @@
 -- `step_loads::by_tunnel` meets its contract: the tunnels are added up one by one.
-use Prim.Native.Nat.{ℕ, ◌*◌, ◌-◌, ◌≤◌, ◌<◌}
+use Prim.Native.Nat.{ℕ, ◌<◌}
 use mathlib.Core.Path.{◌≡◌, ap, sym, ◌∙◌}
 use mathlib.Core.List.{List}
 use lib.Dec.{leb, lit≤}
-use Rattle.model.specs.Limits.{most_amount, most_steps, most_tunnels}
+use Rattle.model.specs.Limits.{most_tunnels}
 use Rattle.model.specs.Net.{Net, Plan}
 use Rattle.model.specs.Rule.{counts}
 use Rattle.model.specs.Scan.{Bound}
@@ -12,10 +12,8 @@ use Rattle.model.proofs.Movers.{movers-tunnels}
 use Rattle.lists.specs.Lists.{at, network_of, plan_of}
 use Rattle.lists.specs.declared.Network as sizes
 use Rattle.lists.proofs.Positions.{TunnelPlace, tunnel-place, limited, head_in}
-use Rattle.step_loads.specs.Inner.{Summed}
 use Rattle.step_loads.proofs.Adding.{summed-none, summed-fits, protected-fits, summed-more, summed-all, tunnel-worst}
 use native.Mathlib.Omega.{arith}
-use borrow.Author.Rules.{rules}
 use Rattle.step_loads.proofs.by_tunnel.Goals as goal
 use Rattle.step_loads.proofs.by_tunnel.Goals.{After-tunnel_at}
 

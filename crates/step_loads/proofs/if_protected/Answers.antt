@@ -6,7 +6,6 @@ use Rattle.lists.specs.Lists.{at, network_of}
 use Rattle.lists.specs.declared.Network as sizes
 use Rattle.lists.proofs.Positions.{FlowPlace, flow-place, limited, head_in}
 use native.Mathlib.Omega.{arith}
-use borrow.Author.Rules.{rules}
 use Rattle.step_loads.proofs.if_protected.Goals as goal
 use Rattle.step_loads.proofs.if_protected.Goals.{After-flow_at}
 

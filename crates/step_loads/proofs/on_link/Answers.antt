@@ -1,7 +1,6 @@
 -- `step_loads::on_link` meets its contract.
 use mathlib.Core.Path.{sym, ◌∙◌}
 use Rattle.lists.proofs.Positions.{head_in}
-use borrow.Author.Rules.{rules}
 use Rattle.step_loads.proofs.on_link.Goals as goal
 
 pub by_flow-requires : goal.by_flow-requires

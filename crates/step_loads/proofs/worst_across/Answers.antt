@@ -6,14 +6,12 @@ use mathlib.Core.List.{List}
 use Rattle.model.specs.Net.{Net, Plan}
 use Rattle.model.specs.Rule.{across, crosses}
 use Rattle.model.specs.Sets.{in_set}
-use Rattle.model.proofs.Searches.{not-true, not-false}
 use Rattle.lists.specs.Lists.{network_of, plan_of}
 use Rattle.lists.specs.declared.Network as sizes
 use Rattle.lists.proofs.Positions.{TunnelPlace, tunnel-place, limited, head_in}
 use Rattle.amounts.specs.Rows.{larger_row}
 use Rattle.amounts.proofs.Good.{via-here, larger-small}
 use native.Mathlib.Omega.{arith}
-use borrow.Author.Rules.{rules}
 use Rattle.step_loads.proofs.worst_across.Goals as goal
 use Rattle.step_loads.proofs.worst_across.Goals.{After-crosses, After-tunnel_at}
 

@@ -1,7 +1,6 @@
 -- `desks::numbers::of_hand_out` meets its contract. Each arm gives the numbers of its case. Assumes nothing.
 use mathlib.Core.Path.{sym, ap}
 use Rattle.desks.specs.Four.{four_of_job}
-use borrow.Author.Rules.{rules}
 use Rattle.desks.proofs.numbers.of_hand_out.Goals as goal
 
 pub returns-in-Job : goal.returns-in-Job

@@ -1,7 +1,6 @@
 -- `desks::numbers::of_submission` meets its contract. Each arm gives the numbers of its case. Assumes nothing.
 use mathlib.Core.Path.{sym, ap}
 use Rattle.desks.specs.Four.{four_of_acceptance}
-use borrow.Author.Rules.{rules}
 use Rattle.desks.proofs.numbers.of_submission.Goals as goal
 
 pub returns-in-Accepted : goal.returns-in-Accepted

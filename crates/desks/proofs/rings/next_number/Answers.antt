@@ -1,7 +1,6 @@
 -- `desks::rings::next_number` meets its contract. Assumes nothing.
 use borrow.Author.Tests.{lt-ltb, le-ltb}
 use Rattle.desks.specs.State.{next_number}
-use borrow.Author.Rules.{rules}
 use Rattle.desks.proofs.rings.next_number.Goals as goal
 
 pub returns-then-n-lt-LAST_NUMBER : goal.returns-then-n-lt-LAST_NUMBER

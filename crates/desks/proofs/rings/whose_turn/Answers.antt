@@ -1,14 +1,12 @@
 -- `desks::rings::whose_turn` meets its contract: of the desks that come before the k-th in the round none has work. Assumes nothing.
-use Prim.Native.Nat.{◌+◌, ◌-◌, ◌%◌, ◌≤◌}
+use Prim.Native.Nat.{◌+◌, ◌%◌}
 use mathlib.Core.Path.{◌≡◌, sym, ap, ◌∙◌}
-use mathlib.Core.Option.{none}
 use native.Mathlib.Omega.{arith}
 use Rattle.model.specs.Search.{first}
 use Rattle.desks.specs.Round.{in_round}
 use Rattle.desks.specs.State.{work_at}
 use Rattle.desks.specs.Seen.{seen}
 use Rattle.desks.proofs.Queues.{nobody-yet, passed, found, nobody}
-use borrow.Author.Rules.{rules}
 use Rattle.desks.proofs.rings.whose_turn.Goals as goal
 
 pub loop-k-init : goal.loop-k-init
@@ -19,9 +17,9 @@ unfolding in_round
 returns-then-s-d-gt0 c = let b = c in
     let s = b.args.s in
     let e = ap (λ x. (x + 1 + b.loop-k.k) % 8) b.wide-start.ensures in record {
-  s_value = found s b.loop-k.k _ e c.loop-k-test.true b.loop-k.invariant.none_yet c.if-s-d-gt0.true;
-  desk = (omega arith, c.if-s-d-gt0.true);
-}
+      s_value = found s b.loop-k.k _ e c.loop-k-test.true b.loop-k.invariant.none_yet c.if-s-d-gt0.true;
+      desk = (omega arith, c.if-s-d-gt0.true);
+    }
 
 pub loop-k-preserved : goal.loop-k-preserved
 unfolding in_round

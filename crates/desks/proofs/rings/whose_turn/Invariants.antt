@@ -1,13 +1,10 @@
 -- `desks::rings::whose_turn` meets its contract: of the desks that come before the k-th in the round none has work. Assumes nothing.
-use Prim.Native.Nat.{◌+◌, ◌-◌, ◌%◌, ◌≤◌}
-use mathlib.Core.Path.{◌≡◌, sym, ap, ◌∙◌}
+use Prim.Native.Nat.{◌-◌, ◌≤◌}
+use mathlib.Core.Path.{◌≡◌}
 use mathlib.Core.Option.{none}
-use native.Mathlib.Omega.{arith}
 use Rattle.model.specs.Search.{first}
-use Rattle.desks.specs.Round.{in_round}
 use Rattle.desks.specs.State.{work_at}
 use Rattle.desks.specs.Seen.{seen}
-use Rattle.desks.proofs.Queues.{nobody-yet, passed, found, nobody}
 use Rattle.desks.proofs.rings.whose_turn.Given as goal
 
 abbrev pub invariant-loop-k : goal.invariant-loop-k

@@ -3,7 +3,6 @@ use Prim.Native.Nat.{min}
 use mathlib.Core.Path.{sym, ap₂, ◌∙◌}
 use native.Mathlib.Omega.{arith}
 use Rattle.desks.proofs.Rounds.{other-own, other-one}
-use borrow.Author.Rules.{rules}
 use Rattle.desks.proofs.turns.from_other.Goals as goal
 
 pub returns-then-other-desk : goal.returns-then-other-desk

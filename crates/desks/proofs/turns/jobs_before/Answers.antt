@@ -1,11 +1,8 @@
 -- `desks::turns::jobs_before` meets its contract: the desks below `other` are counted. Assumes nothing.
-use Prim.Native.Nat.{◌+◌, ◌-◌, ◌*◌, ◌≤◌, min}
 use mathlib.Core.Path.{◌≡◌, ap, ◌∙◌}
 use native.Mathlib.Omega.{arith}
-use lib.ListN.{get_or}
 use Rattle.desks.specs.Round.{jobs_before}
-use Rattle.desks.proofs.Rounds.{below, below_none, below_next, below_all}
-use borrow.Author.Rules.{rules}
+use Rattle.desks.proofs.Rounds.{below_none, below_next, below_all}
 use Rattle.desks.proofs.turns.jobs_before.Goals as goal
 
 pub loop-other-init : goal.loop-other-init

@@ -1,10 +1,8 @@
 -- `desks::turns::jobs_before` meets its contract: the desks below `other` are counted. Assumes nothing.
 use Prim.Native.Nat.{◌+◌, ◌-◌, ◌*◌, ◌≤◌, min}
-use mathlib.Core.Path.{◌≡◌, ap, ◌∙◌}
-use native.Mathlib.Omega.{arith}
+use mathlib.Core.Path.{◌≡◌}
 use lib.ListN.{get_or}
-use Rattle.desks.specs.Round.{jobs_before}
-use Rattle.desks.proofs.Rounds.{below, below_none, below_next, below_all}
+use Rattle.desks.proofs.Rounds.{below}
 use Rattle.desks.proofs.turns.jobs_before.Given as goal
 
 abbrev pub invariant-loop-other : goal.invariant-loop-other

@@ -2,7 +2,6 @@
 use Prim.Native.Nat.{◌+◌, ◌-◌, ◌%◌}
 use mathlib.Core.Path.{ap}
 use Rattle.desks.specs.Round.{place_in_round}
-use borrow.Author.Rules.{rules}
 use Rattle.desks.proofs.turns.place_in_round.Goals as goal
 
 pub returns : goal.returns

@@ -1,7 +1,6 @@
 -- `desks::turns::turns` meets its contract. Assumes nothing.
 use native.Mathlib.Omega.{arith}
 use Rattle.desks.proofs.Rounds.{turns-earlier, turns-later}
-use borrow.Author.Rules.{rules}
 use Rattle.desks.proofs.turns.turns.Goals as goal
 
 pub returns-then-place_in_round : goal.returns-then-place_in_round

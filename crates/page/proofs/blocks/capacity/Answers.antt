@@ -8,7 +8,6 @@ use Rattle.lists.proofs.Held.{held-most}
 use Rattle.lists.proofs.Positions.{LinkPlace, link-place, limited, head_in}
 use Rattle.amounts.proofs.Good.{left_here, capacity-here, capacity-fits, cap-low}
 use native.Mathlib.Omega.{arith}
-use borrow.Author.Rules.{rules}
 use Rattle.page.proofs.blocks.capacity.Goals as goal
 use Rattle.page.proofs.blocks.capacity.Goals.{After-link_at}
 

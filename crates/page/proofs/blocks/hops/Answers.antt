@@ -8,7 +8,6 @@ use Rattle.lists.specs.declared.Network as sizes
 use Rattle.lists.proofs.Positions.{TunnelPlace, tunnel-place, limited, head_in}
 use Rattle.page.specs.Page.{hops}
 use native.Mathlib.Omega.{arith}
-use borrow.Author.Rules.{rules}
 use Rattle.page.proofs.blocks.hops.Goals as goal
 use Rattle.page.proofs.blocks.hops.Goals.{After-tunnel_at}
 

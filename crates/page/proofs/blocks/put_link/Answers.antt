@@ -10,7 +10,6 @@ use Rattle.fields.specs.Inner.{Fits}
 use Rattle.page.specs.Page.{link_fields}
 use Rattle.page.proofs.Sizes.{link-line}
 use native.Mathlib.Omega.{arith}
-use borrow.Author.Rules.{rules}
 use Rattle.page.proofs.blocks.put_link.Goals as goal
 use Rattle.page.proofs.blocks.put_link.Goals.{After-on_link-worst}
 

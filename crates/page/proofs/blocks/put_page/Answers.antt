@@ -4,7 +4,6 @@ use Rattle.fields.specs.Columns.{right_in, in_columns, line}
 use Rattle.page.specs.Page.{link_heading, tunnel_heading}
 use Rattle.page.proofs.Pages.{put-links, put_second, put-page}
 use native.Mathlib.Omega.{arith}
-use borrow.Author.Rules.{rules}
 use Rattle.page.proofs.blocks.put_page.Goals as goal
 use Rattle.page.proofs.blocks.put_page.Goals.{After-put-links, After-put-tunnels}
 

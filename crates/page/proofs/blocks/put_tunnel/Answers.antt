@@ -10,7 +10,6 @@ use Rattle.fields.specs.Inner.{Fits}
 use Rattle.page.specs.Page.{tunnel_fields}
 use Rattle.page.proofs.Sizes.{tunnel-line}
 use native.Mathlib.Omega.{arith}
-use borrow.Author.Rules.{rules}
 use Rattle.page.proofs.blocks.put_tunnel.Goals as goal
 use Rattle.page.proofs.blocks.put_tunnel.Goals.{After-hops-crossed, After-tunnel_at-at}
 

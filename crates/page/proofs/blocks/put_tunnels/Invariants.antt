@@ -1,16 +1,10 @@
 -- `page::blocks::put_tunnels` meets its contract: each turn puts a line.
-use Prim.Native.Nat.{◌*◌, ◌-◌, ◌≤◌, ◌<◌}
-use mathlib.Core.Path.{◌≡◌, ap}
-use Rattle.lists.specs.Lists.{network_sizes, network_of}
-use Rattle.lists.specs.declared.Network as sizes
-use Rattle.lists.proofs.Positions.{head_in}
+use Prim.Native.Nat.{◌*◌, ◌-◌, ◌≤◌}
+use Rattle.lists.specs.Lists.{network_of}
 use Rattle.fields.specs.Columns.{line_size}
 use Rattle.fields.proofs.Fields.{Put}
 use Rattle.page.specs.Page.{tunnel_fields}
 use Rattle.page.specs.Inner.{block}
-use Rattle.page.proofs.Sizes.{tunnel-length}
-use Rattle.page.proofs.Putting.{block_none, block_room, block-next}
-use native.Mathlib.Omega.{arith}
 use Rattle.page.proofs.blocks.put_tunnels.Given as goal
 
 abbrev pub invariant-loop-t : goal.invariant-loop-t

@@ -1,7 +1,6 @@
 -- `pavuneshil::pavuneshil_none_waiting` meets its contract. Assumes nothing.
 use mathlib.Core.Path.{ap, ◌∙◌}
 use Rattle.desks.specs.Seen.{seen}
-use borrow.Author.Rules.{rules}
 use Rattle.pavuneshil.proofs.desks_for_c.pavuneshil_none_waiting.Goals as goal
 
 pub returns : goal.returns

@@ -4,16 +4,15 @@ use Rattle.desks.specs.State.{submitted}
 use Rattle.desks.specs.Seen.{told_acceptance}
 use Rattle.desks.specs.Four.{four_of_acceptance}
 use Rattle.pavuneshil.proofs.Parts.{in_parts}
-use borrow.Author.Rules.{rules}
 use Rattle.pavuneshil.proofs.desks_for_c.pavuneshil_submit.Goals as goal
 
 pub returns : goal.returns
 returns c = let m = c.submit-r in
     let a = c.args in record {
-  answer_after = (in_parts (submitted a.desk a.tag) (λ o. four_of_acceptance (told_acceptance o)) _ _ _ _ _ c.lent-s.ensures c.leave.ensures
-    (c.of_submission.ensures ∙ ap four_of_acceptance m.ensures.answer_value) m.ensures.desks_value m.ensures.untouched).0;
-  last_after = (in_parts (submitted a.desk a.tag) (λ o. four_of_acceptance (told_acceptance o)) _ _ _ _ _ c.lent-s.ensures c.leave.ensures
-    (c.of_submission.ensures ∙ ap four_of_acceptance m.ensures.answer_value) m.ensures.desks_value m.ensures.untouched).1.0;
-  untouched = (in_parts (submitted a.desk a.tag) (λ o. four_of_acceptance (told_acceptance o)) _ _ _ _ _ c.lent-s.ensures c.leave.ensures
-    (c.of_submission.ensures ∙ ap four_of_acceptance m.ensures.answer_value) m.ensures.desks_value m.ensures.untouched).1.1;
-}
+      answer_after = (in_parts (submitted a.desk a.tag) (λ o. four_of_acceptance (told_acceptance o)) _ _ _ _ _ c.lent-s.ensures c.leave.ensures
+          (c.of_submission.ensures ∙ ap four_of_acceptance m.ensures.answer_value) m.ensures.desks_value m.ensures.untouched).0;
+      last_after = (in_parts (submitted a.desk a.tag) (λ o. four_of_acceptance (told_acceptance o)) _ _ _ _ _ c.lent-s.ensures c.leave.ensures
+          (c.of_submission.ensures ∙ ap four_of_acceptance m.ensures.answer_value) m.ensures.desks_value m.ensures.untouched).1.0;
+      untouched = (in_parts (submitted a.desk a.tag) (λ o. four_of_acceptance (told_acceptance o)) _ _ _ _ _ c.lent-s.ensures c.leave.ensures
+          (c.of_submission.ensures ∙ ap four_of_acceptance m.ensures.answer_value) m.ensures.desks_value m.ensures.untouched).1.1;
+    }

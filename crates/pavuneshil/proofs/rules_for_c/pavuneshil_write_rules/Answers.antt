@@ -1,7 +1,6 @@
 -- `pavuneshil::rules_for_c::pavuneshil_write_rules` meets its contract. What `staging` answers, as four numbers. Assumes nothing.
 use mathlib.Core.Path.{ap, ◌∙◌}
 use Rattle.pavuneshil.specs.Four.{four}
-use borrow.Author.Rules.{rules}
 use Rattle.pavuneshil.proofs.rules_for_c.pavuneshil_write_rules.Goals as goal
 
 pub returns : goal.returns

@@ -1,14 +1,11 @@
 -- `sharing::divide::fill` meets its contract: the output has the shares of the services passed, and then what it had. Assumes nothing.
 use Prim.Native.Nat.{ℕ, ◌+◌, ◌-◌, ◌≤◌, min}
 use mathlib.Core.Path.{◌≡◌, refl, ap, ap₂, ◌∙◌}
-use mathlib.Core.List.{◌++◌}
 use native.Mathlib.Omega.{arith}
-use lib.ListN.{length, drop, length-set}
-use Rattle.model.specs.Listed.{listed}
+use lib.ListN.{length-set}
 use Rattle.model.proofs.Listed.{listed-none, listed-on, listed-to}
 use Rattle.sharing.specs.Share.{above, unit, share_at}
 use Rattle.sharing.proofs.Shares.{above_zero, unit-next}
-use borrow.Author.Rules.{rules}
 use Rattle.sharing.proofs.divide.fill.Goals as goal
 use Rattle.sharing.proofs.divide.fill.Goals.{After-lesser}
 

@@ -1,13 +1,10 @@
 -- `sharing::divide::fill` meets its contract: the output has the shares of the services passed, and then what it had. Assumes nothing.
-use Prim.Native.Nat.{ℕ, ◌+◌, ◌-◌, ◌≤◌, min}
-use mathlib.Core.Path.{◌≡◌, refl, ap, ap₂, ◌∙◌}
+use Prim.Native.Nat.{◌-◌, ◌≤◌}
+use mathlib.Core.Path.{◌≡◌}
 use mathlib.Core.List.{◌++◌}
-use native.Mathlib.Omega.{arith}
-use lib.ListN.{length, drop, length-set}
+use lib.ListN.{length, drop}
 use Rattle.model.specs.Listed.{listed}
-use Rattle.model.proofs.Listed.{listed-none, listed-on, listed-to}
-use Rattle.sharing.specs.Share.{above, unit, share_at}
-use Rattle.sharing.proofs.Shares.{above_zero, unit-next}
+use Rattle.sharing.specs.Share.{above, share_at}
 use Rattle.sharing.proofs.divide.fill.Given as goal
 
 abbrev pub invariant-loop-i : goal.invariant-loop-i

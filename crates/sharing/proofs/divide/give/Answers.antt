@@ -6,7 +6,6 @@ use native.Mathlib.Omega.{arith}
 use lib.ListN.{length, drop}
 use Rattle.sharing.proofs.Levels.{level-low}
 use Rattle.sharing.proofs.Shares.{shares-met, shares-found}
-use borrow.Author.Rules.{rules}
 use Rattle.sharing.proofs.divide.give.Goals as goal
 
 pub fill-requires-else-sum-rate : goal.fill-requires-else-sum-rate

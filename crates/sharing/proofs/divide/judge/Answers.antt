@@ -1,19 +1,10 @@
 -- `sharing::divide::judge` meets its contract: no demand passed is out of range, and those passed are added up. Assumes nothing.
-use Prim.Native.Nat.{◌-◌, ◌*◌, ◌≤◌}
-use mathlib.Core.Path.{◌≡◌, refl, sym}
-use mathlib.Core.Bool.{true}
-use mathlib.Core.Option.{none}
+use mathlib.Core.Path.{refl, sym}
 use native.Mathlib.Omega.{arith}
-use lib.ListN.{length}
 use borrow.Author.Tests.{le-ltb}
-use Rattle.model.specs.Sum.{sum_over}
-use Rattle.model.specs.Search.{first}
-use Rattle.model.specs.Limits.{most_amount}
 use Rattle.model.proofs.Sums.{sum-zero, sum-on}
 use Rattle.model.proofs.Searches.{first-zero, first_on, only-false}
-use Rattle.lists.specs.Lists.{at}
 use Rattle.sharing.specs.Share.{bad_demand}
-use borrow.Author.Rules.{rules}
 use Rattle.sharing.proofs.divide.judge.Goals as goal
 
 pub loop-i-init : goal.loop-i-init

@@ -4,7 +4,6 @@ use mathlib.Core.Path.{sym, subst₂, ◌∙◌}
 use native.Mathlib.Nat.{div-mul-le_self}
 use native.Mathlib.Omega.{arith}
 use Rattle.sharing.proofs.Filling.{Filling, filling-none, filling-found, filling-next}
-use borrow.Author.Rules.{rules}
 use Rattle.sharing.proofs.level.find.Goals as goal
 use Rattle.sharing.proofs.level.find.Goals.{Else-parts-above, Then-parts-above}
 

@@ -1,9 +1,5 @@
 -- `sharing::level::find` meets its contract. Assumes nothing.
-use Prim.Native.Nat.{◌-◌, ◌*◌, ◌/◌, ◌≤◌, ◌<◌}
-use mathlib.Core.Path.{sym, subst₂, ◌∙◌}
-use native.Mathlib.Nat.{div-mul-le_self}
-use native.Mathlib.Omega.{arith}
-use Rattle.sharing.proofs.Filling.{Filling, filling-none, filling-found, filling-next}
+use Rattle.sharing.proofs.Filling.{Filling}
 use Rattle.sharing.proofs.level.find.Given as goal
 
 abbrev pub invariant-loop-above : goal.invariant-loop-above

@@ -1,5 +1,5 @@
 -- `sharing::level::split` meets its contract: the demands passed are added up or counted. Assumes nothing.
-use Prim.Native.Nat.{◌-◌, ◌*◌, ◌≤◌}
+use Prim.Native.Nat.{◌≤◌}
 use mathlib.Core.Path.{◌≡◌, sym, ap, ◌∙◌}
 use native.Mathlib.Omega.{arith}
 use lib.ListN.{length}
@@ -7,7 +7,6 @@ use Rattle.model.specs.Limits.{most_amount}
 use Rattle.model.proofs.Sums.{sum-zero, sum-on}
 use Rattle.sharing.specs.Share as share
 use Rattle.sharing.specs.Inner.{met_by}
-use borrow.Author.Rules.{rules}
 use Rattle.sharing.proofs.level.split.Goals as goal
 use Rattle.sharing.proofs.level.split.Goals.{After-met-sum}
 

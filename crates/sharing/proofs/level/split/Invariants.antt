@@ -1,10 +1,8 @@
 -- `sharing::level::split` meets its contract: the demands passed are added up or counted. Assumes nothing.
 use Prim.Native.Nat.{◌-◌, ◌*◌, ◌≤◌}
-use mathlib.Core.Path.{◌≡◌, sym, ap, ◌∙◌}
-use native.Mathlib.Omega.{arith}
+use mathlib.Core.Path.{◌≡◌}
 use lib.ListN.{length}
 use Rattle.model.specs.Limits.{most_amount}
-use Rattle.model.proofs.Sums.{sum-zero, sum-on}
 use Rattle.sharing.specs.Share as share
 use Rattle.sharing.specs.Inner.{met_by}
 use Rattle.sharing.proofs.level.split.Given as goal

@@ -1,13 +1,9 @@
 -- `staging::stages::copy` meets its contract: the output has the numbers copied so far, and then what it had. Assumes nothing.
-use Prim.Native.Nat.{◌-◌, ◌≤◌, ◌<◌}
-use mathlib.Core.Path.{◌≡◌, refl}
+use Prim.Native.Nat.{◌<◌}
+use mathlib.Core.Path.{refl}
 use native.Mathlib.Omega.{arith}
-use mathlib.Core.List.{◌++◌}
-use lib.ListN.{length, drop, length-set}
-use Rattle.model.specs.Listed.{listed}
+use lib.ListN.{length-set}
 use Rattle.model.proofs.Listed.{listed-none, listed-on, listed-to}
-use Rattle.lists.specs.Lists.{at}
-use borrow.Author.Rules.{rules}
 use Rattle.staging.proofs.stages.copy.Goals as goal
 
 pub loop-t-init : goal.loop-t-init

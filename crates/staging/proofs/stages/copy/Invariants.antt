@@ -1,11 +1,9 @@
 -- `staging::stages::copy` meets its contract: the output has the numbers copied so far, and then what it had. Assumes nothing.
-use Prim.Native.Nat.{◌-◌, ◌≤◌, ◌<◌}
-use mathlib.Core.Path.{◌≡◌, refl}
-use native.Mathlib.Omega.{arith}
+use Prim.Native.Nat.{◌-◌, ◌≤◌}
+use mathlib.Core.Path.{◌≡◌}
 use mathlib.Core.List.{◌++◌}
-use lib.ListN.{length, drop, length-set}
+use lib.ListN.{length, drop}
 use Rattle.model.specs.Listed.{listed}
-use Rattle.model.proofs.Listed.{listed-none, listed-on, listed-to}
 use Rattle.lists.specs.Lists.{at}
 use Rattle.staging.proofs.stages.copy.Given as goal
 

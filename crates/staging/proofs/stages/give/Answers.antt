@@ -8,7 +8,6 @@ use Rattle.lists.specs.declared.RuleTables.{RuleTables}
 use Rattle.rules.specs.Stage.{Stages}
 use Rattle.staging.proofs.Answers.{staged-none}
 use native.Mathlib.Omega.{arith}
-use borrow.Author.Rules.{rules}
 use Rattle.staging.proofs.stages.give.Goals as goal
 
 pub run-requires : goal.run-requires

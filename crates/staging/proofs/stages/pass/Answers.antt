@@ -1,14 +1,10 @@
 -- `staging::stages::pass` meets its contract: the turns so far are those of the definition. Assumes nothing.
-use Prim.Native.Nat.{◌-◌, ◌≤◌}
-use mathlib.Core.Path.{◌≡◌, ap, ◌∙◌}
+use mathlib.Core.Path.{ap, ◌∙◌}
 use native.Mathlib.Omega.{arith}
-use Rattle.lists.specs.Lists.{at, table_sizes, rule_at}
+use Rattle.lists.specs.Lists.{at, rule_at}
 use Rattle.lists.specs.declared.RuleTables.{RuleTables}
-use Rattle.rules.specs.Stage as model
 use Rattle.rules.specs.Lists.{rules_of}
-use Rattle.staging.specs.Inner.{move_of, Reached}
 use Rattle.staging.proofs.Turns.{reached-start, ready_on, reached-on, reached-to}
-use borrow.Author.Rules.{rules}
 use Rattle.staging.proofs.stages.pass.Goals as goal
 
 pub of-sizes-requires : goal.of-sizes-requires

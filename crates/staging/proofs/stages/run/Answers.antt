@@ -1,13 +1,9 @@
 -- `staging::stages::run` meets its contract: the stages so far are those of the definition. Assumes nothing.
-use Prim.Native.Nat.{◌-◌, ◌≤◌}
-use mathlib.Core.Path.{◌≡◌}
 use native.Mathlib.Omega.{arith}
 use Rattle.rules.specs.Rules.{last_stage}
 use Rattle.rules.specs.Lists.{rules_of}
-use Rattle.staging.specs.Inner.{StagedTo}
 use Rattle.staging.proofs.Runs.{good-share, ready-adds, ready-removes, staged-on, staged-at}
 use Rattle.staging.proofs.Turns.{last-most}
-use borrow.Author.Rules.{rules}
 use Rattle.staging.proofs.stages.run.Goals as goal
 
 pub last_step-last-requires : goal.last_step-last-requires

@@ -2,7 +2,6 @@
 use Rattle.staging.specs.Inner.{goes_by}
 use Rattle.staging.proofs.Turns.{kinds, small, table, turn-other, turn-has, turn-not, turn-shift, turn_on}
 use native.Mathlib.Omega.{arith}
-use borrow.Author.Rules.{rules}
 use Rattle.staging.proofs.stages.turn.Goals as goal
 
 pub returns-then-list-from : goal.returns-then-list-from
@@ -18,9 +17,9 @@ pub fits-fits-requires : goal.fits-fits-requires
 fits-fits-requires c = let r = c.requires.ready in
     let k = kinds _ _ _ _ _ _ _ _ r in
     let b = small _ _ _ _ _ _ _ _ r in record {
-  table = (table _ _ _ _ _ _ _ _ r, r.spares.table);
-  unit_bound = (b.1, omega (arith, k), b.0);
-}
+      table = (table _ _ _ _ _ _ _ _ r, r.spares.table);
+      unit_bound = (b.1, omega (arith, k), b.0);
+    }
 
 pub overflow_sub-kind : goal.overflow_sub-kind
 overflow_sub-kind c = omega (arith, kinds _ _ _ _ _ _ _ _ c.requires.ready)

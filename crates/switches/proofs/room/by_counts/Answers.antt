@@ -1,12 +1,10 @@
 -- `switches::room::by_counts` meets its contract: the switches passed are not too full, and what is spare at each is in its table. Assumes nothing.
-use Prim.Native.Nat.{◌-◌, ◌≤◌, ◌<◌}
+use Prim.Native.Nat.{◌<◌}
 use mathlib.Core.Path.{◌≡◌, ap}
 use Rattle.lists.specs.Lists.{table_sizes, room_at}
 use Rattle.lists.specs.declared.RuleTables.{RuleTables}
-use Rattle.rules.specs.Lists.{rules_of}
-use Rattle.switches.proofs.Fitting.{Judging, judging-start, judging-not, kept-most, judging-on, judging-end, usable-most, counts-most}
+use Rattle.switches.proofs.Fitting.{judging-start, judging-not, kept-most, judging-on, judging-end, usable-most, counts-most}
 use native.Mathlib.Omega.{arith}
-use borrow.Author.Rules.{rules}
 use Rattle.switches.proofs.room.by_counts.Goals as goal
 use Rattle.switches.proofs.room.by_counts.Goals.{After-room_at}
 

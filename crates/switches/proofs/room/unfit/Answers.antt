@@ -2,7 +2,6 @@
 use mathlib.Core.Path.{refl}
 use borrow.Author.Tests.{lt-ltb, le-ltb}
 use Rattle.switches.specs.Inner.{unfit_by}
-use borrow.Author.Rules.{rules}
 use Rattle.switches.proofs.room.unfit.Goals as goal
 
 pub returns-then-usable-kept : goal.returns-then-usable-kept

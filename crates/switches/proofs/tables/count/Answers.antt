@@ -1,15 +1,11 @@
 -- `switches::tables::count` meets its contract: the tunnels passed are counted. Assumes nothing.
-use Prim.Native.Nat.{◌-◌, ◌≤◌, ◌<◌}
+use Prim.Native.Nat.{◌<◌}
 use mathlib.Core.Path.{◌≡◌, ap, ◌∙◌}
-use mathlib.Core.Logic.{⊎_elim}
 use Rattle.lists.specs.Lists.{table_sizes, rule_at}
 use Rattle.lists.specs.declared.RuleTables.{RuleTables}
-use Rattle.rules.specs.Rules.{is_kind}
 use Rattle.rules.specs.Lists.{rules_of}
-use Rattle.switches.specs.Inner.{Counted}
 use Rattle.switches.proofs.Tallies.{counted-zero, counted-table, counted-to, kind-take, kind-skip, one_more}
 use native.Mathlib.Omega.{arith}
-use borrow.Author.Rules.{rules}
 use Rattle.switches.proofs.tables.count.Goals as goal
 use Rattle.switches.proofs.tables.count.Goals.{then-list-at, else-list-at, After-rule_at-at}
 
@@ -56,7 +52,7 @@ loop-t-preserved c = let i = here ((goal.at.loop-t-preserved c).After-rule_at-at
       low = omega (arith, c.loop-t-test.true);
       counted =
           elim c.if-list-at.branch [
-            then-list-at w ↦ rw w.counts-is (kind-take c.args.list.now _ _ _ _ i c.loop-t.invariant.counted _ w.if-list-at.true w.shift.ensures)
+            | then-list-at w ↦ rw w.counts-is (kind-take c.args.list.now _ _ _ _ i c.loop-t.invariant.counted _ w.if-list-at.true w.shift.ensures)
             | else-list-at w ↦ rw w.counts-is (kind-skip c.args.list.now _ _ _ _ i c.loop-t.invariant.counted w.if-list-at.false)
           ];
     }

@@ -1,14 +1,8 @@
 -- `switches::tables::count` meets its contract: the tunnels passed are counted. Assumes nothing.
-use Prim.Native.Nat.{◌-◌, ◌≤◌, ◌<◌}
-use mathlib.Core.Path.{◌≡◌, ap, ◌∙◌}
-use mathlib.Core.Logic.{⊎_elim}
-use Rattle.lists.specs.Lists.{table_sizes, rule_at}
-use Rattle.lists.specs.declared.RuleTables.{RuleTables}
+use Prim.Native.Nat.{◌-◌, ◌≤◌}
 use Rattle.rules.specs.Rules.{is_kind}
 use Rattle.rules.specs.Lists.{rules_of}
 use Rattle.switches.specs.Inner.{Counted}
-use Rattle.switches.proofs.Tallies.{counted-zero, counted-table, counted-to, kind-take, kind-skip, one_more}
-use native.Mathlib.Omega.{arith}
 use Rattle.switches.proofs.tables.count.Given as goal
 
 abbrev pub invariant-loop-t : goal.invariant-loop-t

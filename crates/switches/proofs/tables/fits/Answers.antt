@@ -6,8 +6,7 @@ use lib.Count.{count_trailing_zeros, trailing_le}
 use Rattle.model.proofs.Sets.{next-within}
 use Rattle.lists.specs.Lists.{at}
 use Rattle.model.specs.Limits.{most_tunnels, most_switches}
-use Rattle.switches.proofs.Shifts.{and-less, Fitting, fitting-start, fitting-on, fitting-not, fitting-end}
-use borrow.Author.Rules.{rules}
+use Rattle.switches.proofs.Shifts.{and-less, fitting-start, fitting-on, fitting-not, fitting-end}
 use Rattle.switches.proofs.tables.fits.Goals as goal
 use Rattle.switches.proofs.tables.fits.Goals.{After-shared_slice_known-in-loop-left-1, In-loop-left}
 

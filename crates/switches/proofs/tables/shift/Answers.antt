@@ -5,8 +5,7 @@ use native.Mathlib.Omega.{arith}
 use lib.Count.{count_trailing_zeros, trailing_le}
 use Rattle.lists.specs.Lists.{at}
 use Rattle.model.specs.Limits.{most_switches}
-use Rattle.switches.proofs.Shifts.{and-less, Shifting, shifting-start, next_low, next-same, shifting-on, shifting-end}
-use borrow.Author.Rules.{rules}
+use Rattle.switches.proofs.Shifts.{and-less, shifting-start, next_low, next-same, shifting-on, shifting-end}
 use Rattle.switches.proofs.tables.shift.Goals as goal
 use Rattle.switches.proofs.tables.shift.Goals.{In-loop-set}
 
