@@ -8,7 +8,7 @@ ghost use Rattle.std.specs.Io.KnownBytes.{Appends};
 mod calls;
 
 use std::io;
-use std::io::{BufWriter, Write};
+use std::io::Write;
 
 const CALLS: usize = 1000;
 
@@ -93,7 +93,7 @@ fn main(rt: HostRuntime) -> io::Result<()> {
     let calls = sequence();
     let mut answers = [0u64; 4000];
     calls::run(&calls, &mut answers);
-    let mut out = BufWriter::new(rt.alloc(), rt.stdout())?;
+    let mut out = rt.stdout();
     for i in 0..CALLS {
         let kind = calls[3 * i];
         if kind == 0 {
