@@ -9,7 +9,7 @@ use std::collections::{BTreeMap, BTreeSet};
 /// A kind of cases.
 pub struct Kind {
     pub name: &'static str,
-    /// So many cases of every 27 are of it: every operation comes up, the cheap ones more often.
+    /// So many cases of every 25 are of it: every operation comes up, the cheap ones more often. Pages have rounds of their own.
     share: u64,
     /// One case.
     pub case: fn(&mut Rng) -> Outcome,
@@ -232,7 +232,7 @@ pub static KINDS: [Kind; 15] = [
     },
     Kind {
         name: "page",
-        share: 2,
+        share: 0,
         case: call::page,
         answers: &[
             "refusal 2, network",
@@ -270,9 +270,17 @@ pub static KINDS: [Kind; 15] = [
     },
 ];
 
+/// One round of cases of so many is of pages, the one at this place.
+const ROUNDS: u64 = 13;
+const OF_PAGES: u64 = 6;
+
 /// The kind of the case with this number, as a place in `KINDS`.
 pub fn kind_of(number: u64) -> usize {
-    let mut before = number % KINDS.iter().map(|kind| kind.share).sum::<u64>();
+    let round = KINDS.iter().map(|kind| kind.share).sum::<u64>();
+    if number / round % ROUNDS == OF_PAGES {
+        return KINDS.len() - 1;
+    }
+    let mut before = number % round;
     for (place, kind) in KINDS.iter().enumerate() {
         if before < kind.share {
             return place;
@@ -358,15 +366,17 @@ mod tests {
     /// The cases of a seed stay the same as long as their kinds do.
     #[test]
     fn kinds_of_cases() {
-        let names: Vec<&str> = (0..27).map(|number| KINDS[kind_of(number)].name).collect();
+        let names: Vec<&str> = (0..25).map(|number| KINDS[kind_of(number)].name).collect();
         for (number, name) in [(0, "read_network"), (2, "read_network"), (3, "read_plan")] {
             assert_eq!(names[number], name);
         }
         for (number, name) in [(14, "step_bound"), (22, "write_rules"), (24, "stage_rules")] {
             assert_eq!(names[number], name);
         }
-        assert_eq!(names[25..], ["page"; 2]);
-        assert_eq!(kind_of(27 * 1000 + 7), kind_of(7));
+        assert_eq!(kind_of(25 * 1000 + 7), kind_of(7));
+        for number in [6 * 25, 7 * 25 - 1, (13 + 6) * 25] {
+            assert_eq!(KINDS[kind_of(number)].name, "page");
+        }
     }
 
     fn tally(answers: &[&str], differing: u64) -> Tally {
@@ -393,7 +403,7 @@ mod tests {
             assert_eq!(faults(&all, 2, true), 1);
             assert_eq!(faults(&all[1..], 0, true), 1);
             assert_eq!(faults(&all[1..], 0, false), 0);
-            let one_more = [&all[..], &["refusal 99"]].concat();
+            let one_more = [&all[..], &["refusal 11"]].concat();
             assert_eq!(faults(&one_more, 0, false), 1);
             assert_eq!(faults(&[], 1, true), 1 + all.len());
         }
