@@ -178,7 +178,7 @@ cut-walk form n c done (l ∷ ls) left s few h = go (dec_lt left (length l)) (λ
         (λ key r v f e a. real (done ++ (v ∷ [])) (left - length l) (sound_more form done v s (allows-line _ key r v f a)) few (left-more form c key r done l v left f e (omega arith) h)))
 
 -- "Both read at most 65,536 bytes of a text": no answer depends on what comes after them
-pub first-bytes : (form : Form) (text : List ℕ) → read_lines form (take most_bytes text) ≡ read_lines form text
-first-bytes form text =
+pub first_bytes : (form : Form) (text : List ℕ) → read_lines form (take most_bytes text) ≡ read_lines form text
+first_bytes form text =
     rw (read-by-turns form (take most_bytes text), read-by-turns form text, lines-take most_bytes text)
     (cut-walk form 1 0 [] (lines text) most_bytes (sound_none form) (omega arith) (omega arith))

@@ -7,11 +7,11 @@ use lib.ListN.{length, get_or}
 use Prim.Native.String.{String}
 use Rattle.forms.specs.Bytes.{bytes}
 use Rattle.forms.specs.Keys.{keys, prefix_of}
-use Rattle.forms.specs.Turns.{hashed, no-feeds}
+use Rattle.forms.specs.Turns.{hashed, no_feeds}
 use Rattle.model.proofs.Searches.{both}
 
 abbrev plain : List ℕ → Bool
-plain k = leb (length k) 9 && (no-feeds k && not (hashed k))
+plain k = leb (length k) 9 && (no_feeds k && not (hashed k))
 
 abbrev all_plain : List String → Bool
 all_plain [] = true
@@ -23,14 +23,14 @@ plain_at (k ∷ ks) zero t = (both (plain (bytes k)) (all_plain ks) t).0
 plain_at (k ∷ ks) (suc n) t = plain_at ks n (both (plain (bytes k)) (all_plain ks) t).1
 
 module _ (k : ℕ) where
-  plain-key : T (leb (length (prefix_of k)) 9) × T (no-feeds (prefix_of k) && not (hashed (prefix_of k)))
-  plain-key = both (leb (length (prefix_of k)) 9) (no-feeds (prefix_of k) && not (hashed (prefix_of k))) (plain_at keys k tt)
+  plain-key : T (leb (length (prefix_of k)) 9) × T (no_feeds (prefix_of k) && not (hashed (prefix_of k)))
+  plain-key = both (leb (length (prefix_of k)) 9) (no_feeds (prefix_of k) && not (hashed (prefix_of k))) (plain_at keys k tt)
 
   pub key-length : length (prefix_of k) ≤ 9
   key-length = leb→le _ _ plain-key.0
 
-  pub key-no-feed : T (no-feeds (prefix_of k))
-  key-no-feed = (both (no-feeds (prefix_of k)) (not (hashed (prefix_of k))) plain-key.1).0
+  pub key-no-feed : T (no_feeds (prefix_of k))
+  key-no-feed = (both (no_feeds (prefix_of k)) (not (hashed (prefix_of k))) plain-key.1).0
 
   pub key-real : T (not (hashed (prefix_of k)))
-  key-real = (both (no-feeds (prefix_of k)) (not (hashed (prefix_of k))) plain-key.1).1
+  key-real = (both (no_feeds (prefix_of k)) (not (hashed (prefix_of k))) plain-key.1).1

@@ -88,9 +88,9 @@ number_same form (l ∷ ls) (suc n) e = let p = none_first form l ls e in rw p.0
 pub plain-same : (form : Form) (text : List ℕ) → remarks form text ≡ [] → plain form text ≡ text
 plain-same form text e = plain-real form text ∙ ap flatten (filter-all form (lines text) e) ∙ lines-flatten text
 
-pub none-remarks : (form : Form) → has_remarks form ≡ false → (text : List ℕ) → plain form text ≡ text
+pub none_remarks : (form : Form) → has_remarks form ≡ false → (text : List ℕ) → plain form text ≡ text
 unfolding filter
-none-remarks form e text = plain-same form text (go (lines text))
+none_remarks form e text = plain-same form text (go (lines text))
   where
     go : (ls : List (List ℕ)) → filter (is_remark form) ls ≡ []
     go [] = refl
@@ -370,18 +370,18 @@ module _ (form : Form) (text g : List ℕ) (e : read_lines form text ≡ good g)
   pub read_real : walk line_value form 1 [] (real_lines form text) ≡ good g
   read_real = moved-good (number_in form (lines text)) _ g turns-good.1
 
-pub plain-again : (form : Form) (text : List ℕ) → plain form (plain form text) ≡ plain form text
-plain-again form text = plain-same form (plain form text) (plain-unremarked form text)
+pub plain_again : (form : Form) (text : List ℕ) → plain form (plain form text) ≡ plain form text
+plain_again form text = plain-same form (plain form text) (plain-unremarked form text)
 
 plain-read : (form : Form) (text : List ℕ) → read_lines form (plain form text) ≡ walk line_value form 1 [] (real_lines form text)
-plain-read form text = read-unremarked form (plain form text) (plain-again form text) ∙ ap (walk line_value form 1 []) (lines-plain form text)
+plain-read form text = read-unremarked form (plain form text) (plain_again form text) ∙ ap (walk line_value form 1 []) (lines-plain form text)
 
 pub remarked : (form : Form) → Remarked form
 remarked form =
     record {
       unremarked = read-unremarked form;
-      none-remarks = none-remarks form;
-      plain-again = plain-again form;
+      none_remarks = none_remarks form;
+      plain_again = plain_again form;
       passed_over = λ text o. rw (plain-read form text) (read-passed form text o);
     }
 

@@ -24,7 +24,7 @@ use Rattle.lists.proofs.Rooms.{room-good, good-room}
 use Rattle.forms.proofs.Forms.{sound_none, sound_more, small, small-set}
 use Rattle.forms.proofs.Rendering.{render-plain}
 use Rattle.forms.proofs.Values.{value-of-line, line-of-value, value-real-line, lines-written}
-use Rattle.forms.proofs.Cut.{first-bytes}
+use Rattle.forms.proofs.Cut.{first_bytes}
 use Rattle.forms.proofs.Texts.{filter}
 use Rattle.forms.proofs.Remarks.{real_lines, plain-real, plain-same, lines-plain, read-passed, read-unremarked, read-ordered, read_real, plain-longer}
 use Rattle.forms.proofs.Walks.{then-good, judged-good}
@@ -189,24 +189,24 @@ follows-read form text f =
 pub file-form : (form : Form) → FileForm form
 file-form form =
     record {
-      same-verdict = verdict form;
+      same_verdict = verdict form;
       follows = read-follows form;
       read = follows-read form;
       short = short form;
-      first-bytes = λ text. ap (λ (o : Outcome (List ℕ)). and_then o (add_up form)) (first-bytes form text);
+      first_bytes = λ text. ap (λ (o : Outcome (List ℕ)). and_then o (add_up form)) (first_bytes form text);
     }
 
 -- ---- the round trips, with room
 
-text-again : (form : Form) (text l : List ℕ) (room space : ℕ) → with_room room (read_text form text) ≡ good l → length (plain form text) ≤ space
+text_again : (form : Form) (text l : List ℕ) (room space : ℕ) → with_room room (read_text form text) ≡ good l → length (plain form text) ≤ space
     → with_room space (write_text form l) ≡ good (plain form text)
-text-again form text l room space e h =
+text_again form text l room space e h =
     let r : read_text form text ≡ good l = room-good room (read_text form text) l e in
     rw (read-good form text l r, rendered form text l r) (good-room space (plain form text) h)
 
-list-again : (form : Form) (l text : List ℕ) (space room : ℕ) → with_room space (write_text form l) ≡ good text → length l ≤ room
+list_again : (form : Form) (l text : List ℕ) (space room : ℕ) → with_room space (write_text form l) ≡ good text → length l ≤ room
     → with_room room (read_text form text) ≡ good l
-list-again form l text space room e h =
+list_again form l text space room e h =
     let p = then-good (judge_list form l) (λ g. good (render form g)) text (room-good space (write_text form l) text e) in
     let same : p.0 ≡ l = (judged-good form l p.0 p.1).same in
     let j : judge_list form l ≡ good l = p.1 ∙ ap good same in
@@ -214,4 +214,4 @@ list-again form l text space room e h =
     rw (t, good-read form l j) (good-room room l h)
 
 pub round_trip : (form : Form) → RoundTrip form
-round_trip form = record { text-again = text-again form; list-again = list-again form }
+round_trip form = record { text_again = text_again form; list_again = list_again form }

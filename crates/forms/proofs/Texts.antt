@@ -7,7 +7,7 @@ use Prim.Native.Nat.{ℕ}
 use lib.Dec.{T, eqb}
 use borrow.Author.Tests.{eqb-true}
 use Rattle.forms.specs.Line.{lines, on_first}
-use Rattle.forms.specs.Turns.{no-feeds}
+use Rattle.forms.specs.Turns.{no_feeds}
 
 flatten-first : (b : ℕ) (ls : List (List ℕ)) → flatten (on_first b ls) ≡ b ∷ flatten ls
 unfolding flatten on_first
@@ -23,12 +23,12 @@ lines-flatten (b ∷ t) = go (eqb b 10) (lines-flatten t)
     go true h = ap (λ (l : List ℕ). b ∷ l) h
     go false h = flatten-first b (lines t) ∙ ap (λ (l : List ℕ). b ∷ l) h
 
-pub lines-line : (x rest : List ℕ) → T (no-feeds x) → lines (x ++ (10 ∷ []) ++ rest) ≡ (x ++ (10 ∷ [])) ∷ lines rest
+pub lines-line : (x rest : List ℕ) → T (no_feeds x) → lines (x ++ (10 ∷ []) ++ rest) ≡ (x ++ (10 ∷ [])) ∷ lines rest
 unfolding lines on_first
 lines-line [] rest h = refl
 lines-line (b ∷ x) rest h = go (eqb b 10) h (lines-line x rest)
   where
-    go : (e : Bool) → T (not e && no-feeds x) → (T (no-feeds x) → lines (x ++ (10 ∷ []) ++ rest) ≡ (x ++ (10 ∷ [])) ∷ lines rest)
+    go : (e : Bool) → T (not e && no_feeds x) → (T (no_feeds x) → lines (x ++ (10 ∷ []) ++ rest) ≡ (x ++ (10 ∷ [])) ∷ lines rest)
         → cond e ((b ∷ []) ∷ lines (x ++ (10 ∷ []) ++ rest)) (on_first b (lines (x ++ (10 ∷ []) ++ rest))) ≡ (b ∷ (x ++ (10 ∷ []))) ∷ lines rest
     go true h f = absurd h
     go false h f = rw (f h)
@@ -42,7 +42,7 @@ filter p (l ∷ ls) = cond (p l) (l ∷ filter p ls) (filter p ls)
 -- a line that ends with its only line feed
 record Fed (l : List ℕ) : Type 0 where
   before : List ℕ
-  clean : T (no-feeds before)
+  clean : T (no_feeds before)
   is : l ≡ before ++ (10 ∷ [])
 
 -- lines as a text has them: the last may lack its line feed

@@ -10,7 +10,7 @@ use borrow.Author.Tests.{ne_eqb}
 use Rattle.model.proofs.Searches.{and-false}
 use Rattle.forms.specs.Keys.{prefix_of}
 use Rattle.forms.specs.Line.{lines, is_remark, value_part, decimal_of, hex_of, line_value}
-use Rattle.forms.specs.Turns.{hashed, no-feeds}
+use Rattle.forms.specs.Turns.{hashed, no_feeds}
 use Rattle.forms.specs.Form.{is_hex, has_remarks}
 use Rattle.forms.specs.Write.{digit_char, digits_in, width_of, value_digits, line_of}
 use Rattle.forms.specs.declared.form.Form.{Form}
@@ -44,11 +44,11 @@ line-of-value k r l v e =
 
 -- ---- what is written has no line feed but at the end of each line
 
-no-feeds-append : (x y : List ℕ) → T (no-feeds x) → T (no-feeds y) → T (no-feeds (x ++ y))
+no-feeds-append : (x y : List ℕ) → T (no_feeds x) → T (no_feeds y) → T (no_feeds (x ++ y))
 no-feeds-append [] y p q = q
 no-feeds-append (b ∷ x) y p q = go (not (eqb b 10)) p (λ h. no-feeds-append x y h q)
   where
-    go : (e : Bool) → T (e && no-feeds x) → (T (no-feeds x) → T (no-feeds (x ++ y))) → T (e && no-feeds (x ++ y))
+    go : (e : Bool) → T (e && no_feeds x) → (T (no_feeds x) → T (no_feeds (x ++ y))) → T (e && no_feeds (x ++ y))
     go true h f = f h
     go false h f = h
 
@@ -60,15 +60,15 @@ char-other x b h = go (ltb x 10)
     go true = ne_eqb (48 + x) b (λ e. omega arith)
     go false = ne_eqb (87 + x) b (λ e. omega arith)
 
-digits-no-feed : (base n v : ℕ) → T (no-feeds (digits_in base n v))
+digits-no-feed : (base n v : ℕ) → T (no_feeds (digits_in base n v))
 unfolding digits_in
 digits-no-feed base zero v = tt
 digits-no-feed base (suc n) v = rw (char-other (v / base ^ n % base) 10 (omega arith)) (digits-no-feed base n v)
 
-value-no-feed : (r : Range) (v : ℕ) → T (no-feeds (value_digits r v))
+value-no-feed : (r : Range) (v : ℕ) → T (no_feeds (value_digits r v))
 value-no-feed r v = go (is_hex r)
   where
-    go : (hex : Bool) → T (no-feeds (cond hex (digits_in 16 16 v) (digits_in 10 (width_of v) v)))
+    go : (hex : Bool) → T (no_feeds (cond hex (digits_in 16 16 v) (digits_in 10 (width_of v) v)))
     go true = digits-no-feed 16 16 v
     go false = digits-no-feed 10 (width_of v) v
 

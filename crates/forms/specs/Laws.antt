@@ -20,9 +20,9 @@ pub record Remarked (form : Form) : Type 0 where
   -- without remarks a text is read as it was before there were any
   pub unremarked : (text : List ℕ) → plain form text ≡ text → read_lines form text ≡ walk line_value form 1 [] (lines text)
   -- all texts of a form that has no remarks are such texts
-  pub none-remarks : has_remarks form ≡ false → (text : List ℕ) → plain form text ≡ text
+  pub none_remarks : has_remarks form ≡ false → (text : List ℕ) → plain form text ≡ text
   -- and so is what remarks are taken from
-  pub plain-again : (text : List ℕ) → plain form (plain form text) ≡ plain form text
+  pub plain_again : (text : List ℕ) → plain form (plain form text) ≡ plain form text
   -- where its remarks are in order a text is read as the plain text; a refusal names the line by its number in the text
   pub passed_over : (text : List ℕ) → InOrder form text → read_lines form text ≡ moved (number_in form (lines text)) (read_lines form (plain form text))
 
@@ -42,20 +42,20 @@ most_bytes = 65536
 -- a text is read exactly when it follows the file form
 pub record FileForm (form : Form) : Type 0 where
   -- the numbers that a text's lines give are judged good as a list, with the same verdict on the sums
-  pub same-verdict : (text l : List ℕ) → read_lines form text ≡ good l → (judge_numbers form l ≡ good l) × (read_text form text ≡ judge_list form l)
+  pub same_verdict : (text l : List ℕ) → read_lines form text ≡ good l → (judge_numbers form l ≡ good l) × (read_text form text ≡ judge_list form l)
   -- what is read follows the form, and what follows the form is read
   pub follows : (text l : List ℕ) → read_text form text ≡ good l → Follows form text
   pub read : (text : List ℕ) (f : Follows form text) → read_text form text ≡ good f.list
   -- and no such text is longer than a program reads, remarks included; what a program does not read of any text changes no answer
   pub short : (text l : List ℕ) → read_text form text ≡ good l → length text ≤ most_bytes
-  pub first-bytes : (text : List ℕ) → read_text form (take most_bytes text) ≡ read_text form text
+  pub first_bytes : (text : List ℕ) → read_text form (take most_bytes text) ≡ read_text form text
 
 -- the two round trips, over what the operations come to with the room that is lent to each
 pub record RoundTrip (form : Form) : Type 0 where
   -- for every text that a reader takes, writing the list that it gives yields that text: "a text with remarks comes back without
   -- them, and others as today"
-  pub text-again : (text l : List ℕ) (room space : ℕ) → with_room room (read_text form text) ≡ good l → length (plain form text) ≤ space
+  pub text_again : (text l : List ℕ) (room space : ℕ) → with_room room (read_text form text) ≡ good l → length (plain form text) ≤ space
       → with_room space (write_text form l) ≡ good (plain form text)
   -- for every good list with room, reading what the writer writes yields the list
-  pub list-again : (l text : List ℕ) (space room : ℕ) → with_room space (write_text form l) ≡ good text → length l ≤ room
+  pub list_again : (l text : List ℕ) (space room : ℕ) → with_room space (write_text form l) ≡ good text → length l ≤ room
       → with_room room (read_text form text) ≡ good l

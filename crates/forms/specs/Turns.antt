@@ -14,9 +14,9 @@ abbrev pub itself : ℕ → Range → ℕ → Option ℕ
 itself k r v = some v
 
 -- no byte is a line feed
-abbrev pub no-feeds : List ℕ → Bool
-no-feeds [] = true
-no-feeds (b ∷ l) = not (eqb b 10) && no-feeds l
+abbrev pub no_feeds : List ℕ → Bool
+no_feeds [] = true
+no_feeds (b ∷ l) = not (eqb b 10) && no_feeds l
 
 -- a line begins with `#`
 abbrev pub hashed : List ℕ → Bool

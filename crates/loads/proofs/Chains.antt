@@ -130,7 +130,7 @@ module _ (links : ℕ) (vias prior : List ℕ) (m : ℕ) (amounts : List ℕ) wh
     pub low : from ≤ m
     pub size : length sums ≡ sums_size
     pub most : (l k : ℕ) → l < links → k < block_rows → at sums (number_at l k) + from * (most_amount * most_steps) ≤ m * (most_amount * most_steps)
-    pub links-of : set < 2 ^ links
+    pub links_of : set < 2 ^ links
     pub outside : (l k : ℕ) → l < links → k < block_rows → in_set set l ≡ false → at sums (number_at l k) ≡ 0
     pub left : (c : ℕ → Bool) (n : ℕ) → Chain c prior n m → Left c n from sums
 
@@ -141,7 +141,7 @@ module _ (links : ℕ) (vias prior : List ℕ) (m : ℕ) (amounts : List ℕ) wh
         low = omega arith;
         size = z.size ∙ h;
         most = λ l k hl hk. omega (arith, zero-at l k hl hk);
-        links-of = pow_pos links;
+        links_of = pow_pos links;
         outside = λ l k hl hk _. zero-at l k hl hk;
         left = λ c n g. record {
           own = g.start.own;
@@ -152,7 +152,7 @@ module _ (links : ℕ) (vias prior : List ℕ) (m : ℕ) (amounts : List ℕ) wh
   pub walk_end : (from set : ℕ) (s : List ℕ) → m ≤ most_tunnels → from ≡ 0 → Walking from set s → ChainSums links vias prior m amounts set s
   walk_end from set s few e w = record {
     within = record { size = w.size; most = λ l k hl hk. omega (arith, w.most l k hl hk, few) };
-    links-of = w.links-of;
+    links_of = w.links_of;
     outside = w.outside;
     each = λ c n h l k hl hk.
         omega (
@@ -173,7 +173,7 @@ module _ (links : ℕ) (vias prior : List ℕ) (m : ℕ) (amounts : List ℕ) wh
         let there : (l k : ℕ) → number_at (1 * l + 0) k ≡ number_at l k = λ l k. omega arith in
         record {
           few = (a.few.0, omega arith, omega arith);
-          links-of = a.sets.each t walk-tunnel;
+          links_of = a.sets.each t walk-tunnel;
           source = record { few = omega (arith, walk-tunnel, a.few); room = omega (arith, walk-tunnel, a.few, a.table.size) };
           target = record { few = omega (arith, a.few); room = omega (arith, a.few, w.size) };
           fits = λ l k hl hk. rw (there l k) (omega (arith, w.most l k hl hk, a.table.within t k walk-tunnel hk, a.few));
@@ -198,7 +198,7 @@ module _ (links : ℕ) (vias prior : List ℕ) (m : ℕ) (amounts : List ℕ) wh
               down.each t walk-tunnel,
               e,
             );
-        links-of = or_lt links set (at vias t) w.links-of (a.sets.each t walk-tunnel);
+        links_of = or_lt links set (at vias t) w.links_of (a.sets.each t walk-tunnel);
         outside = λ l k hl hk o.
             let out = or-outside set (at vias t) l o in
             added l k hl hk ∙ omega (arith, w.outside l k hl hk out.0, ap (λ (x : Bool). cond x (amount k t) 0) out.1);

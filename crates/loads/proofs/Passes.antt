@@ -111,7 +111,7 @@ module _ (links : ℕ) (vias classes amounts : List ℕ) where
       → AddableOn links amounts t (at vias t) s 2 part
   loads-room n t part s ht hn few hp sets small g = record {
     few = (few, hp, omega arith);
-    links-of = sets.each t ht;
+    links_of = sets.each t ht;
     source = record { few = omega arith; room = omega (arith, small.size) };
     target = record { few = omega arith; room = omega (arith, g.size) };
     fits = λ l k hl hk. omega (arith, (loads-within t n n s (omega arith) (omega arith) small g).most part l k hp hl hk, small.within t k ht hk);

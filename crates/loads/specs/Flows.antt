@@ -49,7 +49,7 @@ pub record SumsWithin (links : ℕ) (sums : List ℕ) : Type 0 where
 -- what the tunnels of the chain from m gather in each row: none but on the links of a set
 pub record ChainSums (links : ℕ) (vias prior : List ℕ) (m : ℕ) (amounts : List ℕ) (set : ℕ) (sums : List ℕ) : Type 0 where
   pub within : SumsWithin links sums
-  pub links-of : set < 2 ^ links
+  pub links_of : set < 2 ^ links
   pub outside : (l k : ℕ) → l < links → k < block_rows → in_set set l ≡ false → at sums (number_at l k) ≡ 0
   pub each : (c : ℕ → Bool) (n : ℕ) → Chain c prior n m → (l k : ℕ) → l < links → k < block_rows
       → at sums (number_at l k) ≡ gathered (at vias) c (λ t. at amounts (number_at t k)) n l

@@ -75,7 +75,7 @@ pub record VectorAdded (j : ℕ) (x : ℕ → ℕ) (s s' : List ℕ) : Type 0 wh
 -- vector t can be added to that of each link of a set, which is so many times the link's number, and so many, on: there is room enough to add it twice
 pub record AddableOn (links : ℕ) (amounts : List ℕ) (t via : ℕ) (to : List ℕ) (times on : ℕ) : Type 0 where
   pub few : (links ≤ most_links) × (on < times) × (times ≤ 2)
-  pub links-of : via < 2 ^ links
+  pub links_of : via < 2 ^ links
   pub source : Vectors (t + 1) amounts
   pub target : Vectors (times * links) to
   pub fits : (l k : ℕ) → l < links → k < block_rows → at to (number_at (times * l + on) k) + 2 * at amounts (number_at t k) < 2 ^ 64

@@ -18,7 +18,7 @@ use Rattle.model.specs.Claim.{Valid}
 use Rattle.model.proofs.Searches.{only-true, only-some, only_none, first-none, first_some, first-least, none_true, not-false, and-true}
 use Rattle.model.proofs.Movers.{load-mono, load-add}
 use Rattle.model.proofs.Choices.{factor, room}
-use Rattle.model.proofs.Evens.{either, even-accepted}
+use Rattle.model.proofs.Evens.{either, even_accepted}
 use Rattle.model.specs.Search.{only_if}
 
 -- ---- what is rounded up
@@ -179,7 +179,7 @@ pub bounded : (w : ℕ) (N : Net) → 1 ≤ w → Valid N → keeps_scratch N �
 bounded w N pos v k most =
     let en = enough w N.scratch N.overrun pos v.scratch in
     let small : N.scratch ≤ 1000 = omega (arith, v.scratch) in
-    let f = fewest-least w N _ en.pos most ((even-accepted w N v.sums _).1 (ends-kept w N _ pos k small en)) in
+    let f = fewest-least w N _ en.pos most ((even_accepted w N v.sums _).1 (ends-kept w N _ pos k small en)) in
     (f.0, f.1, (fewest-some w N f.0 f.1).2, f.2)
 
 -- ---- at a lag of 1

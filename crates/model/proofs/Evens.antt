@@ -100,9 +100,9 @@ even-kept w N q = (
       kept-mono N b q l (rw (even-load w N b l q i hi) (end-most w N b l q i hi)) (le-kept N b q l _ (k l hl b))),
 )
 
-pub even-accepted : (w : ℕ) (N : Net) → missed_rate N ≡ none → (q : ℕ)
+pub even_accepted : (w : ℕ) (N : Net) → missed_rate N ≡ none → (q : ℕ)
     → (accepted w N (even N q) ≡ true) ↔ ((l : ℕ) → l < N.links → (b : Bound) → factor b * end_load w N b q l ≤ q * room N b l)
-even-accepted w N e q = (
+even_accepted w N e q = (
   λ a. (even-kept w N q).0 ((accepted-both w N (even N q)).0 a).1,
   λ k. (accepted-both w N (even N q)).1 (even-adds-up N q e, (even-kept w N q).1 k),
 )
@@ -111,8 +111,8 @@ pub three-sums : ThreeSums
 unfolding factor room
 three-sums = record {
   accepted = λ w N e q. (
-    λ a l hl. let k = (even-accepted w N e q).0 a l hl in (omega (arith, k Bound.protected), omega (arith, k Bound.total)),
-    λ k. (even-accepted w N e q).1 (each w N q k),
+    λ a l hl. let k = (even_accepted w N e q).0 a l hl in (omega (arith, k Bound.protected), omega (arith, k Bound.total)),
+    λ k. (even_accepted w N e q).1 (each w N q k),
   );
   overload = even-overload;
 }

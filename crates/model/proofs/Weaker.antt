@@ -67,9 +67,9 @@ unit-weaker w N P valid =
     passes w w (with_unit 0 N) (with_unit 1 N) P refl refl
     (λ i l h b. (i, h, λ e. kept-mono (with_unit 1 N) b P.parts l (unit-load w N P i l valid b) (same-bound N 1 0 b P.parts l _ ∙ e)))
 
-unit-steps : (w : ℕ) (N : Net) (q : ℕ) → InFlows N → fewest w (with_unit 0 N) ≡ some q → (p : ℕ) × (fewest w (with_unit 1 N) ≡ some p) × (p ≤ q)
+unit_steps : (w : ℕ) (N : Net) (q : ℕ) → InFlows N → fewest w (with_unit 0 N) ≡ some q → (p : ℕ) × (fewest w (with_unit 1 N) ≡ some p) × (p ≤ q)
 unfolding even even_row with_unit
-unit-steps w N q valid e =
+unit_steps w N q valid e =
     let s = fewest-some w (with_unit 0 N) q e in
     fewest-least w (with_unit 1 N) q s.0 s.1 (unit-weaker w N (even N q) valid s.2)
 
@@ -98,7 +98,7 @@ lag-weaker w v N P h =
     (λ i l k b. let s = inside w v N P i h k in (s.0, s.1, λ e. kept-mono N b P.parts l (lag-load w v N P i s.0 l b s.2 s.3) e))
 
 pub weaker : Weaker
-weaker = record { unit = unit-weaker; unit-steps = unit-steps; lag = lag-weaker }
+weaker = record { unit = unit-weaker; unit_steps = unit_steps; lag = lag-weaker }
 
 -- ---- what does not read the unit
 

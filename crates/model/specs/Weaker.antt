@@ -13,7 +13,7 @@ pub record Weaker : Type 0 where
   -- "What passes with `unit=0` passes with `unit=1`"
   pub unit : (w : ℕ) (N : Net) (P : Plan) → InFlows N → accepted w (with_unit 0 N) P ≡ true → accepted w (with_unit 1 N) P ≡ true
   -- so its fewest even steps are no more
-  pub unit-steps : (w : ℕ) (N : Net) (q : ℕ) → InFlows N → fewest w (with_unit 0 N) ≡ some q → (p : ℕ) × (fewest w (with_unit 1 N) ≡ some p) × (p ≤ q)
+  pub unit_steps : (w : ℕ) (N : Net) (q : ℕ) → InFlows N → fewest w (with_unit 0 N) ≡ some q → (p : ℕ) × (fewest w (with_unit 1 N) ≡ some p) × (p ≤ q)
   -- "passing with w means passing with less"
   pub lag : (w v : ℕ) (N : Net) (P : Plan) → v ≤ w → accepted w N P ≡ true → accepted v N P ≡ true
 

@@ -15,7 +15,7 @@ fn lent(
     counters: &[u32; 8],
     last: u8,
 ) -> Desks
-    ensures { result ≡ record { numbers = numbers.entry.now; tags = tags.now; oldest = oldest.now; waiting = waiting.now; counters = counters.now; last = last } }
+    ensures { result ≡ record { numbers = numbers.now; tags = tags.now; oldest = oldest.now; waiting = waiting.now; counters = counters.now; last = last } }
 {
     let n = *numbers;
     let t = *tags;
@@ -42,7 +42,7 @@ fn leave(
     counters: &mut [u32; 8],
     last: &mut u8,
 )
-    ensures { record { numbers = numbers.exit.now; tags = tags.new; oldest = oldest.new; waiting = waiting.new; counters = counters.new; last = last.new } ≡ s }
+    ensures { record { numbers = numbers.new; tags = tags.new; oldest = oldest.new; waiting = waiting.new; counters = counters.new; last = last.new } ≡ s }
 {
     let n = s.numbers;
     let t = s.tags;
@@ -67,7 +67,7 @@ pub extern "C" fn pavuneshil_none_waiting(
     counters: &mut [u32; 8],
     last: &mut u8,
 )
-    ensures { seen (record { numbers = numbers.exit.now; tags = tags.new; oldest = oldest.new; waiting = waiting.new; counters = counters.new; last = last.new }) ≡ empty }
+    ensures { seen (record { numbers = numbers.new; tags = tags.new; oldest = oldest.new; waiting = waiting.new; counters = counters.new; last = last.new }) ≡ empty }
 {
     leave(
         desks::none_waiting(),
@@ -93,9 +93,9 @@ pub extern "C" fn pavuneshil_submit(
     tag: u32,
     answer: &mut [u64; 4],
 )
-    ensures answer_after { answer.new ≡ four_of_acceptance (told_acceptance (submitted desk tag (seen (record { numbers = numbers.entry.now; tags = tags.old; oldest = oldest.old; waiting = waiting.old; counters = counters.old; last = last.old }))).answer) }
-    ensures last_after { seen (record { numbers = numbers.exit.now; tags = tags.new; oldest = oldest.new; waiting = waiting.new; counters = counters.new; last = last.new }) ≡ (submitted desk tag (seen (record { numbers = numbers.entry.now; tags = tags.old; oldest = oldest.old; waiting = waiting.old; counters = counters.old; last = last.old }))).state }
-    ensures untouched { Untouched (submitted desk tag (seen (record { numbers = numbers.entry.now; tags = tags.old; oldest = oldest.old; waiting = waiting.old; counters = counters.old; last = last.old }))).answer (record { numbers = numbers.entry.now; tags = tags.old; oldest = oldest.old; waiting = waiting.old; counters = counters.old; last = last.old }) (record { numbers = numbers.exit.now; tags = tags.new; oldest = oldest.new; waiting = waiting.new; counters = counters.new; last = last.new }) }
+    ensures answer_after { answer.new ≡ four_of_acceptance (told_acceptance (submitted desk tag (seen (record { numbers = numbers.old; tags = tags.old; oldest = oldest.old; waiting = waiting.old; counters = counters.old; last = last.old }))).answer) }
+    ensures last_after { seen (record { numbers = numbers.new; tags = tags.new; oldest = oldest.new; waiting = waiting.new; counters = counters.new; last = last.new }) ≡ (submitted desk tag (seen (record { numbers = numbers.old; tags = tags.old; oldest = oldest.old; waiting = waiting.old; counters = counters.old; last = last.old }))).state }
+    ensures untouched { Untouched (submitted desk tag (seen (record { numbers = numbers.old; tags = tags.old; oldest = oldest.old; waiting = waiting.old; counters = counters.old; last = last.old }))).answer (record { numbers = numbers.old; tags = tags.old; oldest = oldest.old; waiting = waiting.old; counters = counters.old; last = last.old }) (record { numbers = numbers.new; tags = tags.new; oldest = oldest.new; waiting = waiting.new; counters = counters.new; last = last.new }) }
 {
     let s = lent(numbers, tags, oldest, waiting, counters, *last);
     let r = desks::submit(s, desk, tag);
@@ -115,9 +115,9 @@ pub extern "C" fn pavuneshil_hand_out(
     last: &mut u8,
     answer: &mut [u64; 4],
 )
-    ensures answer_after { answer.new ≡ four_of_job (told_job (handed_out (seen (record { numbers = numbers.entry.now; tags = tags.old; oldest = oldest.old; waiting = waiting.old; counters = counters.old; last = last.old }))).answer) }
-    ensures last_after { seen (record { numbers = numbers.exit.now; tags = tags.new; oldest = oldest.new; waiting = waiting.new; counters = counters.new; last = last.new }) ≡ (handed_out (seen (record { numbers = numbers.entry.now; tags = tags.old; oldest = oldest.old; waiting = waiting.old; counters = counters.old; last = last.old }))).state }
-    ensures untouched { Untouched (handed_out (seen (record { numbers = numbers.entry.now; tags = tags.old; oldest = oldest.old; waiting = waiting.old; counters = counters.old; last = last.old }))).answer (record { numbers = numbers.entry.now; tags = tags.old; oldest = oldest.old; waiting = waiting.old; counters = counters.old; last = last.old }) (record { numbers = numbers.exit.now; tags = tags.new; oldest = oldest.new; waiting = waiting.new; counters = counters.new; last = last.new }) }
+    ensures answer_after { answer.new ≡ four_of_job (told_job (handed_out (seen (record { numbers = numbers.old; tags = tags.old; oldest = oldest.old; waiting = waiting.old; counters = counters.old; last = last.old }))).answer) }
+    ensures last_after { seen (record { numbers = numbers.new; tags = tags.new; oldest = oldest.new; waiting = waiting.new; counters = counters.new; last = last.new }) ≡ (handed_out (seen (record { numbers = numbers.old; tags = tags.old; oldest = oldest.old; waiting = waiting.old; counters = counters.old; last = last.old }))).state }
+    ensures untouched { Untouched (handed_out (seen (record { numbers = numbers.old; tags = tags.old; oldest = oldest.old; waiting = waiting.old; counters = counters.old; last = last.old }))).answer (record { numbers = numbers.old; tags = tags.old; oldest = oldest.old; waiting = waiting.old; counters = counters.old; last = last.old }) (record { numbers = numbers.new; tags = tags.new; oldest = oldest.new; waiting = waiting.new; counters = counters.new; last = last.new }) }
 {
     let s = lent(numbers, tags, oldest, waiting, counters, *last);
     let r = desks::hand_out(s);

@@ -1,5 +1,5 @@
 //! The seven operations, the page and sharing for C and Rust, and in modules of their own the desks and the operations on rule tables:
-//! `rt staticlib pavuneshil` makes libpavuneshil.a of them. Each has no precondition.
+//! `rt lib` in this folder makes libpavuneshil.a of them. Each has no precondition.
 //! A slice passes as a pointer and a length, `answer` as a pointer to four numbers: the kind, then the values, as `four`
 //! gives them. What is lent is left as the operations leave it.
 #![tactic(auto)]

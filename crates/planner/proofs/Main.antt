@@ -170,10 +170,10 @@ unfolding Option-elim
 nine-by-fewest w N none p s e = refl
 nine-by-fewest w N (some q) p s e = let z : ◌≡◌ {A = ℕ} 0 1 = cc in absurd (omega arith)
 
-pub nine-only : (w : ℕ) (l : List ℕ) (place second : ℕ) → planned w l ≡ refused no_even_plan place second
+pub nine_only : (w : ℕ) (l : List ℕ) (place second : ℕ) → planned w l ≡ refused no_even_plan place second
     → (judge_network l ≡ good l) × ((q : ℕ) → 1 ≤ q → q ≤ most_steps → accepted w (network_of l) (even (network_of l) q) ≡ false)
 unfolding even_plan
-nine-only w l place second e =
+nine_only w l place second e =
     let n = planned-nine w l place second e in
     (n.0, model.fewest-none w (network_of l) (nine-by-fewest w (network_of l) (fewest w (network_of l)) place second n.1))
 
@@ -196,4 +196,4 @@ bounded w l lag j k most =
     )
 
 pub claim : Claim
-claim = record { outside = planned-outside; safe = safe; fewest = fewest-steps; nine = nine; nine-only = nine-only; bounded = bounded }
+claim = record { outside = planned-outside; safe = safe; fewest = fewest-steps; nine = nine; nine_only = nine_only; bounded = bounded }

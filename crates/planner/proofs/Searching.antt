@@ -20,7 +20,7 @@ use Rattle.model.specs.ThreeSums.{old_load, new_load, peak_load, step_load, end_
 use Rattle.model.proofs.Searches.{bool_cases, only-true, only-false, first-zero, first_on, first-at}
 use Rattle.model.proofs.Scans.{link-protected, link-total, link-neither, scan-at, scan-end, test_step}
 use Rattle.model.proofs.Choices.{factor, room, kept-le, le-kept}
-use Rattle.model.proofs.Evens.{even-load, even-accepted}
+use Rattle.model.proofs.Evens.{even-load, even_accepted}
 use Rattle.lists.specs.Answers.{plan}
 use Rattle.lists.specs.Lists.{network_sizes, network_of}
 use Rattle.lists.specs.declared.Answer.TheVariants.{Refused}
@@ -65,7 +65,7 @@ module _ (w : ℕ) (N : Net) (q l : ℕ) where
   not-accepted r hl e =
       ⊎_elim
       (λ a.
-      let kept : (b : Bound) → exceeds N b q l (end_load w N b q l) ≡ false = λ b. le-kept N b q l _ ((even-accepted w N r q).0 a l hl b) in
+      let kept : (b : Bound) → exceeds N b q l (end_load w N b q l) ≡ false = λ b. le-kept N b q l _ ((even_accepted w N r q).0 a l hl b) in
       absurd (true≢false (sym e ∙ ap₂ ◌||◌ (kept Bound.protected) (kept Bound.total))))
       (λ f. f)
       (bool_cases (accepted w N (even N q)))
@@ -158,7 +158,7 @@ module _ (w : ℕ) (N : Net) where
   kept_more q k pos h = record { each = λ l less b. rw (add-one q) (more-steps w N b q l pos (h.each l less b)) }
 
   pub all-kept : (q k : ℕ) → missed_rate N ≡ none → N.links ≤ k → Kept q k → accepted w N (even N q) ≡ true
-  all-kept q k r h kept = (even-accepted w N r q).1 (λ l hl b. kept.each l (omega arith) b)
+  all-kept q k r h kept = (even_accepted w N r q).1 (λ l hl b. kept.each l (omega arith) b)
 
 -- ---- where the plan of 50 steps overloads
 

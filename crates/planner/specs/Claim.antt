@@ -49,7 +49,7 @@ pub record Claim : Type 0 where
       → ((q : ℕ) → 1 ≤ q → q ≤ most_steps → accepted w (network_of l) (even (network_of l) q) ≡ false)
       → (o : Overload) × (first_overload w (network_of l) (even (network_of l) most_steps) ≡ some o) × (planned w l ≡ refused no_even_plan (step o) o.link)
   -- and only then
-  pub nine-only : (w : ℕ) (l : List ℕ) (place second : ℕ) → planned w l ≡ refused no_even_plan place second
+  pub nine_only : (w : ℕ) (l : List ℕ) (place second : ℕ) → planned w l ≡ refused no_even_plan place second
       → (judge_network l ≡ good l) × ((q : ℕ) → 1 ≤ q → q ≤ most_steps → accepted w (network_of l) (even (network_of l) q) ≡ false)
   -- a network that keeps its scratch: "for these the planner, given the room, returns a plan, and its steps are the number on that plan's `steps` line",
   -- "at most ceil(w × (1000 - scratch)/scratch) steps, or, with overrun, ceil(1000 × w/overrun) if larger, wherever this is 50 or less"

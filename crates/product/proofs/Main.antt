@@ -123,9 +123,9 @@ valid form l (as-text text e) = read-good form text l e
 pub returned : (w : ℕ) (n p out : List ℕ) → planned w n ≡ good p → length p ≤ length out → Returns w n p out
 returned w n p out e h = (simp (e, le-leb (length p) (length out) h), simp (e, le-leb (length p) (length out) h))
 
-bounded-lag : (w : ℕ) (n : List ℕ) → is_lag w ≡ true → Valid Form.Network n → keeps_scratch (network_of n) ≡ true → lag_bound w (network_of n).scratch (network_of n).overrun ≤ most_steps
+bounded_lag : (w : ℕ) (n : List ℕ) → is_lag w ≡ true → Valid Form.Network n → keeps_scratch (network_of n) ≡ true → lag_bound w (network_of n).scratch (network_of n).overrun ≤ most_steps
     → (p : List ℕ) × ((plan_of p).steps ≤ lag_bound w (network_of n).scratch (network_of n).overrun) × ((out : List ℕ) → length p ≤ length out → Returns w n p out)
-bounded-lag w n lag v k most = let b = (planner.claim).bounded w n lag (valid Form.Network n v) k most in (b.0, b.3, λ out h. returned w n b.0 out b.1 h)
+bounded_lag w n lag v k most = let b = (planner.claim).bounded w n lag (valid Form.Network n v) k most in (b.0, b.3, λ out h. returned w n b.0 out b.1 h)
 
 -- the case of a lag of 1
 bounded : (n : List ℕ) → Valid Form.Network n → keeps_scratch (network_of n) ≡ true
@@ -134,7 +134,7 @@ unfolding network_of
 bounded n v k =
     let g = (good-network n n (valid Form.Network n v)).1.ranges in
     let e = bound-today (network_of n).scratch (network_of n).overrun (omega (arith, g.scratch.0)) (omega (arith, g.scratch.1)) in
-    let b = bounded-lag 1 n refl v k (omega (arith, e, bound-most (network_of n).scratch (network_of n).overrun g.scratch.0 g.overrun)) in
+    let b = bounded_lag 1 n refl v k (omega (arith, e, bound-most (network_of n).scratch (network_of n).overrun g.scratch.0 g.overrun)) in
     (b.0, omega (arith, e, b.1), b.2)
 
 -- and what the planner returns is what it comes to
@@ -170,9 +170,9 @@ demand3 = record {
   found = λ w n p marks lag vn vp et er hr i l hi hl c b e.
       let f = checker.found w n p (length marks) (record { lag = lag; network = valid Form.Network n vn; plan = valid Form.Plan p vp; tunnels = et; rows = er; room = hr }) i l hi hl c b e in
       (f.0.bound, step f.0, f.0.link, ap (checked n) f.1);
-  bounded-lag = bounded-lag;
+  bounded_lag = bounded_lag;
   bounded = λ n v k z. let r = bounded n v k in (r.0, subst (λ (m : ℕ). (plan_of r.0).steps ≤ step_bound (network_of n).scratch m) z r.1, r.2);
-  bounded-overrun = bounded;
+  bounded_overrun = bounded;
 }
 
 -- ---- what the planner returns, the checker accepts

@@ -35,8 +35,8 @@ module _ (w : ℕ) (lag : is_lag w ≡ true) (n : List ℕ) (room : ℕ) (j : ju
       let e = planner.even-listed w n j q one most in
       weighed w n (even_list (network_of n) q) room (record { lag = lag; network = j; plan = e.judged; tunnels = e.tunnels; rows = e.rows; room = h }) ∙ ap good e.overload
 
-  even-accepted : (q : ℕ) → 1 ≤ q → q ≤ most_steps → Accepts w n (even_list (network_of n) q) room ↔ (accepted w (network_of n) (even (network_of n) q) ≡ true)
-  even-accepted q one most = (
+  even_accepted : (q : ℕ) → 1 ≤ q → q ≤ most_steps → Accepts w n (even_list (network_of n) q) room ↔ (accepted w (network_of n) (even (network_of n) q) ≡ true)
+  even_accepted q one most = (
     λ a. (accepted-both w (network_of n) (even (network_of n) q)).1 (
       even-adds-up (network_of n) q (good-network n n j).1.sums,
       good-same _ _ (sym (even-verdict q one most) ∙ main.done_none n (verdict w n (even_list (network_of n) q) room) (network_of n).tunnels a),
@@ -47,10 +47,10 @@ module _ (w : ℕ) (lag : is_lag w ≡ true) (n : List ℕ) (room : ℕ) (j : ju
   -- the model's "none is accepted" is the checker's
   none-modelled : NoneAccepted w n room (λ q. q ≤ most_steps) → (q : ℕ) → 1 ≤ q → q ≤ most_steps → accepted w (network_of n) (even (network_of n) q) ≡ false
   none-modelled refuses q one most =
-      ⊎_elim (λ t. absurd (refuses q one most ((even-accepted q one most).1 t))) (λ f. f) (bool_cases (accepted w (network_of n) (even (network_of n) q)))
+      ⊎_elim (λ t. absurd (refuses q one most ((even_accepted q one most).1 t))) (λ f. f) (bool_cases (accepted w (network_of n) (even (network_of n) q)))
 
   none-checked : (q : ℕ) → 1 ≤ q → q ≤ most_steps → accepted w (network_of n) (even (network_of n) q) ≡ false → Accepts w n (even_list (network_of n) q) room → ⊥
-  none-checked q one most f a = true≢false (sym ((even-accepted q one most).0 a) ∙ f)
+  none-checked q one most f a = true≢false (sym ((even_accepted q one most).0 a) ∙ f)
 
 -- ---- refusal 9 is told by its number
 
@@ -95,7 +95,7 @@ demand2 = record {
     λ a. (checker.done w n p room).0 (main.done_none n (verdict w n p room) (network_of n).tunnels a),
     λ h. ap (checked n) ((checker.done w n p room).1 h),
   );
-  even-accepted = λ w n q room lag j h one most. even-accepted w lag n room j h q one most;
+  even_accepted = λ w n q room lag j h one most. even_accepted w lag n room j h q one most;
   fewest = λ w n p out room r h.
       let e = main.returns-planned w n p out r in
       let f = (planner.claim).fewest w n p e in
@@ -110,8 +110,8 @@ demand2 = record {
         ap (λ (p : Outcome (List ℕ)). plan (with_room (length out) p)) v.2,
         ap (checked n) (even-verdict w lag n room j h most_steps (omega arith) (omega arith) ∙ ap good v.1),
       );
-  nine-only = λ w n out room a l e h.
+  nine_only = λ w n out room a l e h.
       let k = told-nine (planned w n) (length out) a l e in
-      let v = (planner.claim).nine-only w n a l k in
+      let v = (planner.claim).nine_only w n a l k in
       (v.0, λ q one most. none-checked w (main.nine-lag w n a l k) n room v.0 h q one most (v.1 q one most));
 }

@@ -28,7 +28,7 @@ pub record Demand2 : Type 0 where
   -- "A plan is accepted exactly when its rows add up and every step meets the worst-load rule on every link"
   pub accepts : (w : ℕ) (n p : List ℕ) (room : ℕ) → Accepts w n p room ↔ (Reaches w n p room × MeetsRule w n p)
   -- of the list of an even plan the checker says what the rule says of the even plan
-  pub even-accepted : (w : ℕ) (n : List ℕ) (q room : ℕ) → is_lag w ≡ true → judge_list forms.Network n ≡ good n → (network_of n).tunnels ≤ room → 1 ≤ q → q ≤ most_steps
+  pub even_accepted : (w : ℕ) (n : List ℕ) (q room : ℕ) → is_lag w ≡ true → judge_list forms.Network n ≡ good n → (network_of n).tunnels ≤ room → 1 ≤ q → q ≤ most_steps
       → Accepts w n (even_list (network_of n) q) room ↔ (accepted w (network_of n) (even (network_of n) q) ≡ true)
   -- "The planner returns the even plan of fewest steps"
   pub fewest : (w : ℕ) (n p out : List ℕ) (room : ℕ) → Returns w n p out → (network_of n).tunnels ≤ room
@@ -38,5 +38,5 @@ pub record Demand2 : Type 0 where
       → (a : ℕ) × (l : ℕ) × (b : Bound) × (plan (with_room (length out) (planned w n)) ≡ Refused (number no_even_plan) a l)
       × (checked n (verdict w n (even_list (network_of n) most_steps) room) ≡ Refused (number (cause b)) a l)
   -- and only then
-  pub nine-only : (w : ℕ) (n out : List ℕ) (room a l : ℕ) → plan (with_room (length out) (planned w n)) ≡ Refused (number no_even_plan) a l → (network_of n).tunnels ≤ room
+  pub nine_only : (w : ℕ) (n out : List ℕ) (room a l : ℕ) → plan (with_room (length out) (planned w n)) ≡ Refused (number no_even_plan) a l → (network_of n).tunnels ≤ room
       → (judge_list forms.Network n ≡ good n) × NoneAccepted w n room (λ q. q ≤ most_steps)

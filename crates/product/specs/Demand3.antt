@@ -56,7 +56,7 @@ pub record Demand3 : Type 0 where
   -- "In place of demand 3's last part, a network that keeps its scratch needs at most ceil(w × (1000 - scratch)/scratch) steps, or, with overrun,
   -- ceil(1000 × w/overrun) if larger, wherever this is 50 or less": for these the planner, given the room, returns a plan, and its steps are the number on that plan's
   -- `steps` line
-  pub bounded-lag : (w : ℕ) (n : List ℕ) → is_lag w ≡ true → Valid forms.Network n → keeps_scratch (network_of n) ≡ true
+  pub bounded_lag : (w : ℕ) (n : List ℕ) → is_lag w ≡ true → Valid forms.Network n → keeps_scratch (network_of n) ≡ true
       → lag_bound w (network_of n).scratch (network_of n).overrun ≤ most_steps
       → (p : List ℕ) × ((plan_of p).steps ≤ lag_bound w (network_of n).scratch (network_of n).overrun) × ((out : List ℕ) → length p ≤ length out → Returns w n p out)
   -- the case w = 1: "networks that keep their scratch with overrun 0: for these the planner, given the room, returns a plan, and its steps are the number on that
@@ -64,5 +64,5 @@ pub record Demand3 : Type 0 where
   pub bounded : (n : List ℕ) → Valid forms.Network n → keeps_scratch (network_of n) ≡ true → (network_of n).overrun ≡ 0
       → (p : List ℕ) × ((plan_of p).steps ≤ ceil_div 1000 (network_of n).scratch - 1) × ((out : List ℕ) → length p ≤ length out → Returns 1 n p out)
   -- and with an overrun at most the larger of that and ceil(1000/overrun)
-  pub bounded-overrun : (n : List ℕ) → Valid forms.Network n → keeps_scratch (network_of n) ≡ true
+  pub bounded_overrun : (n : List ℕ) → Valid forms.Network n → keeps_scratch (network_of n) ≡ true
       → (p : List ℕ) × ((plan_of p).steps ≤ step_bound (network_of n).scratch (network_of n).overrun) × ((out : List ℕ) → length p ≤ length out → Returns 1 n p out)

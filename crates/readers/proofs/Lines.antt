@@ -4,7 +4,7 @@ use native.Mathlib.Decide.{dec_lt, ℕ_discrete}
 use lib.Seq.{paste-suc}
 use Rattle.forms.specs.Line.{lines, on_first, value_part, before_feed}
 use Rattle.model.proofs.Searches.{both}
-use Rattle.forms.specs.Turns.{no-feeds}
+use Rattle.forms.specs.Turns.{no_feeds}
 use Rattle.forms.proofs.Lines.{part-line}
 use Rattle.forms.proofs.Walks.{step}
 use Rattle.readers.specs.Line.{line_len, first_line, FourBytes, prefixed}
@@ -182,12 +182,12 @@ pub record AfterKey (p t : List ℕ) : Type 0 where
   pub fits : length p ≤ length t
   pub value : value_part p (first_line t) ≡ before_feed (first_line (drop (length p) t))
 
-pub after-key : (p t : List ℕ) → T (no-feeds p) → prefixed p t ≡ true → AfterKey p t
+pub after-key : (p t : List ℕ) → T (no_feeds p) → prefixed p t ≡ true → AfterKey p t
 unfolding prefixed value_part
 after-key [] t n e = record { fits = omega arith; value = refl }
 after-key (k ∷ p) [] n e = let z : ◌≡◌ {A = ℕ} 0 1 = cc in absurd (omega arith)
 after-key (k ∷ p) (b ∷ t) n e =
-    let m = both (not (eqb k 10)) (no-feeds p) n in
+    let m = both (not (eqb k 10)) (no_feeds p) n in
     let x = on-prefixed (eqb b k) (prefixed p t) e in
     let r = after-key p t m.1 x.1 in
     record {
@@ -200,12 +200,12 @@ unfolding value_part line_len
 value_none k p = refl
 
 -- and where it does not, there is no value
-pub value-other : (p t : List ℕ) → T (no-feeds p) → prefixed p t ≡ false → value_part p (first_line t) ≡ []
+pub value-other : (p t : List ℕ) → T (no_feeds p) → prefixed p t ≡ false → value_part p (first_line t) ≡ []
 unfolding prefixed
 value-other [] t n e = let z : ◌≡◌ {A = ℕ} 0 1 = cc in absurd (omega arith)
 value-other (k ∷ p) [] n e = value_none k p
 value-other (k ∷ p) (b ∷ t) n e =
-    let m = both (not (eqb k 10)) (no-feeds p) n in
+    let m = both (not (eqb k 10)) (no_feeds p) n in
     on-other k p b t m.0 (eqb b k) refl e (value-other p t m.1)
 
 -- a line whose value has digits is as long as the key, the digits and the line feed

@@ -2,7 +2,7 @@
 // where a remark ends.
 ghost use Rattle.std.specs.Prelude.{◌≡◌, ◌+◌, ◌<◌, ◌≤◌, T, length, drop, slice_index};
 ghost use Rattle.forms.specs.Line.{is_remark, value_part, digit_of, decimal_of, hex_of};
-ghost use Rattle.forms.specs.Turns.{hashed, no-feeds};
+ghost use Rattle.forms.specs.Turns.{hashed, no_feeds};
 ghost use Rattle.readers.specs.Line.{FourBytes, prefixed, digit_table, first_line, value_at, number_of, value_of, Leading, Parsed, after_remark};
 
 use forms::form;
@@ -188,7 +188,7 @@ pub(crate) fn digits<'a>(
     number: &mut u64,
 ) -> &'a [u8]
     requires at_in_bounds { at ≤ length text.now }
-    requires t { T (no-feeds key.now) }
+    requires t { T (no_feeds key.now) }
     ensures { Parsed hex (value_part key.now (first_line (drop at text.now))) result.now number.new }
 {
     if begins(text, at, key) {

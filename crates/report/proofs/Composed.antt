@@ -64,8 +64,8 @@ plan-short text t e =
 pub programs : Programs
 programs = record {
   composed = composed;
-  plan-bytes = λ text. ap (λ (o : Outcome (List ℕ)). and_then o (λ n. and_then (planned 1 n) write_plan)) ((file-form form.Network).first-bytes text);
-  check-bytes = λ network plan.
-      ap₂ (λ (a b : Outcome (List ℕ)). on_read a (λ n. on_read b (λ p. checked n (verdict 1 n p most_tunnels)))) ((file-form form.Network).first-bytes network) ((file-form form.Plan).first-bytes plan);
-  plan-room = λ text. fits most_bytes (plan_text text) (plan-short text);
+  plan_bytes = λ text. ap (λ (o : Outcome (List ℕ)). and_then o (λ n. and_then (planned 1 n) write_plan)) ((file-form form.Network).first_bytes text);
+  check_bytes = λ network plan.
+      ap₂ (λ (a b : Outcome (List ℕ)). on_read a (λ n. on_read b (λ p. checked n (verdict 1 n p most_tunnels)))) ((file-form form.Network).first_bytes network) ((file-form form.Plan).first_bytes plan);
+  plan_room = λ text. fits most_bytes (plan_text text) (plan-short text);
 }

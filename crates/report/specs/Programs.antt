@@ -10,6 +10,6 @@ pub record Programs : Type 0 where
   -- what the planning program prints for a text, the checking program accepts with it
   pub composed : (text plan : List ℕ) → plan_text text ≡ good plan → (tunnels : ℕ) × (check_texts text plan ≡ Done tunnels)
   -- "Both read at most 65,536 bytes of a text": what stands after them changes nothing that is printed, and a plan text has no more
-  pub plan-bytes : (text : List ℕ) → plan_text (take most_bytes text) ≡ plan_text text
-  pub check-bytes : (network plan : List ℕ) → check_texts (take most_bytes network) (take most_bytes plan) ≡ check_texts network plan
-  pub plan-room : (text : List ℕ) → with_room most_bytes (plan_text text) ≡ plan_text text
+  pub plan_bytes : (text : List ℕ) → plan_text (take most_bytes text) ≡ plan_text text
+  pub check_bytes : (network plan : List ℕ) → check_texts (take most_bytes network) (take most_bytes plan) ≡ check_texts network plan
+  pub plan_room : (text : List ℕ) → with_room most_bytes (plan_text text) ≡ plan_text text

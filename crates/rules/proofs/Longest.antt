@@ -19,7 +19,7 @@ use Rattle.forms.specs.declared.form.Field.TheVariants.{Line, End}
 use Rattle.forms.proofs.Forms.{between, sound-at, rules-head-field, rules-body-field, body-room, body-rule}
 use Rattle.forms.proofs.Numbers.{width-most}
 use Rattle.forms.proofs.Rendering.{render-end, line-length, line-then}
-use Rattle.forms.proofs.Remarks.{none-remarks}
+use Rattle.forms.proofs.Remarks.{none_remarks}
 use Rattle.forms.proofs.Round.{read-good, rendered}
 use Rattle.forms.proofs.Walks.{judged-good}
 use Rattle.rules.specs.Lists.{GoodRules}
@@ -90,5 +90,5 @@ module _ (l : List ℕ) (g : GoodRules l) (s : Sound Rules l) where
 pub longest : (text l : List ℕ) → read_text Rules text ≡ good l → length text ≤ most_rule_bytes
 longest text l e =
     let j = judged-good Rules l l (read-good Rules text l e) in
-    let same : render Rules l ≡ text = rendered Rules text l e ∙ none-remarks Rules refl text in
+    let same : render Rules l ≡ text = rendered Rules text l e ∙ none_remarks Rules refl text in
     rw (← same) (most l (good-rules l l (read-good Rules text l e)).1 j.whole.sound)

@@ -51,7 +51,7 @@ bounds-network-flow_at c = let p = flow-place _ c.requires.0.ranges.sized _ c.of
 
 pub add_largest-requires : goal.add_largest-requires
 add_largest-requires c = let here : c.loop-f.f < most_flows = omega (arith, c.loop-f-test.true, ap (λ (n : counts.Network). n.flows) c.of-sizes.ensures, c.requires.0.ranges.sized.counts) in
-    (omega (arith, ap (λ (n : counts.Network). n.links) c.of-sizes.ensures, c.requires.0.ranges.sized.counts), c.chain_sums-set.ensures.links-of, c.part_of-part.ensures.1, c.chain_sums-set.ensures.within, room-enough _ _ _ _ _ (omega arith) (omega (arith, here)) c.loop-f.invariant.room)
+    (omega (arith, ap (λ (n : counts.Network). n.links) c.of-sizes.ensures, c.requires.0.ranges.sized.counts), c.chain_sums-set.ensures.links_of, c.part_of-part.ensures.1, c.chain_sums-set.ensures.within, room-enough _ _ _ _ _ (omega arith) (omega (arith, here)) c.loop-f.invariant.room)
 
 pub loop-f-preserved : goal.loop-f-preserved
 loop-f-preserved c = let here : c.loop-f.f < most_flows = omega (arith, c.loop-f-test.true, ap (λ (n : counts.Network). n.flows) c.of-sizes.ensures, c.requires.0.ranges.sized.counts) in

@@ -23,7 +23,7 @@ overflow_add-times c = let m : c.args.times * count_trailing_zeros 64 c.loop-set
 pub add_vector-requires : goal.add_vector-requires
 add_vector-requires c = let i = c.loop-set.invariant in
     let z : count_trailing_zeros 64 c.loop-set.set < c.args.links =
-    set-within c.args.via c.args.links (count_trailing_zeros 64 c.loop-set.set) c.requires.links-of (eqb-true _ _ (next-set c.args.via i.link c.loop-set.set c.ranges.via.fits i.left-from c.loop-set-test.true)) in
+    set-within c.args.via c.args.links (count_trailing_zeros 64 c.loop-set.set) c.requires.links_of (eqb-true _ _ (next-set c.args.via i.link c.loop-set.set c.ranges.via.fits i.left-from c.loop-set-test.true)) in
     addable _ _ _ _ _ _ _ _ _ _ z c.requires i.done
 
 pub loop-set-smaller : goal.loop-set-smaller
@@ -32,7 +32,7 @@ loop-set-smaller c = next-less c.args.via c.loop-set.invariant.link c.loop-set.s
 pub loop-set-preserved : goal.loop-set-preserved
 loop-set-preserved c = let i = c.loop-set.invariant in
     let z : count_trailing_zeros 64 c.loop-set.set < c.args.links =
-    set-within c.args.via c.args.links (count_trailing_zeros 64 c.loop-set.set) c.requires.links-of (eqb-true _ _ (next-set c.args.via i.link c.loop-set.set c.ranges.via.fits i.left-from c.loop-set-test.true)) in
+    set-within c.args.via c.args.links (count_trailing_zeros 64 c.loop-set.set) c.requires.links_of (eqb-true _ _ (next-set c.args.via i.link c.loop-set.set c.ranges.via.fits i.left-from c.loop-set-test.true)) in
     passing-on _ _ c.loop-set.set _ _ c.ranges.via.fits c.loop-set-test.true i (λ a e h d. added_more _ _ _ c.requires.few.1 a e _ _ _ _ _ z d c.add_vector.ensures h)
 
 pub returns : goal.returns

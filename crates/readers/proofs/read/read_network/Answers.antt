@@ -25,7 +25,7 @@ module _ (c : In-Done) where
   all_read = lines-read _ _ _ (sym c.read-lines.ensures.value ∙ c.in-Done.is) c.read-lines.ensures.holds
 
   in-ranges : NetworkRanges list
-  in-ranges = network-ranges _ (judged-whole Network _ _ ((file-form Network).same-verdict c.args.text.now list all_read.0).0).1
+  in-ranges = network-ranges _ (judged-whole Network _ _ ((file-form Network).same_verdict c.args.text.now list all_read.0).0).1
 
 abbrev Done-before-Done-answer : In-Done-answer → In-Done
 Done-before-Done-answer c = record { before = c.before.before.before.before.before; type_inv = record { out = c.type_inv.out; text = c.type_inv.text } }
