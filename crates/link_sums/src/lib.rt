@@ -6,9 +6,10 @@
 
 ghost use Rattle.std.specs.Prelude.{◌≡◌, ◌<◌, max, leb, replicate};
 ghost use Rattle.model.specs.Scan.{Bound};
+ghost use Rattle.model.specs.Rule.{movers};
 ghost use Rattle.lists.specs.Lists.{network_sizes, network_of};
 ghost use Rattle.lists.specs.Good.{Sized, GoodNetwork};
-ghost use Rattle.link_sums.specs.Tables.{table_size, Loads};
+ghost use Rattle.link_sums.specs.Tables.{table_size, Loads, Table, unprotected};
 
 use lists::Network;
 
@@ -39,6 +40,20 @@ fn is_protected(network: &[u64], sizes: Network, flow: usize) -> bool
     network[sizes.flow_at(flow)] <= 1
 }
 
+// The sums of the protected movers and those of the others, tunnel by tunnel or flow by flow.
+fn split(network: &[u64], protected: &mut [u64], others: &mut [u64])
+    requires good_network { GoodNetwork network.now }
+    requires protected_value { (protected.old ≡ replicate table_size 0) × (others.old ≡ replicate table_size 0) }
+    ensures loads { Loads (network_of network.now) Bound.protected protected.new }
+    ensures table { Table (network_of network.now) (movers (network_of network.now)) (unprotected (network_of network.now)) others.new }
+{
+    if Network::by_flow(network) {
+        by_flow::gather_flows(network, protected, others)
+    } else {
+        by_tunnel::split_tunnels(network, protected, others)
+    }
+}
+
 // The tables of the protected classes and of all classes, from two that are 0.
 pub fn gather(network: &[u64], protected: &mut [u64], all: &mut [u64])
     requires good_network { GoodNetwork network.now }
@@ -46,10 +61,6 @@ pub fn gather(network: &[u64], protected: &mut [u64], all: &mut [u64])
     ensures loads { Loads (network_of network.now) Bound.protected protected.new }
     ensures loads_2 { Loads (network_of network.now) Bound.total all.new }
 {
-    if Network::by_flow(network) {
-        by_flow::gather_flows(network, protected, all);
-    } else {
-        by_tunnel::split_tunnels(network, protected, all);
-    }
+    split(network, protected, all);
     table::add_table(protected, all);
 }
