@@ -1,5 +1,4 @@
 -- `overloads::steps::block_loads` meets its contract.
-use mathlib.Core.Path.{sym, ◌∙◌}
 use Rattle.lists.proofs.Positions.{head_in}
 use Rattle.overloads.proofs.Blocks.{block_start}
 use Rattle.overloads.proofs.steps.block_loads.Goals as goal
@@ -14,10 +13,10 @@ pub by_flow-requires : goal.by_flow-requires
 by_flow-requires c = head_in _ c.requires.0.network.ranges.sized.size
 
 pub flow_loads-requires : goal.flow_loads-requires
-flow_loads-requires c = (c.requires.0, sym c.by_flow.ensures ∙ c.if-by_flow.true, c.requires.1, c.requires.2, c.requires.3, c.requires.4.size.0, c.requires.4.via, c.requires.5, c.requires.6.size)
+flow_loads-requires c = (c.requires.0, cc, c.requires.1, c.requires.2, c.requires.3, c.requires.4.size.0, c.requires.4.via, c.requires.5, c.requires.6.size)
 
 pub tunnel_loads-requires : goal.tunnel_loads-requires
-tunnel_loads-requires c = (c.requires.0, sym c.by_flow.ensures ∙ c.if-by_flow.false, c.requires.1, c.requires.2, c.requires.3, c.requires.4, c.requires.5, c.requires.6.size)
+tunnel_loads-requires c = (c.requires.0, cc, c.requires.1, c.requires.2, c.requires.3, c.requires.4, c.requires.5, c.requires.6.size)
 
 pub returns-then-by_flow : goal.returns-then-by_flow
 returns-then-by_flow c = record {
