@@ -1,4 +1,5 @@
-pub mod Laws
+pub mod Bounds
 pub mod Good
 pub mod Tables
 pub mod Windows
+pub mod PairRows

@@ -3,4 +3,5 @@
 #![tactic(auto)]
 
 pub mod columns;
+pub mod pair;
 pub mod rows;

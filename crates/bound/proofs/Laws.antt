@@ -6,7 +6,8 @@ use mathlib.Core.Bool.{Bool, true, false, ◌||◌}
 use native.Mathlib.Omega.{arith}
 use borrow.Author.Tests.{leb-true, ne_eqb}
 use lib.Dec.{leb, eqb}
-use Rattle.model.specs.Outcome.{good, refused, out_of_range}
+use Rattle.model.specs.Outcome.{good, refused}
+use Rattle.model.specs.declared.Cause.TheVariants.{OutOfRange as out_of_range}
 use Rattle.model.specs.Even.{ceil_div, step_bound}
 use Rattle.model.proofs.Searches.{and-true}
 use Rattle.model.proofs.Bounded.{ceil-least}

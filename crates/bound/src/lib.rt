@@ -1,32 +1,24 @@
 //! The step bound: how many even steps suffice for a network that keeps its scratch.
 #![tactic(auto)]
 
-ghost use Rattle.std.specs.Prelude.{◌≡◌, true, ◌-◌, max};
+ghost use Rattle.std.specs.Prelude.{◌≡◌, true, ◌-◌};
 ghost use Rattle.model.specs.Even.{ceil_div};
+ghost use Rattle.model.specs.declared.Cause.TheVariants.{OutOfRange as out_of_range};
+ghost use Rattle.lists.specs.Refusals.{refusal};
 ghost use Rattle.bound.specs.Bound.{is_share, bound_of, told};
 ghost use Rattle.bound.specs.Card.{IsCard};
 
 use card::CARD;
 use lists::Network;
+use lists::refusal::{Cause, Refusal};
 
 mod card;
-
-// The step bound's answer is its number or a refusal.
-#[derive(Clone, Copy)]
-pub enum StepBound {
-    Steps(u64),
-    Refused {
-        number: u64,
-        place: u64,
-        second: u64,
-    },
-}
 
 // A share is a scratch or an overrun.
 fn is_share(x: u64) -> bool
     ensures { result ≡ is_share x }
 {
-    Network::SHARE_LOW <= x && x <= Network::SHARE_HIGH
+    (Network::SHARE_LOW..=Network::SHARE_HIGH).contains(&x)
 }
 
 // The card's entry for a share.
@@ -37,41 +29,38 @@ fn entry(card: &[u8], share: u64) -> u8
     card[(share - Network::SHARE_LOW) as usize]
 }
 
-fn larger(a: u64, b: u64) -> u64
-    ensures { result ≡ max a b }
+// The refusal of the share in this line.
+fn outside(line: u64) -> Refusal
+    ensures { result ≡ refusal out_of_range line 0 }
 {
-    if a < b { b } else { a }
+    Refusal {
+        cause: Cause::OutOfRange,
+        place: line,
+        second: 0,
+    }
 }
 
 // The step bound, looked up in a card.
-fn by_card(card: &[u8], scratch: u64, overrun: u64) -> StepBound
+fn by_card(card: &[u8], scratch: u64, overrun: u64) -> Result<u64, Refusal>
     requires { IsCard card.now }
     ensures { result ≡ told (bound_of scratch overrun) }
 {
     if !is_share(scratch) {
-        return StepBound::Refused {
-            number: 2,
-            place: 2,
-            second: 0,
-        };
+        return Err(outside(2));
     }
     let steps = entry(card, scratch) as u64;
     if overrun == 0 {
-        return StepBound::Steps(steps);
+        return Ok(steps);
     }
     if !is_share(overrun) {
-        return StepBound::Refused {
-            number: 2,
-            place: 3,
-            second: 0,
-        };
+        return Err(outside(3));
     }
     // 1000 / overrun, rounded up, is one more than the overrun's entry.
-    StepBound::Steps(larger(steps, entry(card, overrun) as u64 + 1))
+    Ok(steps.max(entry(card, overrun) as u64 + 1))
 }
 
 // A constant is copied where it is used: once a call.
-pub fn step_bound(scratch: u64, overrun: u64) -> StepBound
+pub fn step_bound(scratch: u64, overrun: u64) -> Result<u64, Refusal>
     ensures { result ≡ told (bound_of scratch overrun) }
 {
     by_card(&CARD, scratch, overrun)

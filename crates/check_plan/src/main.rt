@@ -3,9 +3,13 @@
 
 ghost use Rattle.std.specs.Prelude.{◌≤◌, ◌≡◌, length, take};
 ghost use Rattle.report.specs.Counts.{IsPrefixLen};
+ghost use Rattle.lists.specs.Refusals.{done_with};
 ghost use Rattle.report.specs.Printed.{check_texts, printed_check};
 
-use lists::{Answer, Network, PlanSizes};
+use checker::check;
+use lists::refusal::Refusal;
+use lists::{Network, PlanSizes};
+use readers::read;
 use std::fs::File;
 use std::io::Write;
 use std::rt::Files;
@@ -24,21 +28,15 @@ fn read_file<R: Files>(rt: &R, path: &str, buf: &mut [u8]) -> usize
 }
 
 // "The checker reads the whole network first, then the whole plan".
-fn check_texts(network: &[u8], plan: &[u8]) -> Answer
-    ensures { result ≡ check_texts network.now plan.now }
+fn check_texts(network: &[u8], plan: &[u8]) -> Result<usize, Refusal>
+    ensures { done_with result ≡ check_texts network.now plan.now }
 {
     let mut network_list = [0u64; Network::NUMBERS];
-    let network_read = product::read_network(network, &mut network_list);
-    let Answer::Done(length) = network_read else {
-        return network_read;
-    };
+    let length = read::read_network(network, &mut network_list)?;
     let mut plan_list = [0u64; PlanSizes::NUMBERS];
-    let plan_read = product::read_plan(plan, &mut plan_list);
-    let Answer::Done(size) = plan_read else {
-        return plan_read;
-    };
+    let size = read::read_plan(plan, &mut plan_list)?;
     let mut marks = [0u8; MARKS];
-    product::check_plan(
+    check::check_plan(
         report::LAG,
         &network_list[..length],
         &plan_list[..size],
@@ -52,16 +50,9 @@ fn put_answer(network: &[u8], plan: &[u8], out: &mut [u8]) -> usize
     ensures prefix_len { IsPrefixLen result out.new }
     ensures out_after { take result out.new ≡ printed_check (check_texts network.now plan.now) }
 {
-    let answer = check_texts(network, plan);
-    match answer {
-        Answer::Done(_) => lines::put(out, 0, b"accepted=1\n"),
-        // a check gives no plan
-        Answer::Plan(_) => lines::put(out, 0, b"accepted=1\n"),
-        Answer::Refused {
-            number,
-            place,
-            second,
-        } => report::put_refusal(out, number, place, second),
+    match check_texts(network, plan) {
+        Ok(_) => lines::put(out, 0, b"accepted=1\n"),
+        Err(refusal) => report::put_refusal(out, refusal),
     }
 }
 

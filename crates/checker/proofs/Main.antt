@@ -6,7 +6,8 @@ use mathlib.Core.List.{List}
 use mathlib.Core.Option.{Option, none, some}
 use borrow.Author.Tests.{leb-true, le-leb, eq-eqb}
 use lib.Dec.{leb}
-use Rattle.model.specs.Outcome.{good, refused, no_room, is_lag}
+use Rattle.model.specs.Outcome.{good, refused, is_lag}
+use Rattle.model.specs.declared.Cause.TheVariants.{NoRoom as no_room}
 use Rattle.model.specs.Scan.{Overload}
 use Rattle.model.specs.Rule.{first_overload}
 use Rattle.model.proofs.Outcomes.{then-good, cond-good, good-same}

@@ -1,10 +1,10 @@
 -- Laws of the list of marks.
-use Prim.Native.Nat.{ℕ, ◌+◌, ◌*◌, ◌≤◌, ◌<◌, min, max}
-use mathlib.Core.Path.{◌≡◌, refl, sym, ap, ap₂, ◌∙◌, subst}
+use Prim.Native.Nat.{ℕ, ◌+◌, ◌-◌, ◌*◌, ◌≤◌, ◌<◌, min, max}
+use mathlib.Core.Path.{◌≡◌, refl, sym, ap, ap₂, ◌∙◌}
 use mathlib.Core.Bool.{Bool, true, false, cond, ◌&&◌}
 use mathlib.Core.List.{List}
 use native.Mathlib.Omega.{arith}
-use native.Mathlib.Nat.{le_trans, add-zero}
+use native.Mathlib.Nat.{le_trans, add-zero, sub_self}
 use native.Mathlib.Numerals.{add-one}
 use lib.Dec.{ltb}
 use lib.ListN.{length, get_or, set, length-set}
@@ -23,7 +23,7 @@ use Rattle.loads.proofs.Vectors.{at_same, at_other, last_or}
 use Rattle.amounts.specs.Rows.{Checkable}
 use Rattle.amounts.proofs.Good.{row_small}
 use Rattle.amounts.proofs.Windows.{window-in, window-reach}
-use Rattle.checker.specs.Inner.{Markable, Raised, LargestSums}
+use Rattle.checker.specs.Inner.{InPlan, Raised, LargestSums}
 
 -- what a tunnel puts on a link, by its set and its amount
 pub across-of : (N : Net) (l t via amount v : ℕ) (x : ℕ → ℕ) → via ≡ N.via t → amount ≡ x t → v ≡ cond (in_set via l) amount 0 → v ≡ across N l x t
@@ -36,9 +36,8 @@ unfolding across
 across-small n p k a l t ha ht = le_trans (cond-most (crosses (network_of n) l t) (row (network_of n) (plan_of p) a t)) (row_small n p k a t ha ht)
 
 -- the gathered sum of a tunnel's flow
-pub sum_of : (n : List ℕ) (x : ℕ → ℕ) (s : List ℕ) (t f : ℕ) → Gathered (network_of n) x (network_sizes n).tunnels s → f ≡ (network_of n).flow t → f < most_flows
+pub sum_of : (n : List ℕ) (x : ℕ → ℕ) (s : List ℕ) (t f : ℕ) → Gathered (network_of n) x (network_of n).tunnels s → f ≡ (network_of n).flow t → f < most_flows
     → get_or s f 0 ≡ flow_sum (network_of n) x ((network_of n).flow t)
-unfolding network_of
 sum_of n x s t f g e h = gathered-all (network_of n) x s f g h ∙ ap (flow_sum (network_of n) x) e
 
 -- ---- the largest amount, and the largest sums
@@ -51,11 +50,15 @@ pub largest-more : (k : ℕ) (f : ℕ → ℕ) (u v x : ℕ) → u ≡ largest k
 unfolding largest
 largest-more k f u v x h e d = rw (add-one k) (d ∙ ap₂ max h (e ∙ ap f (add-one k)))
 
-pub largest-to : (k n : ℕ) (f : ℕ → ℕ) (v : ℕ) → k ≡ n → v ≡ largest k f → v ≡ largest n f
-largest-to k n f v e h = h ∙ ap (λ (m : ℕ). largest m f) e
+-- the next row after row a, in those from row i on
+next-row : (i a : ℕ) → i ≤ a → (a + 1 - i ≡ (a - i) + 1) × (i + (a - i + 1) ≡ a + 1)
+next-row i a h = (omega arith, omega arith)
 
-pub row_zero : (N : Net) (P : Plan) (i t v : ℕ) → v ≡ row N P i t → v ≡ row N P (i + 0) t
-row_zero N P i t v e = e ∙ ap (λ (a : ℕ). row N P a t) (sym (add-zero i))
+pub largest-next : (i a : ℕ) (f : ℕ → ℕ) (u v x : ℕ) → i ≤ a → u ≡ largest (a - i) (λ k. f (i + k)) → x ≡ f (a + 1) → v ≡ max u x → v ≡ largest (a + 1 - i) (λ k. f (i + k))
+largest-next i a f u v x h e d m = let n = next-row i a h in rw n.0 (largest-more (a - i) (λ k. f (i + k)) u v x e (d ∙ ap f (sym n.1)) m)
+
+pub largest-first : (i : ℕ) (f : ℕ → ℕ) (v : ℕ) → v ≡ f i → v ≡ largest (i - i) (λ k. f (i + k))
+largest-first i f v e = rw (sub_self i) (largest-none (λ k. f (i + k)) v (e ∙ ap f (sym (add-zero i))))
 
 pub record Raising (f : ℕ) (sums s s₁ : List ℕ) : Type 0 where
   pub size : length s₁ ≡ length s
@@ -86,40 +89,43 @@ module _ (n p : List ℕ) (i l : ℕ) where
   abbrev P : Plan
   P = plan_of p
 
-  pub sums_first : (s : List ℕ) → Gathered N (across N l (row N P i)) (network_sizes n).tunnels s → LargestSums N P i l 0 s
-  unfolding network_of largest
+  pub sums_first : (s : List ℕ) → Gathered N (across N l (row N P i)) N.tunnels s → LargestSums N P i l 0 s
+  unfolding largest
   sums_first s g = record { size = g.size; each = λ f h. gathered-all N _ s f g h ∙ ap (λ (a : ℕ). flow_sum N (across N l (row N P a)) f) (sym (add-zero i)) }
 
-  pub sums-more : (k : ℕ) (sums s s₁ : List ℕ) → LargestSums N P i l k s → Gathered N (across N l (row N P (i + (k + 1)))) (network_sizes n).tunnels sums → Raised sums s s₁ → LargestSums N P i l (k + 1) s₁
-  unfolding network_of
-  sums-more k sums s s₁ a g r = record {
-    size = r.size ∙ a.size;
-    each = λ f h. largest-more k (λ b. flow_sum N (across N l (row N P (i + b))) f) _ _ _ (a.each f h) (gathered-all N _ sums f g h) (r.each f h);
+  pub sums-next : (a : ℕ) (sums s s₁ : List ℕ) → i ≤ a → LargestSums N P i l (a - i) s → Gathered N (across N l (row N P (a + 1))) N.tunnels sums → Raised sums s s₁ → LargestSums N P i l (a + 1 - i) s₁
+  sums-next a sums s s₁ b m g r = record {
+    size = r.size ∙ m.size;
+    each = λ f h. largest-next i a (λ b. flow_sum N (across N l (row N P b)) f) _ _ _ b (m.each f h) (gathered-all N _ sums f g h) (r.each f h);
   }
 
-  pub sums_at : (k m : ℕ) (s : List ℕ) → k ≡ m → LargestSums N P i l k s → LargestSums N P i l m s
-  sums_at k m s e a = subst (λ (b : ℕ). LargestSums N P i l b s) e a
-
 -- ---- a tunnel's mark, by its set and by its amounts or its flow's
-module _ (w : ℕ) (N : Net) (P : Plan) (i l t via first most m r : ℕ) (hi : i < step_count w N P) (hr : r ≡ min w P.steps) (hv : via ≡ N.via t)
+module _ (w : ℕ) (N : Net) (P : Plan) (i l t via first most m : ℕ) (hi : i < step_count w N P) (hv : via ≡ N.via t)
     (e : m ≡ cond (in_set via l && ltb first most) 1 0) where
   abbrev marked : ℕ
   marked = cond (mark w N P (record { bound = Bound.protected; from = i; link = l }) t) 1 0
 
-  mark_of : (u : ℕ) (f : ℕ → ℕ) → mark w N P (record { bound = Bound.protected; from = i; link = l }) t ≡ (crosses N l t && ltb u (largest (reach w P i) f)) → first ≡ u → most ≡ largest r f → m ≡ marked
+  mark_of : (u : ℕ) (f : ℕ → ℕ) → mark w N P (record { bound = Bound.protected; from = i; link = l }) t ≡ (crosses N l t && ltb u (largest (reach w P i) f)) → first ≡ u → most ≡ largest (min w P.steps) f → m ≡ marked
   unfolding crosses
   mark_of u f s he hl =
       e
-      ∙ ap₂ (λ (a b : Bool). cond (a && b) 1 0) (ap (λ (v : ℕ). in_set v l) hv) (ap₂ ltb he (hl ∙ ap (λ (b : ℕ). largest b f) (hr ∙ sym (window-reach w N P i hi))))
+      ∙ ap₂ (λ (a b : Bool). cond (a && b) 1 0) (ap (λ (v : ℕ). in_set v l) hv) (ap₂ ltb he (hl ∙ ap (λ (b : ℕ). largest b f) (sym (window-reach w N P i hi))))
       ∙ ap (λ (b : Bool). cond b 1 0) (sym s)
 
-  pub mark-of-tunnel : by_flow N ≡ false → first ≡ row N P i t → most ≡ largest r (λ k. row N P (i + k) t) → m ≡ marked
+  pub mark-of-tunnel : by_flow N ≡ false → first ≡ row N P i t → most ≡ largest (min w P.steps) (λ k. row N P (i + k) t) → m ≡ marked
   mark-of-tunnel one he hl = mark_of _ _ (mark-by-tunnel N one w P _ t) he hl
 
-  pub mark-of-flow : by_flow N ≡ true → first ≡ flow_sum N (across N l (row N P i)) (N.flow t) → most ≡ largest r (λ k. flow_sum N (across N l (row N P (i + k))) (N.flow t)) → m ≡ marked
+  pub mark-of-flow : by_flow N ≡ true → first ≡ flow_sum N (across N l (row N P i)) (N.flow t) → most ≡ largest (min w P.steps) (λ k. flow_sum N (across N l (row N P (i + k))) (N.flow t)) → m ≡ marked
   mark-of-flow whole he hl = mark_of _ _ (mark-by-flow N whole w P _ t) he hl
 
 -- the window is there
-pub rows_in : (w : ℕ) (n p : List ℕ) (i l r : ℕ) (marks : List ℕ) → Markable w n p i l marks → r ≡ min w (plan_sizes p).steps → i + r ≤ (plan_sizes p).steps
+pub rows_in : (w : ℕ) (n p : List ℕ) (i l r : ℕ) → InPlan w n p i l → r ≡ min w (plan_sizes p).steps → i + r ≤ (plan_sizes p).steps
 unfolding plan_of
-rows_in w n p i l r marks k e = omega (arith, window-in w (network_of n) (plan_of p) i k.step, e)
+rows_in w n p i l r k e = omega (arith, window-in w (network_of n) (plan_of p) i k.step, e)
+
+pub row_in : (w : ℕ) (n p : List ℕ) (i l : ℕ) → InPlan w n p i l → i ≤ (plan_sizes p).steps
+row_in w n p i l k = let h = rows_in w n p i l (min w (plan_sizes p).steps) k refl in omega (arith, h)
+
+-- so many rows after the first are gone through
+pub rows-through : (i a r m : ℕ) → i ≤ a → a ≤ i + r → i + r ≤ a → r ≡ m → a - i ≡ m
+rows-through i a r m h k l e = omega arith

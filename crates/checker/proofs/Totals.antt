@@ -1,6 +1,6 @@
 -- The sums of a row: what is gathered for each flow, and the first flow whose sum does not lie between.
-use Prim.Native.Nat.{ℕ, ◌+◌, ◌*◌, ◌≤◌, ◌<◌, min, max}
-use mathlib.Core.Path.{◌≡◌, refl, sym, ap, ap₂, ◌∙◌, subst, subst⁻¹}
+use Prim.Native.Nat.{ℕ, ◌+◌, ◌*◌, ◌^◌, ◌≤◌, ◌<◌, min, max}
+use mathlib.Core.Path.{◌≡◌, refl, sym, ap, ap₂, ◌∙◌, subst⁻¹}
 use mathlib.Core.Logic.{⊎_elim}
 use mathlib.Core.Bool.{Bool, true, not, ◌&&◌}
 use mathlib.Core.List.{List}
@@ -9,8 +9,8 @@ use native.Mathlib.Omega.{arith}
 use native.Mathlib.Nat.{eq-or-lt_of_le, le_of_lt, mul-le-mul_left, min-le_left, le-max_left, min-eq_left, min-eq_right, max-eq_left, max-eq_right}
 use borrow.Author.Tests.{le-leb}
 use lib.Dec.{leb}
-use lib.ListN.{get_or}
-use Rattle.model.specs.Limits.{most_flows}
+use lib.ListN.{get_or, set}
+use Rattle.model.specs.Limits.{most_flows, most_tunnels, most_steps, most_amount}
 use Rattle.model.specs.Search.{first}
 use Rattle.model.specs.Net.{Net, Plan, row}
 use Rattle.model.specs.Rule.{flow_sum, missed_rate, between, missed_in}
@@ -18,7 +18,18 @@ use Rattle.model.proofs.Sums.{sum-cong, sum-mul}
 use Rattle.model.proofs.Searches.{order, only-true, only-false, none_first, first-at}
 use Rattle.model.proofs.Rows.{row_first, row_last, rate-met, rate-between, next-between}
 use Rattle.judges.specs.Sums.{Gathered}
-use Rattle.checker.specs.Inner.{FirstMissed}
+use Rattle.judges.proofs.Gathering.{gathered-more, gathered-fits}
+use Rattle.std.specs.declared.option.Option.TheVariants.{Some, None}
+use Rattle.checker.specs.Inner.{Between, FirstMissed}
+
+-- ---- the amount of tunnel n, as the code has it, is added to the sum of its flow
+
+module _ (N : Net) (x : ℕ → ℕ) (n : ℕ) (s : List ℕ) (f v : ℕ) (e : f ≡ N.flow n) (h : f < most_flows) (d : v ≡ x n) (g : Gathered N x n s) where
+  pub added : Gathered N x (n + 1) (set s f (get_or s f 0 + v))
+  added = rw (e, d) (gathered-more N x n s (omega arith) g)
+
+  pub added-fits : n < most_tunnels → ((t : ℕ) → t < n + 1 → x t ≤ most_amount * most_steps) → get_or s f 0 + v < 2 ^ 64
+  added-fits k b = rw (e, d) (gathered-fits N x (most_amount * most_steps) n s (N.flow n) (omega arith) g (omega arith) k b)
 
 -- ---- a sum between two rates
 
@@ -49,35 +60,28 @@ module _ (s p r n : ℕ) where
 
 -- ---- the first flow that is missed
 
-pub met-more : (N : Net) (parts : ℕ) (sums : List ℕ) (n : ℕ) → ((f : ℕ) → f < n → between N parts f (get_or sums f 0) ≡ true)
-    → between N parts n (get_or sums n 0) ≡ true → (f : ℕ) → f < n + 1 → between N parts f (get_or sums f 0) ≡ true
+pub met-more : (N : Net) (parts : ℕ) (sums : List ℕ) (n : ℕ) → Between N parts sums n → between N parts n (get_or sums n 0) ≡ true → Between N parts sums (n + 1)
 met-more N parts sums n h e f k =
     ⊎_elim (λ (q : f ≡ n). subst⁻¹ (λ (i : ℕ). between N parts i (get_or sums i 0) ≡ true) q e) (λ (q : f < n). h f q) (eq-or-lt_of_le {n = f} {m = n} (omega arith))
 
-module _ (N : Net) (P : Plan) (a : ℕ) (sums : List ℕ) (g : Gathered N (row N P a) N.tunnels sums) (hf : N.flows ≤ most_flows) where
+module _ (N : Net) (P : Plan) (a parts : ℕ) (sums : List ℕ) (e : parts ≡ P.parts) (g : Gathered N (row N P a) N.tunnels sums) (hf : N.flows ≤ most_flows) where
   -- what is gathered is the flow's sum in the row
-  gathered-row : (f : ℕ) → f < N.flows → get_or sums f 0 ≡ flow_sum N (row N P a) f
+  told : (f : ℕ) → f < N.flows → between N parts f (get_or sums f 0) ≡ between N P.parts f (flow_sum N (row N P a) f)
   unfolding flow_sum
-  gathered-row f h = g.sums f (omega arith)
+  told f h = ap₂ (λ (p s : ℕ). between N p f s) e (g.sums f (omega arith))
 
-  met-in : (f : ℕ) → f < N.flows → between N P.parts f (get_or sums f 0) ≡ true → missed_in N P a f ≡ none
+  met-in : (f : ℕ) → f < N.flows → between N parts f (get_or sums f 0) ≡ true → missed_in N P a f ≡ none
   unfolding missed_in
-  met-in f h e = only-false _ _ (ap not (ap (between N P.parts f) (sym (gathered-row f h)) ∙ e))
+  met-in f h k = only-false _ _ (ap not (sym (told f h) ∙ k))
 
-  pub row-met : (r : ℕ) → FirstMissed N P.parts sums r → N.flows ≤ r → first N.flows (missed_in N P a) ≡ none
-  row-met r m h = none_first _ N.flows (λ f k. met-in f k (m.before f (omega arith)))
+  pub row-met : FirstMissed N parts sums None → first N.flows (missed_in N P a) ≡ none
+  row-met m = none_first _ N.flows (λ f k. met-in f k (m f k))
 
-  pub row-missed : (r : ℕ) → FirstMissed N P.parts sums r → r < N.flows → first N.flows (missed_in N P a) ≡ some (record { place = a; second = r })
+  pub row-missed : (r : ℕ) → FirstMissed N parts sums (Some r) → first N.flows (missed_in N P a) ≡ some (record { place = a; second = r })
   unfolding missed_in
-  row-missed r m h =
-      first-at (missed_in N P a) r N.flows _ (none_first _ r (λ f k. met-in f (omega arith) (m.before f k)))
-      (only-true _ _ (ap not (ap (between N P.parts r) (sym (gathered-row r h)) ∙ m.here h))) h
-
-pub gathered-at : (N : Net) (x : ℕ → ℕ) (n m : ℕ) (s : List ℕ) → n ≡ m → Gathered N x n s → Gathered N x m s
-gathered-at N x n m s e g = subst (λ (k : ℕ). Gathered N x k s) e g
-
-pub missed-at : (N : Net) (parts q : ℕ) (sums : List ℕ) (r : ℕ) → parts ≡ q → FirstMissed N parts sums r → FirstMissed N q sums r
-missed-at N parts q sums r e m = subst (λ (k : ℕ). FirstMissed N k sums r) e m
+  row-missed r m =
+      first-at (missed_in N P a) r N.flows _ (none_first _ r (λ f k. met-in f (omega (arith, m.0)) (m.1 f k)))
+      (only-true _ _ (ap not (sym (told r m.0) ∙ m.2))) m.0
 
 -- ---- the first and the last row of any plan add up, since a good network's amounts do
 

@@ -1,12 +1,15 @@
 -- What the checker comes to.
-use Rattle.std.specs.Prelude.{ℕ, eqb, leb, drop, cond, List, ◌++◌}
+use Rattle.std.specs.Prelude.{ℕ, eqb, leb, drop, cond, List, ◌++◌, Result, Ok, Err}
 use Rattle.std.proofs.Math.Option.{Option, none, some}
-use Rattle.model.specs.Outcome.{Outcome, good, refused, and_then, number, other_tunnels, missed_row, no_room, unless, at_lag}
+use Rattle.model.specs.Outcome.{Outcome, good, refused, and_then, number, unless, at_lag}
+use Rattle.model.specs.declared.Cause.TheVariants.{OtherTunnels as other_tunnels, MissedRow as missed_row, NoRoom as no_room}
 use Rattle.model.specs.Scan.{Overload, cause, step}
 use Rattle.model.specs.Rule.{first_overload, mark}
 use Rattle.model.specs.Rule as rule
 use Rattle.model.specs.Listed.{listed}
 use Rattle.lists.specs.Lists.{network_of, plan_sizes, plan_of}
+use Rattle.lists.specs.Refusals.{refusal}
+use Rattle.lists.specs.declared.refusal.Refusal.{Refusal}
 use Rattle.lists.specs.declared.Answer.{Answer}
 use Rattle.lists.specs.declared.Answer.TheVariants.{Done, Refused}
 use Rattle.forms.specs.Read.{judge_list}
@@ -35,6 +38,12 @@ abbrev pub checked : List ℕ → Outcome (Option Overload) → Answer
 checked n (good none) = Done (network_of n).tunnels
 checked n (good (some o)) = Refused (number (cause o.bound)) (step o) o.link
 checked n (refused c place second) = Refused (number c) place second
+
+-- the same, as the code has it inside
+abbrev pub checked_count : List ℕ → Outcome (Option Overload) → Result ℕ Refusal
+checked_count n (good none) = Ok (network_of n).tunnels
+checked_count n (good (some o)) = Err (refusal (cause o.bound) (step o) o.link)
+checked_count n (refused c place second) = Err (refusal c place second)
 
 -- "Marks are one byte for each tunnel. .. After acceptance all are 0. After 7 or 8 a tunnel is 1 exactly if it crosses the named link and its amount rises in the named step": with a
 -- lag of w, "a mark falls where the largest exceeds that of row a"

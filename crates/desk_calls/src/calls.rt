@@ -1,67 +1,45 @@
 // Runs: any calls one after the other, from the empty state.
-ghost use Rattle.std.specs.Prelude.{◌≡◌, ◌++◌, ◌+◌, ◌*◌, ◌≤◌, min, length, take, drop};
+ghost use Rattle.std.specs.Prelude.{◌≡◌, ◌++◌, map, take, drop};
 ghost use Rattle.desks.specs.State.{empty};
 ghost use Rattle.desks.specs.Run.{event, next, log};
 ghost use Rattle.desks.specs.Seen.{seen};
-ghost use Rattle.desk_calls.specs.Numbers.{call_in, calls_of, room_for, four_of, answers_of};
+ghost use Rattle.desk_calls.specs.Calls.{call_of, told, room_for};
 
-use desks::{Desks, numbers};
+use desks::{Accepted, Desks, Job};
+use lists::refusal::Refusal;
 
-// What a call comes to: its answer and the state afterwards.
 #[derive(Clone, Copy)]
-struct Called {
-    answer: [u64; 4],
-    desks: Desks,
+pub enum Call {
+    Submit { desk: u64, tag: u32 },
+    HandOut,
 }
 
-// The call whose three numbers begin at `at`.
-fn call(s: Desks, calls: &[u64], at: usize) -> Called
-    requires { at + 3 ≤ length calls.now }
-    ensures answer_value { result.answer ≡ four_of (event (call_in calls.now at) (seen s)) }
-    ensures desks_value { seen result.desks ≡ next (call_in calls.now at) (seen s) }
-{
-    if calls[at] == 0 {
-        let tag = calls[at + 2] % 4_294_967_296;
-        let submitted = desks::submit(s, calls[at + 1], tag as u32);
-        let told = submitted.answer;
-        let answer = numbers::of_submission(told);
-        let desks = submitted.desks;
-        Called { answer, desks }
-    } else {
-        let handed = desks::hand_out(s);
-        let told = handed.answer;
-        let answer = numbers::of_hand_out(told);
-        let desks = handed.desks;
-        Called { answer, desks }
+#[derive(Clone, Copy)]
+pub enum Answer {
+    Submission(Result<Accepted, Refusal>),
+    HandOut(Result<Job, Refusal>),
+}
+
+impl Call {
+    // Makes the call.
+    fn make(self, desks: &mut Desks) -> Answer
+        ensures answer_value { result ≡ told (event (call_of self) (seen desks.old)) }
+        ensures desks_value { seen desks.new ≡ next (call_of self) (seen desks.old) }
+    {
+        match self {
+            Call::Submit { desk, tag } => Answer::Submission(desks.submit(desk, tag)),
+            Call::HandOut => Answer::HandOut(desks.hand_out()),
+        }
     }
 }
 
-fn put(out: &mut [u64], at: usize, four: [u64; 4])
-    requires { at + 4 ≤ length out.old }
-    ensures { out.new ≡ take at out.old ++ four ++ drop (at + 4) out.old }
+// Makes the calls, and gives the answers: as many as there is room for.
+pub fn run(calls: &[Call], answers: &mut [Answer])
+    ensures { answers.new ≡ map told (log empty (map call_of (take (room_for calls.now answers.old) calls.now))) ++ drop (room_for calls.now answers.old) answers.old }
 {
-    out[at] = four[0];
-    out[at + 1] = four[1];
-    out[at + 2] = four[2];
-    out[at + 3] = four[3];
-}
-
-fn smaller(a: usize, b: usize) -> usize
-    ensures { result ≡ min a b }
-{
-    if a < b { a } else { b }
-}
-
-// Runs the calls, three numbers each, and gives the answers, four numbers each: as many as there is room for.
-pub fn run(calls: &[u64], answers: &mut [u64])
-    ensures { answers.new ≡ answers_of (log empty (calls_of (room_for calls.now answers.old) calls.now)) ++ drop (4 * room_for calls.now answers.old) answers.old }
-{
-    let count = smaller(calls.len() / 3, answers.len() / 4);
-    let mut s = desks::none_waiting();
-    for i in 0..count {
-        let called = call(s, calls, 3 * i);
-        let answer = called.answer;
-        put(answers, 4 * i, answer);
-        s = called.desks;
+    let mut desks = Desks::none_waiting();
+    // An index, since each call's answer has the same place in `answers`.
+    for i in 0..calls.len().min(answers.len()) {
+        answers[i] = calls[i].make(&mut desks);
     }
 }

@@ -2,11 +2,14 @@
 //! each. What is printed is held to a stored output, and that to the second implementation.
 #![tactic(auto)]
 
-ghost use Rattle.std.specs.Prelude.{◌+◌, ◌*◌, ◌≤◌, ◌<◌, ◌++◌, OnOk, decimal};
+ghost use Rattle.std.specs.Prelude.{◌<◌, ◌++◌, OnOk, decimal};
 ghost use Rattle.std.specs.Io.KnownBytes.{Appends};
 
 mod calls;
 
+use calls::{Answer, Call};
+use desks::{Accepted, Job};
+use lists::refusal::{Cause, Refusal};
 use std::io;
 use std::io::Write;
 
@@ -21,13 +24,9 @@ fn draw(x: u64) -> u64
 }
 
 // Three of four calls are submissions for a hundred calls, then three of four hand-outs.
-fn kind_of(x: u64, i: usize) -> u64 {
+fn submits(x: u64, i: usize) -> bool {
     let rare = x / 1024 % 4 == 0;
-    if i / 100 % 2 == 0 {
-        if rare { 1 } else { 0 }
-    } else {
-        if rare { 0 } else { 1 }
-    }
+    if i / 100 % 2 == 0 { !rare } else { rare }
 }
 
 // Often the same desk, so that four wait there; now and then no such desk.
@@ -44,16 +43,18 @@ fn desk_of(x: u64, i: usize) -> u64 {
     }
 }
 
-// The calls, three numbers each.
-fn sequence() -> [u64; 3000] {
-    let mut calls = [0u64; 3000];
+fn sequence() -> [Call; CALLS] {
+    let mut calls = [Call::HandOut; CALLS];
     let mut x = 20_130_812;
     for i in 0..CALLS {
         x = draw(x);
-        calls[3 * i] = kind_of(x, i);
-        calls[3 * i + 1] = desk_of(x, i);
+        let desk = desk_of(x, i);
+        let submission = submits(x, i);
         x = draw(x);
-        calls[3 * i + 2] = 2 * x;
+        if submission {
+            let tag = (2 * x) as u32;
+            calls[i] = Call::Submit { desk, tag };
+        }
     }
     calls
 }
@@ -65,45 +66,54 @@ fn print_number<W: Write>(out: &mut W, name: &str, number: u64) -> io::Result<()
     write!(out, "{name}{number}")
 }
 
-// Writes the answer whose four numbers begin at `at`, to a call of this kind.
-fn print_answer<W: Write>(
-    out: &mut W,
-    kind: u64,
-    answers: &[u64; 4000],
-    at: usize,
-) -> io::Result<()>
-    requires { at + 4 ≤ 4000 }
-{
-    if answers[at] != 0 {
-        print_number(out, " refused=", answers[at + 1])?;
-        print_number(out, " place=", answers[at + 2])?;
-        print_number(out, " second=", answers[at + 3])?;
-    } else if kind == 0 {
-        print_number(out, " number=", answers[at + 1])?;
-        print_number(out, " before=", answers[at + 2])?;
-    } else {
-        print_number(out, " desk=", answers[at + 1])?;
-        print_number(out, " number=", answers[at + 2])?;
-        print_number(out, " tag=", answers[at + 3])?;
+fn print_call<W: Write>(out: &mut W, call: Call) -> io::Result<()> {
+    match call {
+        Call::Submit { desk, tag } => {
+            print_number(out, "submit desk=", desk)?;
+            print_number(out, " tag=", tag as u64)?;
+            out.write_all(b":")
+        }
+        Call::HandOut => out.write_all(b"hand_out:"),
+    }
+}
+
+fn print_refusal<W: Write>(out: &mut W, refusal: Refusal) -> io::Result<()> {
+    print_number(out, " refused=", refusal.cause.number())?;
+    print_number(out, " place=", refusal.place)?;
+    print_number(out, " second=", refusal.second)
+}
+
+fn print_answer<W: Write>(out: &mut W, answer: Answer) -> io::Result<()> {
+    match answer {
+        Answer::Submission(Ok(Accepted { number, before })) => {
+            print_number(out, " number=", number as u64)?;
+            print_number(out, " before=", before)?;
+        }
+        Answer::HandOut(Ok(Job { desk, number, tag })) => {
+            print_number(out, " desk=", desk)?;
+            print_number(out, " number=", number as u64)?;
+            print_number(out, " tag=", tag as u64)?;
+        }
+        Answer::Submission(Err(refusal)) | Answer::HandOut(Err(refusal)) => {
+            print_refusal(out, refusal)?;
+        }
     }
     out.write_all(b"\n")
 }
 
 fn main(rt: HostRuntime) -> io::Result<()> {
     let calls = sequence();
-    let mut answers = [0u64; 4000];
+    let none = Refusal {
+        cause: Cause::NothingWaits,
+        place: 0,
+        second: 0,
+    };
+    let mut answers = [Answer::HandOut(Err(none)); CALLS];
     calls::run(&calls, &mut answers);
     let mut out = rt.stdout();
     for i in 0..CALLS {
-        let kind = calls[3 * i];
-        if kind == 0 {
-            print_number(&mut out, "submit desk=", calls[3 * i + 1])?;
-            print_number(&mut out, " tag=", calls[3 * i + 2])?;
-            out.write_all(b":")?;
-        } else {
-            out.write_all(b"hand_out:")?;
-        }
-        print_answer(&mut out, kind, &answers, 4 * i)?;
+        print_call(&mut out, calls[i])?;
+        print_answer(&mut out, answers[i])?;
     }
     out.flush()
 }

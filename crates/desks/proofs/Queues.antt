@@ -16,7 +16,7 @@ use Rattle.desks.specs.State.{Job, State, empty, replaced, joined, before, work,
 use Rattle.desks.specs.Round.{in_round, jobs_before}
 use Rattle.desks.specs.Seen.{place_of, job_at, seen, told_job}
 use Rattle.desks.specs.declared.Desks.{Desks}
-use Rattle.desks.specs.declared.HandOut.TheVariants as told
+use Rattle.std.specs.declared.result.Result.TheVariants.{Ok}
 use Rattle.desks.proofs.States.{by-desk, work-on}
 
 -- ---- a queue of a value
@@ -181,8 +181,8 @@ taken-leaves s d count c h l o w =
 
 -- and answered
 pub taken-told : (s : Desks) (d at : ℕ) → at ≡ place_of s d 0 → 0 < get_or s.waiting d 0
-    → told.Job d (get_or s.numbers at 0) (get_or s.tags at 0) ≡ told_job (hand_of (seen s) (work d ((seen s).queue d))).answer
+    → Ok (record { desk = d; number = get_or s.numbers at 0; tag = get_or s.tags at 0 }) ≡ told_job (hand_of (seen s) (work d ((seen s).queue d))).answer
 unfolding hand_of job_at
 taken-told s d at a h =
-    ap (λ p. told.Job d (get_or s.numbers p 0) (get_or s.tags p 0)) a
+    ap (λ p. Ok (record { desk = d; number = get_or s.numbers p 0; tag = get_or s.tags p 0 })) a
     ∙ ap (λ v. told_job (hand_of (seen s) v).answer) (sym (seen-work s d h))

@@ -9,7 +9,9 @@ use native.Mathlib.Omega.{arith}
 use lib.Dec.{ltb, eqb}
 use lib.ListN.{length}
 use borrow.Author.Tests.{lt-ltb, le-ltb, ltb-true, ltb-false, eqb-true, eqb-false}
-use Rattle.model.specs.Outcome.{refused, Cause}
+use Rattle.model.specs.Outcome.{refused}
+use Rattle.model.specs.declared.Cause.{Cause}
+use Rattle.model.specs.declared.Cause.TheVariants as causes
 use Rattle.model.proofs.Searches.{first_some, first-none}
 use Rattle.desks.specs.State.{Job, State, Result, Acceptance, Handed, Work, accept, submitted, work, work_at, first_work, hand_of, handed_out}
 use Rattle.desks.specs.Round.{place_in_round}
@@ -25,17 +27,17 @@ by-submit desk tag s P refuse on =
     go (ltb desk 8) (ltb (length (s.queue desk)) 4) (λ e. ltb-true _ _ e) (λ e. ltb-true _ _ e)
   where
     go : (a b : Bool) → (a ≡ true → desk < 8) → (b ≡ true → length (s.queue desk) < 4)
-        → P (cond a (cond b (accept desk tag s) (record { answer = refused Cause.four_wait desk 0; state = s })) (record { answer = refused Cause.no_such_desk desk 0; state = s }))
+        → P (cond a (cond b (accept desk tag s) (record { answer = refused causes.FourWait desk 0; state = s })) (record { answer = refused causes.NoSuchDesk desk 0; state = s }))
     go true true h k = on (h refl) (k refl)
     go true false h k = refuse _ _
     go false b h k = refuse _ _
 
 -- and which of the three it is
-pub no-desk : (desk tag : ℕ) (s : State) → 8 ≤ desk → submitted desk tag s ≡ record { answer = refused Cause.no_such_desk desk 0; state = s }
+pub no-desk : (desk tag : ℕ) (s : State) → 8 ≤ desk → submitted desk tag s ≡ record { answer = refused causes.NoSuchDesk desk 0; state = s }
 unfolding submitted
 no-desk desk tag s h = simp (le-ltb desk 8 h)
 
-pub full : (desk tag : ℕ) (s : State) → desk < 8 → 4 ≤ length (s.queue desk) → submitted desk tag s ≡ record { answer = refused Cause.four_wait desk 0; state = s }
+pub full : (desk tag : ℕ) (s : State) → desk < 8 → 4 ≤ length (s.queue desk) → submitted desk tag s ≡ record { answer = refused causes.FourWait desk 0; state = s }
 unfolding submitted
 full desk tag s h k = simp (lt-ltb desk 8 h, le-ltb (length (s.queue desk)) 4 k)
 
@@ -45,7 +47,7 @@ accepts desk tag s h k = simp (lt-ltb desk 8 h, lt-ltb (length (s.queue desk)) 4
 
 -- ---- a hand-out
 pub by-hand-out : (s : State) (P : Result Handed → Type 0)
-    → (first_work s ≡ none → P (record { answer = refused Cause.nothing_waits 0 0; state = s }))
+    → (first_work s ≡ none → P (record { answer = refused causes.NothingWaits 0 0; state = s }))
     → ((w : Work) → first_work s ≡ some w → P (hand_of s (some w)))
     → P (handed_out s)
 unfolding hand_of

@@ -1,7 +1,8 @@
 -- A fair hand-out for eight desks: the state, and what a submission and a hand-out make of it. Paper 02, (iv), (ix) and (x).
 use Rattle.std.specs.Prelude.{ℕ, ◌+◌, cond, List, [], ◌∷◌, ◌++◌, ltb, eqb, length}
 use Rattle.std.proofs.Math.Option.{Option, none, some}
-use Rattle.model.specs.Outcome.{Outcome, good, refused, no_such_desk, four_wait, nothing_waits}
+use Rattle.model.specs.Outcome.{Outcome, good, refused}
+use Rattle.model.specs.declared.Cause.TheVariants.{NoSuchDesk as no_such_desk, FourWait as four_wait, NothingWaits as nothing_waits}
 use Rattle.model.specs.Search.{first}
 use Rattle.desks.specs.Round.{in_round, jobs_before}
 

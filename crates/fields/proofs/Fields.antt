@@ -5,12 +5,14 @@ use mathlib.Core.List.{List, [], ◌∷◌, ◌++◌, append_assoc}
 use native.Mathlib.Nat.{pow-le-pow_right}
 use native.Mathlib.Omega.{arith}
 use lib.Dec.{lit≤}
-use lib.ListN.{length, replicate, length-append, length-replicate, replicate-append-replicate}
+use lib.ListN.{length, replicate, take, drop, length-append, length-replicate, length-take, length-drop}
+use Rattle.std.proofs.lemmas.Slice.{put_mid-paste}
+use borrow.Rule.Slice.PartMut.{put_mid}
 use Rattle.forms.specs.Write.{digit_char, digits_in, width_of}
 use borrow.Author.Tests.{lt-ltb}
 use Rattle.forms.proofs.Numbers.{length_digits, width-most}
 use Rattle.lines.specs.Puts.{Puts}
-use Rattle.lines.proofs.Writing.{puts_none, puts-length, then-puts}
+use Rattle.lines.proofs.Writing.{put-end, puts-length, then-puts}
 use Rattle.fields.specs.Columns.{right_in, in_columns, line, line_size, digits, numbers}
 use Rattle.fields.specs.Inner.{Fits}
 
@@ -37,15 +39,16 @@ put_next {s} {t} {m} {n} {at} {out} h fits p q =
 abbrev space : ℕ
 space = 32
 
-spaces-more : (k : ℕ) → replicate k space ++ (space ∷ []) ≡ replicate (k + 1) space
-spaces-more k = replicate-append-replicate k 1 space
-
-pub spaces-none : (at : ℕ) (out : List ℕ) → Put (replicate 0 32) 0 at out out at
-spaces-none at out = record { puts = puts_none at out; size = refl; same = refl; place = omega arith }
-
-pub spaces-next : (k n at : ℕ) {out₀ out : List ℕ} {p : ℕ} → k < n → at + n ≤ length out₀ → Put (replicate k 32) k at out₀ out p
-    → {out' : List ℕ} {b : ℕ} → Puts (32 ∷ []) p out out' b → Put (replicate (k + 1) 32) (k + 1) at out₀ out' b
-spaces-next k n at less fits p q = rw (spaces-more k) at (put_next {t = 32 ∷ []} refl (omega arith) p q)
+-- a part that is filled
+pub filled-puts : (out ys : List ℕ) (from n k x : ℕ) → k ≡ n → from + n ≤ length out → ys ≡ replicate (length (take k (drop from out))) x → Puts (replicate n x) from out (put_mid from k out ys) (from + n)
+filled-puts out ys from n k x e h f =
+    let size : length (replicate n x) ≡ n = length-replicate n x in
+    let part : length (take k (drop from out)) ≡ n = simp (length-take, length-drop) (omega arith) in
+    let all : ys ≡ replicate n x = f ∙ ap (λ (m : ℕ). replicate m x) part in
+    record {
+      place = omega arith;
+      bytes = put_mid-paste from k out ys (replicate n x) (length (replicate n x)) all (omega arith) refl ∙ put-end out from (replicate n x);
+    }
 
 pub digits-length : (v : ℕ) → length (digits v) ≡ width_of v
 unfolding digits

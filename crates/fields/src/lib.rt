@@ -4,8 +4,8 @@
 ghost use Rattle.std.specs.Prelude.{◌+◌, ◌^◌, ◌≤◌, ◌<◌, length, replicate};
 ghost use Rattle.forms.specs.Write.{digits_in};
 ghost use Rattle.lines.specs.Puts.{Puts};
-ghost use Rattle.fields.specs.Columns.{right_in, line_size, line, digits, numbers};
-ghost use Rattle.fields.specs.Inner.{Fits};
+ghost use Rattle.fields.specs.Columns.{right_in, line_size, line, digits};
+ghost use Rattle.fields.specs.Inner.{Fit, in_row};
 
 // The widths of the columns, and of a line with its line feed.
 const NARROW: usize = 6;
@@ -19,11 +19,7 @@ fn put_spaces(out: &mut [u8], from: usize, n: usize) -> usize
     requires { from + n ≤ length out.old }
     ensures { Puts (replicate n 32) from out.old out.new result }
 {
-    let mut k: usize = 0;
-    while k < n {
-        out[from + k] = b' ';
-        k += 1;
-    }
+    out[from..from + n].fill(b' ');
     from + n
 }
 
@@ -32,12 +28,10 @@ fn put_digits(out: &mut [u8], from: usize, n: usize, v: u64) -> usize
     requires { from + n ≤ length out.old }
     ensures { Puts (digits_in 10 n v) from out.old out.new result }
 {
-    let mut x = v;
-    let mut i = n;
-    while 0 < i {
-        i -= 1;
-        out[from + i] = b'0' + (x % 10) as u8;
-        x = x / 10;
+    let mut left = v;
+    for i in (0..n).rev() {
+        out[from + i] = b'0' + (left % 10) as u8;
+        left /= 10;
     }
     from + n
 }
@@ -53,10 +47,11 @@ fn put_number(out: &mut [u8], from: usize, width: usize, v: u64) -> usize
 }
 
 // Puts a line of five numbers.
-pub fn put_line(out: &mut [u8], from: usize, a: u64, b: u64, c: u64, d: u64, e: u64) -> usize
-    requires { Fits a b c d e × (from + line_size ≤ length out.old) }
-    ensures { Puts (line (numbers a b c d e)) from out.old out.new result }
+pub fn put_line(out: &mut [u8], from: usize, numbers: [u64; 5]) -> usize
+    requires { Fit numbers × (from + line_size ≤ length out.old) }
+    ensures { Puts (line (in_row numbers)) from out.old out.new result }
 {
+    let [a, b, c, d, e] = numbers;
     let second = put_number(out, from, NARROW, a);
     let third = put_number(out, second, NARROW, b);
     let fourth = put_number(out, third, WIDE, c);

@@ -4,7 +4,8 @@ use mathlib.Core.List.{List, [], ◌∷◌, ◌++◌, flatten, flat_map}
 use mathlib.Core.Option.{or_else, Option-elim}
 use Prim.Native.Nat.{ℕ, ◌-◌}
 use lib.ListN.{replicate}
-use Rattle.model.specs.Outcome.{Outcome, good, refused, malformed, out_of_range, missing, missed_rate}
+use Rattle.model.specs.Outcome.{Outcome, good, refused}
+use Rattle.model.specs.declared.Cause.TheVariants.{Malformed as malformed, OutOfRange as out_of_range, Missing as missing, MissedRate as missed_rate}
 use Rattle.model.specs.Sum.{sum_over}
 use Rattle.model.specs.Search.{only_if, first}
 use Rattle.model.specs.Rule as rule

@@ -11,21 +11,22 @@ use borrow.Author.Tests.{le-leb, lt-leb}
 use native.Mathlib.Decide.{dec_lt}
 use lib.Seq.{get_or-take, length-take-le}
 use lib.ListN.{length, take, length-append}
-use Rattle.model.specs.Outcome.{Outcome, refused, missing, malformed, out_of_range}
+use Rattle.model.specs.Outcome.{Outcome, refused}
+use Rattle.model.specs.declared.Cause.TheVariants.{Missing as missing, Malformed as malformed, OutOfRange as out_of_range}
 use Rattle.forms.specs.Line.{lines, on_first, is_remark, fits, most_in_remark, most_remarks, line_value, is_passed}
-use Rattle.forms.specs.Form.{field_of, admits_of, second_of, Sound}
+use Rattle.forms.specs.Form.{Field, line, field_of, admits_of, second_of, Sound}
 use Rattle.forms.specs.Read.{read_lines, on_field}
 use Rattle.forms.specs.Turns.{walk_lines, at_item}
 use Rattle.forms.specs.Write.{line_of, render_from, render}
 use Rattle.forms.specs.Laws.{most_bytes}
 use Rattle.forms.specs.declared.form.Form.{Form}
 use Rattle.forms.specs.declared.form.Range.{Range}
-use Rattle.forms.specs.declared.form.Field.{Field}
-use Rattle.forms.specs.declared.form.Field.TheVariants.{Line, End}
 use Rattle.forms.proofs.Forms.{sound_none, sound_more}
 use Rattle.forms.proofs.Rendering.{render-more, line-short, render-plain}
 use Rattle.forms.proofs.Values.{line-of-value}
 use Rattle.forms.proofs.Remarks.{item-seen, unfit, fits-short, read-by-turns}
+use Rattle.std.specs.declared.option.Option.TheVariants.{None, Some}
+use Rattle.forms.specs.declared.form.Key.{Key}
 use Rattle.forms.proofs.Walks.{allows-line}
 
 -- ---- the lines of the first bytes of a text
@@ -77,12 +78,12 @@ lines-take (suc c) (b ∷ t) = go (eqb b 10) (lines-take c t)
 
 -- ---- a line that is too long for a value and for a remark stops the reading, and so does what a cut leaves of it
 
-long-value : (k : ℕ) (r : Range) (l : List ℕ) → 27 < length l → line_value k r l ≡ none
+long-value : (k : Key) (r : Range) (l : List ℕ) → 27 < length l → line_value k r l ≡ none
 long-value k r l h = go (line_value k r l) refl
   where
     go : (o : Option ℕ) → line_value k r l ≡ o → o ≡ none
     go none e = refl
-    go (some v) e = absurd (omega (arith, ap length (line-of-value k r l v e), line-short (Line k r) v))
+    go (some v) e = absurd (omega (arith, ap length (line-of-value k r l v e), line-short (line k r) v))
 
 long-remark : (l : List ℕ) → most_in_remark + 1 < length l → fits l ≡ false
 long-remark l h = go (fits l) refl
@@ -97,7 +98,7 @@ stopped form n done remark =
     cond remark (refused malformed n (second_of form))
     (on_field (field_of form done) (refused missing n (second_of form)) (λ k r. refused malformed n (second_of form)))
 
-item-none : (form : Form) (n : ℕ) (done : List ℕ) (value : ℕ → Range → Option ℕ) (next : List ℕ → Outcome (List ℕ)) → ((k : ℕ) (r : Range) → value k r ≡ none)
+item-none : (form : Form) (n : ℕ) (done : List ℕ) (value : Key → Range → Option ℕ) (next : List ℕ → Outcome (List ℕ)) → ((k : Key) (r : Range) → value k r ≡ none)
     → at_item form n done value next ≡ on_field (field_of form done) (refused missing n (second_of form)) (λ k r. refused malformed n (second_of form))
 unfolding Option-elim
 item-none form n done value next f = go (field_of form done)
@@ -105,8 +106,8 @@ item-none form n done value next f = go (field_of form done)
     go : (d : Field)
         → on_field d (refused missing n (second_of form)) (λ k r. Option-elim (value k r) (refused malformed n (second_of form)) (λ v. cond (admits_of r v) (next (done ++ (v ∷ []))) (refused out_of_range n (second_of form))))
         ≡ on_field d (refused missing n (second_of form)) (λ k r. refused malformed n (second_of form))
-    go End = refl
-    go (Line k r) = rw (f k r)
+    go None = refl
+    go (Some x) = rw (f x.key x.range)
 
 walk-long : (form : Form) (n c : ℕ) (done l : List ℕ) (ls : List (List ℕ)) → most_in_remark + 1 < length l → walk_lines form n c done (l ∷ ls) ≡ stopped form n done (is_remark form l)
 unfolding walk_lines stopped
@@ -120,7 +121,7 @@ walk-long form n c done l ls h =
 -- one turn over the same line, where the rest comes to the same
 same_turn : (form : Form) (n c : ℕ) (done l : List ℕ) (xs ls : List (List ℕ))
     → (c < most_remarks → T (fits l) → walk_lines form (n + 1) (c + 1) done xs ≡ walk_lines form (n + 1) (c + 1) done ls)
-    → ((k : ℕ) (r : Range) (v : ℕ) → field_of form done ≡ Line k r → line_value k r l ≡ some v → admits_of r v ≡ true
+    → ((k : Key) (r : Range) (v : ℕ) → field_of form done ≡ line k r → line_value k r l ≡ some v → admits_of r v ≡ true
     → walk_lines form (n + 1) c (done ++ (v ∷ [])) xs ≡ walk_lines form (n + 1) c (done ++ (v ∷ [])) ls)
     → walk_lines form n c done (l ∷ xs) ≡ walk_lines form n c done (l ∷ ls)
 unfolding walk_lines
@@ -142,7 +143,7 @@ same_turn form n c done l xs ls remark real = go (is_remark form l)
 abbrev Left : Form → ℕ → List ℕ → ℕ → Type 0
 Left form c done left = most_bytes ≤ left + (length (render form done) + c * (most_in_remark + 1))
 
-left-more : (form : Form) (c k : ℕ) (r : Range) (done l : List ℕ) (v left : ℕ) → field_of form done ≡ Line k r → line_value k r l ≡ some v → length l ≤ left
+left-more : (form : Form) (c : ℕ) (k : Key) (r : Range) (done l : List ℕ) (v left : ℕ) → field_of form done ≡ line k r → line_value k r l ≡ some v → length l ≤ left
     → Left form c done left → Left form c (done ++ (v ∷ [])) (left - length l)
 unfolding render
 left-more form c k r done l v left f e w h =

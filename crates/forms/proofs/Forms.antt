@@ -22,13 +22,14 @@ use Rattle.lists.specs.declared.Network as counts
 use Rattle.lists.specs.declared.PlanSizes.{PlanSizes}
 use Rattle.lists.specs.declared.RuleTables.{RuleTables}
 use Rattle.lists.proofs.Positions.{grouped, before-end, in_group, with-unit, without-unit, head-low, link-some, link-most, flow-pos, link-at, flow-at, tunnel-at, flows-start, tunnels-start, head-size, head-most, most-network, most-in-all}
-use Rattle.forms.specs.Form.{line, plan_body, is_hex, admits_of, Sound, allows, field_of, count_lines, network_lines, link_lines, flow_lines, tunnel_lines, plan_lines, rules_lines, rule_lines, network_body, rules_body, most_of}
+use Rattle.forms.specs.Form.{Field, line, plan_body, is_hex, admits_of, Sound, allows, field_of, count_lines, network_lines, link_lines, flow_lines, tunnel_lines, plan_lines, rules_lines, rule_lines, network_body, rules_body, most_of}
 use Rattle.forms.specs.declared.form.Form.{Form}
 use Rattle.forms.specs.declared.form.Form.TheVariants.{Network, Plan, Rules}
 use Rattle.forms.specs.declared.form.Range.{Range}
+use Rattle.std.specs.declared.option.Option.TheVariants.{None, Some}
+use Rattle.forms.specs.declared.form.Key.{Key}
+use Rattle.forms.specs.declared.form.Key.TheVariants as key
 use Rattle.forms.specs.declared.form.Range.TheVariants.{Between, ZeroOr, Below, Set}
-use Rattle.forms.specs.declared.form.Field.{Field}
-use Rattle.forms.specs.declared.form.Field.TheVariants.{Line, End}
 
 -- ---- sets and shifts
 
@@ -88,13 +89,13 @@ unfolding head_size
 lines-in-head edition = ⊎_elim (λ e. rw e refl) (λ e. rw e refl) (bool_cases (has_held edition))
 
 -- its last lines are those of the counts
-pub count-field : (edition j : ℕ) → get_or (network_lines edition) (head_size edition - length count_lines + j) End ≡ get_or count_lines j End
+pub count-field : (edition j : ℕ) → get_or (network_lines edition) (head_size edition - length count_lines + j) None ≡ get_or count_lines j None
 count-field edition j = ⊎_elim with without (bool_cases (has_held edition))
   where
-    with : has_held edition ≡ true → get_or (network_lines edition) (head_size edition - length count_lines + j) End ≡ get_or count_lines j End
+    with : has_held edition ≡ true → get_or (network_lines edition) (head_size edition - length count_lines + j) None ≡ get_or count_lines j None
     with e = let k : head_size edition - 3 + j ≡ suc (suc (suc (suc j))) = omega (arith, with-unit edition e) in rw (k, e) refl
 
-    without : has_held edition ≡ false → get_or (network_lines edition) (head_size edition - length count_lines + j) End ≡ get_or count_lines j End
+    without : has_held edition ≡ false → get_or (network_lines edition) (head_size edition - length count_lines + j) None ≡ get_or count_lines j None
     without e = let k : head_size edition - 3 + j ≡ suc (suc (suc j)) = omega (arith, without-unit edition e) in rw (k, e) refl
 
 pub head-lines : (n : counts.Network) → link_at n 0 ≡ length (network_lines n.edition)
@@ -113,7 +114,7 @@ unfolding per_flow
 flow-lines edition = ⊎_elim (λ e. rw e refl) (λ e. rw e refl) (bool_cases (has_next edition))
 
 module _ (n : counts.Network) (before : ℕ) where
-  pub body-link : (k j : ℕ) → k < n.links → j < per_link n.edition → network_body n before (link_at n k + j) ≡ get_or (link_lines n.edition before) j End
+  pub body-link : (k j : ℕ) → k < n.links → j < per_link n.edition → network_body n before (link_at n k + j) ≡ get_or (link_lines n.edition before) j None
   unfolding network_body
   body-link k j h g =
       let x : link_at n k + j < flow_at n 0 = omega (arith, link-at n k, before-end _ (link-some n.edition) k n.links j h g, flows-start n) in
@@ -121,7 +122,7 @@ module _ (n : counts.Network) (before : ℕ) where
       let z : (link_at n k + j - link_at n 0) % length (link_lines n.edition before) ≡ j = rw (link-lines n.edition before, i) (in_group _ (link-some n.edition) k j g) in
       rw (lt-ltb (link_at n k + j) (flow_at n 0) x, z)
 
-  pub body-flow : (f j : ℕ) → f < n.flows → j < per_flow n.edition → network_body n before (flow_at n f + j) ≡ get_or (flow_lines n.edition) j End
+  pub body-flow : (f j : ℕ) → f < n.flows → j < per_flow n.edition → network_body n before (flow_at n f + j) ≡ get_or (flow_lines n.edition) j None
   unfolding network_body
   body-flow f j h k =
       let x : flow_at n 0 ≤ flow_at n f + j = omega (arith, flow-at n f) in
@@ -133,7 +134,7 @@ module _ (n : counts.Network) (before : ℕ) where
   flows-before : flow_at n 0 ≤ tunnel_at n 0
   flows-before = omega (arith, tunnels-start n)
 
-  pub body-tunnel : (t j : ℕ) → t < n.tunnels → j < length (tunnel_lines n) → network_body n before (tunnel_at n t + j) ≡ get_or (tunnel_lines n) j End
+  pub body-tunnel : (t j : ℕ) → t < n.tunnels → j < length (tunnel_lines n) → network_body n before (tunnel_at n t + j) ≡ get_or (tunnel_lines n) j None
   unfolding network_body
   body-tunnel t j h k =
       let x : flow_at n 0 ≤ tunnel_at n t + j = omega (arith, tunnel-at n t, flows-before) in
@@ -142,7 +143,7 @@ module _ (n : counts.Network) (before : ℕ) where
       let z : (tunnel_at n t + j - tunnel_at n 0) % length (tunnel_lines n) ≡ j = omega (arith, tunnel-at n t) in
       rw (le-ltb (tunnel_at n t + j) (flow_at n 0) x, le-ltb (tunnel_at n t + j) (tunnel_at n 0) y, lt-ltb (tunnel_at n t + j) (network_size n) w, z)
 
-  pub body_end : (i : ℕ) → network_size n ≤ i → network_body n before i ≡ End
+  pub body_end : (i : ℕ) → network_size n ≤ i → network_body n before i ≡ None
   unfolding network_body
   body_end i h =
       let y : tunnel_at n 0 ≤ i = omega (arith, tunnel-at n n.tunnels) in
@@ -151,20 +152,20 @@ module _ (n : counts.Network) (before : ℕ) where
 
   -- by what stands at a position
   module _ (i : ℕ) (r : Position) (s : StandsAt n i r) where
-    pub stands-link : (k j : ℕ) → r ≡ position.Link k j → network_body n before i ≡ get_or (link_lines n.edition before) j End
+    pub stands-link : (k j : ℕ) → r ≡ position.Link k j → network_body n before i ≡ get_or (link_lines n.edition before) j None
     stands-link k j e = let p = subst (StandsAt n i) e s in ap (network_body n before) p.2 ∙ body-link k j p.0 p.1
 
-    pub stands-flow : (f j : ℕ) → r ≡ position.Flow f j → network_body n before i ≡ get_or (flow_lines n.edition) j End
+    pub stands-flow : (f j : ℕ) → r ≡ position.Flow f j → network_body n before i ≡ get_or (flow_lines n.edition) j None
     stands-flow f j e = let p = subst (StandsAt n i) e s in ap (network_body n before) p.2 ∙ body-flow f j p.0 p.1
 
-    pub stands-tunnel : (t j : ℕ) → r ≡ position.Tunnel t j → network_body n before i ≡ get_or (tunnel_lines n) j End
+    pub stands-tunnel : (t j : ℕ) → r ≡ position.Tunnel t j → network_body n before i ≡ get_or (tunnel_lines n) j None
     stands-tunnel t j e = let p = subst (StandsAt n i) e s in ap (network_body n before) p.2 ∙ body-tunnel t j p.0 p.1
 
-    pub stands-past : r ≡ position.Past → network_body n before i ≡ End
+    pub stands-past : r ≡ position.Past → network_body n before i ≡ None
     stands-past e = body_end i (subst (StandsAt n i) e s)
 
 -- the first field of a list, whatever its edition
-first_field : (l : List ℕ) → field_of Network (take 0 l) ≡ get_or (network_lines (at l 0)) 0 End
+first_field : (l : List ℕ) → field_of Network (take 0 l) ≡ get_or (network_lines (at l 0)) 0 None
 unfolding field_of
 first_field l = refl
 
@@ -182,19 +183,19 @@ module _ (l : List ℕ) (i : ℕ) (h : i ≤ length l) where
 
   -- by whether the head has so many lines
   by-head : 0 < i → field_of Network (take i l)
-      ≡ cond (ltb i (length (network_lines (at l 0)))) (get_or (network_lines (at l 0)) i End) (network_body (network_sizes (take i l)) (at (take i l) (i - 1)) i)
+      ≡ cond (ltb i (length (network_lines (at l 0)))) (get_or (network_lines (at l 0)) i None) (network_body (network_sizes (take i l)) (at (take i l) (i - 1)) i)
   unfolding field_of
   by-head some =
-      ap₂ (λ (e j : ℕ). cond (ltb j (length (network_lines e))) (get_or (network_lines e) j End) (network_body (network_sizes (take i l)) (at (take i l) (j - 1)) j)) (edition-kept some) (length-take-le i l h)
+      ap₂ (λ (e j : ℕ). cond (ltb j (length (network_lines e))) (get_or (network_lines e) j None) (network_body (network_sizes (take i l)) (at (take i l) (j - 1)) j)) (edition-kept some) (length-take-le i l h)
 
-  in_head : 0 < i → i < length (network_lines (at l 0)) → field_of Network (take i l) ≡ get_or (network_lines (at l 0)) i End
+  in_head : 0 < i → i < length (network_lines (at l 0)) → field_of Network (take i l) ≡ get_or (network_lines (at l 0)) i None
   in_head some k =
-      by-head some ∙ ap (λ (b : Bool). cond b (get_or (network_lines (at l 0)) i End) (network_body (network_sizes (take i l)) (at (take i l) (i - 1)) i)) (lt-ltb i (length (network_lines (at l 0))) k)
+      by-head some ∙ ap (λ (b : Bool). cond b (get_or (network_lines (at l 0)) i None) (network_body (network_sizes (take i l)) (at (take i l) (i - 1)) i)) (lt-ltb i (length (network_lines (at l 0))) k)
 
-  pub network-head-field : i < length (network_lines (at l 0)) → field_of Network (take i l) ≡ get_or (network_lines (at l 0)) i End
+  pub network-head-field : i < length (network_lines (at l 0)) → field_of Network (take i l) ≡ get_or (network_lines (at l 0)) i None
   network-head-field k = go (dec_lt 0 i)
     where
-      go : Dec (0 < i) → field_of Network (take i l) ≡ get_or (network_lines (at l 0)) i End
+      go : Dec (0 < i) → field_of Network (take i l) ≡ get_or (network_lines (at l 0)) i None
       go (yes some) = in_head some k
       go (no first) = let e : i ≡ 0 = omega arith in rw e (first_field l)
 
@@ -202,10 +203,10 @@ module _ (l : List ℕ) (i : ℕ) (h : i ≤ length l) where
   network-body-field k =
       let some : 0 < i = omega (arith, lines-in-head (at l 0), head-low (at l 0), k) in
       by-head some
-      ∙ ap (λ (b : Bool). cond b (get_or (network_lines (at l 0)) i End) (network_body (network_sizes (take i l)) (at (take i l) (i - 1)) i)) (le-ltb i (length (network_lines (at l 0))) k)
+      ∙ ap (λ (b : Bool). cond b (get_or (network_lines (at l 0)) i None) (network_body (network_sizes (take i l)) (at (take i l) (i - 1)) i)) (le-ltb i (length (network_lines (at l 0))) k)
       ∙ ap₂ (λ (n : counts.Network) (before : ℕ). network_body n before i) (sizes-kept k) (get_or-take i l (i - 1) 0 (omega arith))
 
-  pub plan-head-field : i < length plan_lines → field_of Plan (take i l) ≡ get_or plan_lines i End
+  pub plan-head-field : i < length plan_lines → field_of Plan (take i l) ≡ get_or plan_lines i None
   unfolding field_of
   plan-head-field k = rw (length-take-le i l h, lt-ltb i (length plan_lines) k)
 
@@ -213,7 +214,7 @@ module _ (l : List ℕ) (i : ℕ) (h : i ≤ length l) where
   unfolding field_of
   plan-body-field k = rw (length-take-le i l h, le-ltb i (length plan_lines) k, get_or-take i l 1 0 (omega arith), get_or-take i l 2 0 (omega arith), get_or-take i l 3 0 (omega arith))
 
-  pub rules-head-field : i < length rules_lines → field_of Rules (take i l) ≡ get_or rules_lines i End
+  pub rules-head-field : i < length rules_lines → field_of Rules (take i l) ≡ get_or rules_lines i None
   unfolding field_of
   rules-head-field k = rw (length-take-le i l h, lt-ltb i (length rules_lines) k)
 
@@ -223,23 +224,23 @@ module _ (l : List ℕ) (i : ℕ) (h : i ≤ length l) where
 
 -- the field after a list
 module _ (l : List ℕ) where
-  pub own-head : length l < length (network_lines (at l 0)) → field_of Network l ≡ get_or (network_lines (at l 0)) (length l) End
+  pub own-head : length l < length (network_lines (at l 0)) → field_of Network l ≡ get_or (network_lines (at l 0)) (length l) None
   unfolding field_of
-  own-head k = ap (λ (b : Bool). cond b (get_or (network_lines (at l 0)) (length l) End) (network_body (network_sizes l) (at l (length l - 1)) (length l))) (lt-ltb (length l) (length (network_lines (at l 0))) k)
+  own-head k = ap (λ (b : Bool). cond b (get_or (network_lines (at l 0)) (length l) None) (network_body (network_sizes l) (at l (length l - 1)) (length l))) (lt-ltb (length l) (length (network_lines (at l 0))) k)
 
   pub own_body : length (network_lines (at l 0)) ≤ length l → field_of Network l ≡ network_body (network_sizes l) (at l (length l - 1)) (length l)
   unfolding field_of
-  own_body k = ap (λ (b : Bool). cond b (get_or (network_lines (at l 0)) (length l) End) (network_body (network_sizes l) (at l (length l - 1)) (length l))) (le-ltb (length l) (length (network_lines (at l 0))) k)
+  own_body k = ap (λ (b : Bool). cond b (get_or (network_lines (at l 0)) (length l) None) (network_body (network_sizes l) (at l (length l - 1)) (length l))) (le-ltb (length l) (length (network_lines (at l 0))) k)
 
 -- before there is a number, the edition matters nothing
-pub no-head : (l : List ℕ) → length l ≡ 0 → get_or (network_lines 0) (length l) End ≡ field_of Network l
+pub no-head : (l : List ℕ) → length l ≡ 0 → get_or (network_lines 0) (length l) None ≡ field_of Network l
 unfolding field_of
 no-head [] e = refl
 no-head (v ∷ l) e = absurd (omega arith)
 
 -- a sound network's number in the head, and after it
 module _ (l : List ℕ) (s : Sound Network l) where
-  pub network-head-at : (i : ℕ) → i < length l → i < length (network_lines (at l 0)) → T (allows (get_or (network_lines (at l 0)) i End) (at l i))
+  pub network-head-at : (i : ℕ) → i < length l → i < length (network_lines (at l 0)) → T (allows (get_or (network_lines (at l 0)) i None) (at l i))
   network-head-at i h k = rw (network-head-field l i (le_of_lt h) k) at (sound-at Network l i h s)
 
   pub network-body-at : (i : ℕ) → i < length l → length (network_lines (at l 0)) ≤ i → T (allows (network_body (network_sizes l) (at l (i - 1)) i) (at l i))
@@ -247,10 +248,10 @@ module _ (l : List ℕ) (s : Sound Network l) where
 
 -- what the lines of a head say of the counts
 abbrev pub InHead : List ℕ → Type 0
-InHead l = (i : ℕ) → i < length (network_lines (at l 0)) → T (allows (get_or (network_lines (at l 0)) i End) (at l i))
+InHead l = (i : ℕ) → i < length (network_lines (at l 0)) → T (allows (get_or (network_lines (at l 0)) i None) (at l i))
 
 module _ (l : List ℕ) (t : InHead l) where
-  count-line : (j : ℕ) → j < length count_lines → T (allows (get_or count_lines j End) (at l (head_size (at l 0) - length count_lines + j)))
+  count-line : (j : ℕ) → j < length count_lines → T (allows (get_or count_lines j None) (at l (head_size (at l 0) - length count_lines + j)))
   count-line j h = rw (count-field (at l 0) j) at (t (head_size (at l 0) - length count_lines + j) (omega (arith, lines-in-head (at l 0), head-low (at l 0))))
 
   pub limited : (1 ≤ (network_sizes l).links) × Limited (network_sizes l)
@@ -270,7 +271,7 @@ head-of-network l s h = (limited l (λ i k. network-head-at l s i (omega arith) 
 -- ---- the plan's fields
 
 module _ (l : List ℕ) (s : Sound Plan l) where
-  pub plan-head-at : (i : ℕ) → i < length l → i < length plan_lines → T (allows (get_or plan_lines i End) (at l i))
+  pub plan-head-at : (i : ℕ) → i < length l → i < length plan_lines → T (allows (get_or plan_lines i None) (at l i))
   plan-head-at i h k = rw (plan-head-field l i (le_of_lt h) k) at (sound-at Plan l i h s)
 
   pub plan-body-at : (i : ℕ) → i < length l → length plan_lines ≤ i → T (allows (plan_body (plan_sizes l) i) (at l i))
@@ -292,11 +293,11 @@ head-of-plan l s h =
 -- ---- the rule tables' fields
 
 module _ (n : RuleTables) where
-  pub body-room : (s : ℕ) → s < n.switches → rules_body n (room_at n s) ≡ line "room=" (Between 0 most_room)
+  pub body-room : (s : ℕ) → s < n.switches → rules_body n (room_at n s) ≡ line key.Room (Between 0 most_room)
   unfolding rules_body
   body-room s h = let x : room_at n s < rule_at n 0 = omega arith in rw (lt-ltb (room_at n s) (rule_at n 0) x)
 
-  pub body-rule : (t j : ℕ) → t < n.tunnels → j < length (rule_lines n) → rules_body n (rule_at n t + j) ≡ get_or (rule_lines n) j End
+  pub body-rule : (t j : ℕ) → t < n.tunnels → j < length (rule_lines n) → rules_body n (rule_at n t + j) ≡ get_or (rule_lines n) j None
   unfolding rules_body
   body-rule t j h k =
       let x : rule_at n 0 ≤ rule_at n t + j = omega arith in
@@ -304,12 +305,12 @@ module _ (n : RuleTables) where
       let z : (rule_at n t + j - rule_at n 0) % length (rule_lines n) ≡ j = omega arith in
       rw (le-ltb (rule_at n t + j) (rule_at n 0) x, lt-ltb (rule_at n t + j) (tables_size n) y, z)
 
-  pub rules-end : (i : ℕ) → tables_size n ≤ i → rules_body n i ≡ End
+  pub rules-end : (i : ℕ) → tables_size n ≤ i → rules_body n i ≡ None
   unfolding rules_body
   rules-end i h = let x : rule_at n 0 ≤ i = omega arith in rw (le-ltb i (rule_at n 0) x, le-ltb i (tables_size n) h)
 
 module _ (l : List ℕ) (s : Sound Rules l) where
-  pub rules-head-at : (i : ℕ) → i < length l → i < length rules_lines → T (allows (get_or rules_lines i End) (at l i))
+  pub rules-head-at : (i : ℕ) → i < length l → i < length rules_lines → T (allows (get_or rules_lines i None) (at l i))
   rules-head-at i h k = rw (rules-head-field l i (le_of_lt h) k) at (sound-at Rules l i h s)
 
   pub rules-body-at : (i : ℕ) → i < length l → length rules_lines ≤ i → T (allows (rules_body (table_sizes l) i) (at l i))
@@ -331,7 +332,7 @@ head-of-rules l s h =
 plan-most : (n : PlanSizes) → n.steps ≤ most_steps → n.tunnels ≤ most_tunnels → plan_size n ≤ most_plan
 plan-most n h k = let q : n.steps - 1 ≤ most_steps - 1 = omega arith in omega (arith, mul-le-mul q k)
 
-full : (form : Form) (l : List ℕ) → Sound form l → most_of form ≤ length l → field_of form l ≡ End
+full : (form : Form) (l : List ℕ) → Sound form l → most_of form ≤ length l → field_of form l ≡ None
 unfolding field_of
 full Network l s h =
     let n = network_sizes l in
@@ -353,7 +354,7 @@ room form l v s t = go (dec_lt (length l) (most_of form))
     go : Dec (length l < most_of form) → length l < most_of form
     go (yes h) = h
     go (no h) =
-        let e : field_of form l ≡ End = full form l s (omega arith) in
+        let e : field_of form l ≡ None = full form l s (omega arith) in
         absurd (rw e at t)
 
 pub most-numbers : (form : Form) → most_of form ≤ most_numbers
@@ -366,12 +367,15 @@ room-in-all form l v s t = omega (arith, room form l v s t, most-numbers form)
 
 -- ---- a bound on every range that a field can have
 
+abbrev LowRange : Range → Type 0
+LowRange (Between low high) = high ≤ most_amount * most_steps
+LowRange (ZeroOr low high) = high ≤ most_amount * most_steps
+LowRange (Below n) = n ≤ most_amount * most_steps
+LowRange (Set n) = n ≤ most_links
+
 abbrev Low : Field → Type 0
-Low End = Unit {0}
-Low (Line k (Between low high)) = high ≤ most_amount * most_steps
-Low (Line k (ZeroOr low high)) = high ≤ most_amount * most_steps
-Low (Line k (Below n)) = n ≤ most_amount * most_steps
-Low (Line k (Set n)) = n ≤ most_links
+Low None = Unit {0}
+Low (Some x) = LowRange x.range
 
 low-cond : (b : Bool) (x y : Field) → Low x → Low y → Low (cond b x y)
 low-cond true x y p q = p
@@ -381,7 +385,7 @@ abbrev Lows : List Field → Type 0
 Lows [] = Unit {0}
 Lows (f ∷ fs) = Low f × Lows fs
 
-low-at : (fs : List Field) (n : ℕ) → Lows fs → Low (get_or fs n End)
+low-at : (fs : List Field) (n : ℕ) → Lows fs → Low (get_or fs n None)
 low-at [] n p = tt
 low-at (f ∷ fs) zero p = p.0
 low-at (f ∷ fs) (suc n) p = low-at fs n p.1
@@ -415,7 +419,7 @@ module _ (l : List ℕ) (s : Sound Network l) (long : length (network_lines (at 
       let before = at l (length l - 1 - 1) in
       (between 0 most_amount last (rw (ap (network_body sizes before) e ∙ body-link sizes before k 0 h (link-some sizes.edition)) at t)).1
 
-  low-number : (k j : ℕ) → k < sizes.links → j < per_link sizes.edition → length l ≡ link_at sizes k + j → Low (get_or (link_lines sizes.edition last) j End)
+  low-number : (k j : ℕ) → k < sizes.links → j < per_link sizes.edition → length l ≡ link_at sizes k + j → Low (get_or (link_lines sizes.edition last) j None)
   low-number k zero h g i = lit most_amount tt
   low-number k (suc zero) h g i = low-at (link_lines sizes.edition last) 1 (low-link sizes.edition last (after-cap k h i))
   low-number k (suc (suc j)) h g i = absurd (omega (arith, link-most sizes.edition))
@@ -430,8 +434,8 @@ module _ (l : List ℕ) (s : Sound Network l) (long : length (network_lines (at 
   unfolding network_body
   low-rest h few =
       rw (le-ltb (length l) (flow_at sizes 0) h)
-      (low-cond (ltb (length l) (tunnel_at sizes 0)) (get_or (flow_lines sizes.edition) ((length l - flow_at sizes 0) % length (flow_lines sizes.edition)) End) _ (low-at (flow_lines sizes.edition) ((length l - flow_at sizes 0) % length (flow_lines sizes.edition)) (low-flow sizes.edition))
-      (low-cond (ltb (length l) (network_size sizes)) (get_or (tunnel_lines sizes) ((length l - tunnel_at sizes 0) % 4) End) End
+      (low-cond (ltb (length l) (tunnel_at sizes 0)) (get_or (flow_lines sizes.edition) ((length l - flow_at sizes 0) % length (flow_lines sizes.edition)) None) _ (low-at (flow_lines sizes.edition) ((length l - flow_at sizes 0) % length (flow_lines sizes.edition)) (low-flow sizes.edition))
+      (low-cond (ltb (length l) (network_size sizes)) (get_or (tunnel_lines sizes) ((length l - tunnel_at sizes 0) % 4) None) None
       (low-at (tunnel_lines sizes) ((length l - tunnel_at sizes 0) % 4) (omega (arith, few.flows), (few.links, (lit most_amount tt, (lit most_amount tt, tt))))) tt))
 
   low-body : Dec (length l < flow_at sizes 0) → Low (network_body sizes last (length l))
@@ -441,8 +445,8 @@ module _ (l : List ℕ) (s : Sound Network l) (long : length (network_lines (at 
 low-rules : (n : RuleTables) (i : ℕ) → n.switches ≤ most_switches → Low (rules_body n i)
 unfolding rules_body
 low-rules n i h =
-    low-cond (ltb i (rule_at n 0)) (line "room=" (Between 0 most_room)) _ (lit most_room tt)
-    (low-cond (ltb i (tables_size n)) (get_or (rule_lines n) ((i - rule_at n 0) % 2) End) End (low-at (rule_lines n) ((i - rule_at n 0) % 2) (h, (lit 3 tt, tt))) tt)
+    low-cond (ltb i (rule_at n 0)) (line key.Room (Between 0 most_room)) _ (lit most_room tt)
+    (low-cond (ltb i (tables_size n)) (get_or (rule_lines n) ((i - rule_at n 0) % 2) None) None (low-at (rule_lines n) ((i - rule_at n 0) % 2) (h, (lit 3 tt, tt))) tt)
 
 low_field : (form : Form) (l : List ℕ) → Sound form l → Low (field_of form l)
 unfolding field_of
@@ -460,7 +464,7 @@ low_field Plan l s = go (dec_lt (length l) 4)
     go (no h) =
         let k : 4 ≤ length l = omega arith in
         let b = head-of-plan l s k in
-        rw (le-ltb (length l) 4 k) (low-cond (ltb (length l) (plan_size (plan_sizes l))) (line "at=" (Between 0 (most_amount * at l 1))) End (omega (arith, b.parts.1)) tt)
+        rw (le-ltb (length l) 4 k) (low-cond (ltb (length l) (plan_size (plan_sizes l))) (line key.At (Between 0 (most_amount * at l 1))) None (omega (arith, b.parts.1)) tt)
 low_field Rules l s = go (dec_lt (length l) 4)
   where
     go : Dec (length l < 4) → Low (field_of Rules l)
@@ -474,19 +478,19 @@ pub zero_or : (low high v : ℕ) → T (eqb v 0 || (leb low v && leb v high)) �
 zero_or low high zero t = omega arith
 zero_or low high (suc v) t = (between low high (suc v) (rw (eqb-suc-zero v) at t)).1
 
-low-decimal : (k : ℕ) (r : Range) (v : ℕ) → Low (Line k r) → T (admits_of r v) → is_hex r ≡ false → v < 10000000000
+low-decimal : (k : Key) (r : Range) (v : ℕ) → Low (line k r) → T (admits_of r v) → is_hex r ≡ false → v < 10000000000
 low-decimal k (Between low high) v b t e = omega (arith, (between low high v t).1)
 low-decimal k (ZeroOr low high) v b t e = omega (arith, zero_or low high v t)
 low-decimal k (Below n) v b t e = omega (arith, ltb→lt v n t)
 low-decimal k (Set n) v b t e = absurd (true≢false e)
 
-low-hex : (k : ℕ) (r : Range) (v : ℕ) → Low (Line k r) → T (admits_of r v) → is_hex r ≡ true → v < 2 ^ 64
+low-hex : (k : Key) (r : Range) (v : ℕ) → Low (line k r) → T (admits_of r v) → is_hex r ≡ true → v < 2 ^ 64
 low-hex k (Between low high) v b t e = absurd (false≢true e)
 low-hex k (ZeroOr low high) v b t e = absurd (false≢true e)
 low-hex k (Below n) v b t e = absurd (false≢true e)
 low-hex k (Set n) v b t e = lt_of_lt_of_le (ltb→lt v (2 ^ n) (both (not (eqb v 0)) (ltb v (2 ^ n)) t).1) (pow_mono b)
 
-module _ (form : Form) (l : List ℕ) (k : ℕ) (r : Range) (v : ℕ) (s : Sound form l) (e : field_of form l ≡ Line k r) (t : T (admits_of r v)) where
+module _ (form : Form) (l : List ℕ) (k : Key) (r : Range) (v : ℕ) (s : Sound form l) (e : field_of form l ≡ line k r) (t : T (admits_of r v)) where
   pub small : is_hex r ≡ false → v < 10000000000
   small x = low-decimal k r v (rw e at (low_field form l s)) t x
 

@@ -12,7 +12,8 @@ use lib.Dec.{T, eqb, leb, ltb, ltb→lt, eqb-suc-zero}
 use lib.ListN.{length, get_or, take}
 use borrow.Author.Tests.{lt-ltb, le-ltb, ne_eqb}
 use Rattle.model.specs.Limits.{most_tunnels, most_steps, most_amount, newest_edition, least_share, most_share}
-use Rattle.model.specs.Outcome.{good, Cause, unless, Place}
+use Rattle.model.specs.Outcome.{good, unless, Place}
+use Rattle.model.specs.declared.Cause.TheVariants as causes
 use Rattle.model.specs.Rule as rule
 use Rattle.model.specs.Claim.{Valid}
 use Rattle.lists.specs.Lists.{at, has_next, has_held, per_link, per_flow, next_in, network_sizes, link_at, flow_at, tunnel_at, network_size, held_of, network_of, plan_sizes, plan_size}
@@ -20,33 +21,33 @@ use Rattle.lists.specs.Good.{NetworkRanges, GoodNetwork, GoodPlan}
 use Rattle.lists.specs.declared.Network as counts
 use Rattle.lists.proofs.Positions.{two-a-link, link-some, flow-some, next_last, link-after, flow-after, tunnel-after, each_number, link-in, flow-in, tunnel-in}
 use Rattle.lists.proofs.Held.{with-held, without-held}
-use Rattle.forms.specs.Keys.{keys, place_in}
-use Rattle.forms.specs.Form.{line, plan_body, Sound, Whole, allows, field_of, network_lines, link_lines, flow_lines, tunnel_lines, plan_lines, network_body}
+use Rattle.forms.specs.Form.{Field, line, plan_body, Sound, Whole, allows, field_of, network_lines, link_lines, flow_lines, tunnel_lines, plan_lines, network_body}
 use Rattle.forms.specs.Read.{add_up}
 use Rattle.forms.specs.declared.form.Form.TheVariants.{Network, Plan}
 use Rattle.forms.specs.declared.form.Range.TheVariants.{Between}
-use Rattle.forms.specs.declared.form.Field.{Field}
-use Rattle.forms.specs.declared.form.Field.TheVariants.{Line, End}
 use Rattle.model.proofs.Searches.{both, bool_cases}
 use Rattle.forms.proofs.Forms.{between, in_between, InHead, own-head, own_body, head-there, link-lines, flow-lines, network-head-at, network-body-at, plan-head-at, plan-body-at, limited, body-link, body-flow, body-tunnel, body_end, plan-head-field, plan-body-field}
 use Rattle.forms.proofs.Walks.{judged-good, good-judged}
+use Rattle.std.specs.declared.option.Option.TheVariants.{None, Some}
+use Rattle.forms.specs.declared.form.Key.{Key}
+use Rattle.forms.specs.declared.form.Key.TheVariants as key
 use Rattle.forms.specs.Named.{judge_network, judge_plan}
 
 -- ---- no field of a group is the end
 
 abbrev IsLine : Field → Type 0
-IsLine (Line k r) = Unit {0}
-IsLine End = ⊥
+IsLine (Some x) = Unit {0}
+IsLine None = ⊥
 
 abbrev AllLines : List Field → Type 0
 AllLines [] = Unit {0}
 AllLines (f ∷ fs) = IsLine f × AllLines fs
 
-line-no-end : (f : Field) → IsLine f → f ≡ End → ⊥
-line-no-end (Line k r) p e = let z : ◌≡◌ {A = ℕ} 0 1 = cc in omega arith
-line-no-end End p e = p
+line-no-end : (f : Field) → IsLine f → f ≡ None → ⊥
+line-no-end (Some x) p e = let z : ◌≡◌ {A = ℕ} 0 1 = cc in omega arith
+line-no-end None p e = p
 
-pub lines-no-end : (fs : List Field) (n : ℕ) → AllLines fs → n < length fs → get_or fs n End ≡ End → ⊥
+pub lines-no-end : (fs : List Field) (n : ℕ) → AllLines fs → n < length fs → get_or fs n None ≡ None → ⊥
 lines-no-end [] n p h e = omega arith
 lines-no-end (f ∷ fs) zero p h e = line-no-end f p.0 e
 lines-no-end (f ∷ fs) (suc n) p h e = lines-no-end fs n p.1 (omega arith) e
@@ -76,18 +77,18 @@ all-flow : (edition : ℕ) → AllLines (flow_lines edition)
 all-flow edition = (tt, (tt, ⊎_elim (λ e. rw e (tt, tt)) (λ e. rw e tt) (bool_cases (has_next edition))))
 
 -- the last of a flow's lines is that of an amount, whether or not there is a `next`
-pub last_line : (edition : ℕ) → allows (get_or (flow_lines edition) (next_in edition) End) ≡ allows (line "rate=" (Between 0 most_amount))
+pub last_line : (edition : ℕ) → allows (get_or (flow_lines edition) (next_in edition) None) ≡ allows (line key.Rate (Between 0 most_amount))
 unfolding next_in per_flow
 last_line edition = ⊎_elim (λ e. rw e refl) (λ e. rw e refl) (bool_cases (has_next edition))
 
 module _ (n : counts.Network) (before : ℕ) where
   -- where the form has an end, it is past the last number
-  body-ends : (i : ℕ) → link_at n 0 ≤ i → network_body n before i ≡ End → network_size n ≤ i
+  body-ends : (i : ℕ) → link_at n 0 ≤ i → network_body n before i ≡ None → network_size n ≤ i
   body-ends i h e = go (dec_lt i (network_size n))
     where
       go : Dec (i < network_size n) → network_size n ≤ i
       go (yes k) =
-          absurd (each_number n (λ m. network_body n before m ≡ End → ⊥)
+          absurd (each_number n (λ m. network_body n before m ≡ None → ⊥)
           (λ l j k g x. lines-no-end (link_lines n.edition before) j (all-link n.edition before) (omega (arith, link-lines n.edition before)) (sym (body-link n before l j k g) ∙ x))
           (λ f j k g x. lines-no-end (flow_lines n.edition) j (all-flow n.edition) (omega (arith, flow-lines n.edition)) (sym (body-flow n before f j k g) ∙ x))
           (λ t j k g x. lines-no-end (tunnel_lines n) j (tt, (tt, (tt, (tt, tt)))) g (sym (body-tunnel n before t j k g) ∙ x)) i h k e)
@@ -101,7 +102,7 @@ module _ (l : List ℕ) (w : Whole Network l) where
   abbrev before : ℕ → ℕ
   before i = at l (i - 1)
 
-  network-ends : Dec (length l < length (network_lines (at l 0))) → (length (network_lines (at l 0)) ≤ length l) × (network_body sizes (before (length l)) (length l) ≡ End)
+  network-ends : Dec (length l < length (network_lines (at l 0))) → (length (network_lines (at l 0)) ≤ length l) × (network_body sizes (before (length l)) (length l) ≡ None)
   network-ends (yes h) = absurd (lines-no-end (network_lines (at l 0)) (length l) (all_head (at l 0)) h (sym (own-head l h) ∙ w.ends))
   network-ends (no h) = let long : length (network_lines (at l 0)) ≤ length l = omega arith in (long, sym (own_body l long) ∙ w.ends)
 
@@ -116,7 +117,7 @@ module _ (l : List ℕ) (w : Whole Network l) where
     where
       go : Dec (network_size sizes < length l) → length l ≡ network_size sizes
       go (yes h) =
-          let e : network_body sizes (before (network_size sizes)) (network_size sizes) ≡ End = body_end sizes (before (network_size sizes)) (network_size sizes) (omega arith) in
+          let e : network_body sizes (before (network_size sizes)) (network_size sizes) ≡ None = body_end sizes (before (network_size sizes)) (network_size sizes) (omega arith) in
           absurd (rw e at (network-body-at l w.sound (network_size sizes) h (omega (arith, head-there l, tunnel-after sizes sizes.tunnels))))
       go (no h) = omega (arith, body-ends sizes (before (length l)) (length l) (omega (arith, head-there l, network-long)) (network-ends (dec_lt _ _)).1)
 
@@ -124,7 +125,7 @@ module _ (l : List ℕ) (w : Whole Network l) where
   body-line i h k = network-body-at l w.sound i k (omega (arith, head-there l))
 
   link-line : (k j : ℕ) → k < sizes.links → j < per_link sizes.edition
-      → T (allows (get_or (link_lines sizes.edition (before (link_at sizes k + j))) j End) (at l (link_at sizes k + j)))
+      → T (allows (get_or (link_lines sizes.edition (before (link_at sizes k + j))) j None) (at l (link_at sizes k + j)))
   link-line k j h g = rw (body-link sizes _ k j h g) at (body-line (link_at sizes k + j) (omega (arith, link-after sizes k)) (link-in l network-size k j h g))
 
   cap-line : (k : ℕ) → k < sizes.links → at l (link_at sizes k) ≤ most_amount
@@ -143,13 +144,13 @@ module _ (l : List ℕ) (w : Whole Network l) where
       without : has_held sizes.edition ≡ false → held_of l k ≤ at l (link_at sizes k)
       without e = omega (arith, without-held l k e)
 
-  flow-line : (f j : ℕ) → f < sizes.flows → j < per_flow sizes.edition → T (allows (get_or (flow_lines sizes.edition) j End) (at l (flow_at sizes f + j)))
+  flow-line : (f j : ℕ) → f < sizes.flows → j < per_flow sizes.edition → T (allows (get_or (flow_lines sizes.edition) j None) (at l (flow_at sizes f + j)))
   flow-line f j h k = rw (body-flow sizes _ f j h k) at (body-line (flow_at sizes f + j) (omega (arith, flow-after sizes f)) (flow-in l network-size f j h k))
 
   next-line : (f : ℕ) → f < sizes.flows → at l (flow_at sizes f + next_in sizes.edition) ≤ most_amount
   next-line f h = (between 0 most_amount _ (rw (last_line sizes.edition) at (flow-line f (next_in sizes.edition) h (next_last sizes.edition)))).1
 
-  tunnel-line : (t j : ℕ) → t < sizes.tunnels → j < length (tunnel_lines sizes) → T (allows (get_or (tunnel_lines sizes) j End) (at l (tunnel_at sizes t + j)))
+  tunnel-line : (t j : ℕ) → t < sizes.tunnels → j < length (tunnel_lines sizes) → T (allows (get_or (tunnel_lines sizes) j None) (at l (tunnel_at sizes t + j)))
   tunnel-line t j h k =
       rw (body-tunnel sizes _ t j h k) at (body-line (tunnel_at sizes t + j) (omega (arith, tunnel-after sizes t)) (omega (arith, tunnel-in l network-size t h)))
 
@@ -175,7 +176,7 @@ module _ (l : List ℕ) (w : Whole Network l) where
         };
       }
 
-sums-good : (l g : List ℕ) (o : Option Place) → unless Cause.missed_rate o (good l) ≡ good g → o ≡ none
+sums-good : (l g : List ℕ) (o : Option Place) → unless causes.MissedRate o (good l) ≡ good g → o ≡ none
 sums-good l g none e = refl
 sums-good l g (some p) e = let z : ◌≡◌ {A = ℕ} 0 1 = cc in absurd (omega arith)
 
@@ -196,7 +197,7 @@ good-valid l g = record { scratch = g.ranges.scratch; overrun = g.ranges.overrun
 
 -- ---- the plan
 
-cond-end : (b : Bool) (k : ℕ) (v : ℕ) → cond b (Line k (Between 0 v)) End ≡ End → b ≡ false
+cond-end : (b : Bool) (k : Key) (v : ℕ) → cond b (line k (Between 0 v)) None ≡ None → b ≡ false
 cond-end true k v e = let z : ◌≡◌ {A = ℕ} 0 1 = cc in absurd (omega arith)
 cond-end false k v e = refl
 
@@ -209,7 +210,7 @@ module _ (l : List ℕ) (w : Whole Plan l) where
       go (yes h) = absurd (lines-no-end plan_lines (length l) (tt, (tt, (tt, (tt, tt)))) h (rw (lt-ltb (length l) 4 h) at w.ends))
       go (no h) = omega arith
 
-  plan-body-ends : plan_body (plan_sizes l) (length l) ≡ End
+  plan-body-ends : plan_body (plan_sizes l) (length l) ≡ None
   unfolding field_of
   plan-body-ends = rw (le-ltb (length l) 4 plan-long) at w.ends
 
@@ -222,14 +223,14 @@ module _ (l : List ℕ) (w : Whole Plan l) where
       go : Dec (length l < plan_size (plan_sizes l)) → Dec (plan_size (plan_sizes l) < length l) → length l ≡ plan_size (plan_sizes l)
       go (yes h) d =
           let z : ◌≡◌ {A = Bool} true false =
-          sym (lt-ltb (length l) (plan_size (plan_sizes l)) h) ∙ cond-end (ltb (length l) (plan_size (plan_sizes l))) (place_in keys "at=") (most_amount * at l 1) plan-body-ends in
+          sym (lt-ltb (length l) (plan_size (plan_sizes l)) h) ∙ cond-end (ltb (length l) (plan_size (plan_sizes l))) key.At (most_amount * at l 1) plan-body-ends in
           let z' : ◌≡◌ {A = ℕ} 0 1 = cc in absurd (omega arith)
       go (no h) (yes k) =
           let same : plan_size (plan_sizes l) ≤ plan_size (plan_sizes l) = omega arith in
           absurd (rw (le-ltb (plan_size (plan_sizes l)) (plan_size (plan_sizes l)) same) at (plan-body-at l w.sound (plan_size (plan_sizes l)) k (omega arith)))
       go (no h) (no k) = omega arith
 
-  plan-head-line : (i : ℕ) → i < 4 → T (allows (get_or plan_lines i End) (at l i))
+  plan-head-line : (i : ℕ) → i < 4 → T (allows (get_or plan_lines i None) (at l i))
   plan-head-line i h = plan-head-at l w.sound i (omega (arith, plan-long)) h
 
   pub plan-ranges : GoodPlan l
@@ -251,7 +252,7 @@ good-plan l g e =
 
 -- and a good plan is judged good
 module _ (l : List ℕ) (g : GoodPlan l) where
-  head_in : (i : ℕ) → i < 4 → T (allows (get_or plan_lines i End) (at l i))
+  head_in : (i : ℕ) → i < 4 → T (allows (get_or plan_lines i None) (at l i))
   head_in zero h = let e : at l 0 ≡ 1 = g.edition in rw e tt
   head_in (suc zero) h = in_between 1 most_steps (at l 1) g.parts.0 g.parts.1
   head_in (suc (suc zero)) h = in_between 1 most_steps (at l 2) g.steps.0 g.steps.1
@@ -266,7 +267,7 @@ module _ (l : List ℕ) (g : GoodPlan l) where
       rw (plan-body-field l i (le_of_lt h) four, lt-ltb i (plan_size (plan_sizes l)) n)
       (in_between 0 (most_amount * at l 1) (at l i) (omega arith) (g.amounts i (omega arith) h))
 
-  plan-ends : field_of Plan l ≡ End
+  plan-ends : field_of Plan l ≡ None
   unfolding field_of
   plan-ends =
       let four : 4 ≤ length l = omega (arith, g.size) in

@@ -1,4 +1,3 @@
-pub mod Slots
 pub mod Numbers
 pub mod Forms
 pub mod Keys

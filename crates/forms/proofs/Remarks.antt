@@ -9,18 +9,20 @@ use lib.Dec.{T, ltb, ltb→lt}
 use lib.ListN.{length, length-append}
 use native.Mathlib.Decide.{dec_lt}
 use borrow.Author.Tests.{lt-ltb, le-ltb, lt-leb}
-use Rattle.model.specs.Outcome.{Outcome, good, refused, Cause, malformed, out_of_range, missing}
+use Rattle.model.specs.Outcome.{Outcome, good, refused}
+use Rattle.model.specs.declared.Cause.{Cause}
+use Rattle.model.specs.declared.Cause.TheVariants.{Malformed as malformed, OutOfRange as out_of_range, Missing as missing}
 use Rattle.model.proofs.Searches.{both, and-false}
 use Rattle.forms.specs.Line.{lines, before_feed, is_remark, fits, most_in_remark, most_remarks, plain, line_value, is_passed}
-use Rattle.forms.specs.Form.{field_of, admits_of, second_of, has_remarks}
+use Rattle.forms.specs.Form.{Field, line, field_of, admits_of, second_of, has_remarks}
 use Rattle.forms.specs.Read.{walk, number_in, moved, first_bad, or_earlier, read_lines, on_field}
 use Rattle.forms.specs.Turns.{walk_lines, at_end, at_item}
 use Rattle.forms.specs.Laws.{InOrder, Remarked}
 use Rattle.forms.specs.declared.form.Form.{Form}
 use Rattle.forms.specs.declared.form.Range.{Range}
-use Rattle.forms.specs.declared.form.Field.{Field}
-use Rattle.forms.specs.declared.form.Field.TheVariants.{Line, End}
 use Rattle.forms.proofs.Lines.{last-feed}
+use Rattle.std.specs.declared.option.Option.TheVariants.{None, Some}
+use Rattle.forms.specs.declared.form.Key.{Key}
 use Rattle.forms.proofs.Texts.{filter, lines-flatten, lines-filter}
 
 -- ---- the real lines of a text, and its remarks
@@ -147,10 +149,10 @@ from-later n (good l) h = tt
 from-later n (refused c place second) h = omega arith
 
 from_end : (n : ℕ) (done : List ℕ) (s : ℕ) (d : Field) → From n (on_field d (good done) (λ k r. refused missing n s))
-from_end n done s End = tt
-from_end n done s (Line k r) = omega arith
+from_end n done s None = tt
+from_end n done s (Some x) = omega arith
 
-from-item : (form : Form) (n : ℕ) (done : List ℕ) (value : ℕ → Range → Option ℕ) (next : List ℕ → Outcome (List ℕ)) → ((more : List ℕ) → From (n + 1) (next more))
+from-item : (form : Form) (n : ℕ) (done : List ℕ) (value : Key → Range → Option ℕ) (next : List ℕ → Outcome (List ℕ)) → ((more : List ℕ) → From (n + 1) (next more))
     → From n (at_item form n done value next)
 unfolding Option-elim
 from-item form n done value next on = by_field (field_of form done)
@@ -165,8 +167,8 @@ from-item form n done value next on = by_field (field_of form done)
 
     by_field : (d : Field)
         → From n (on_field d (refused missing n (second_of form)) (λ k r. Option-elim (value k r) (refused malformed n (second_of form)) (λ v. cond (admits_of r v) (next (done ++ (v ∷ []))) (refused out_of_range n (second_of form)))))
-    by_field End = omega arith
-    by_field (Line k r) = by_value r (value k r)
+    by_field None = omega arith
+    by_field (Some x) = by_value x.range (value x.key x.range)
 
 walk_from : (form : Form) (n : ℕ) (done : List ℕ) (ls : List (List ℕ)) → From n (walk line_value form n done ls)
 unfolding walk
@@ -198,21 +200,21 @@ module _ (form : Form) (n m : ℕ) (done : List ℕ) (F : Outcome (List ℕ) →
   end_seen e = go (field_of form done)
     where
       go : (d : Field) → on_field d (good done) (λ k r. refused missing n (second_of form)) ≡ F (on_field d (good done) (λ k r. refused missing m (second_of form)))
-      go End = sym e
-      go (Line k r) = sym (seen missing)
+      go None = sym e
+      go (Some x) = sym (seen missing)
 
-  pub item-seen : (value : ℕ → Range → Option ℕ) (next next' : List ℕ → Outcome (List ℕ))
-      → ((k : ℕ) (r : Range) (v : ℕ) → field_of form done ≡ Line k r → value k r ≡ some v → admits_of r v ≡ true → next (done ++ (v ∷ [])) ≡ F (next' (done ++ (v ∷ []))))
+  pub item-seen : (value : Key → Range → Option ℕ) (next next' : List ℕ → Outcome (List ℕ))
+      → ((k : Key) (r : Range) (v : ℕ) → field_of form done ≡ line k r → value k r ≡ some v → admits_of r v ≡ true → next (done ++ (v ∷ [])) ≡ F (next' (done ++ (v ∷ []))))
       → at_item form n done value next ≡ F (at_item form m done value next')
   unfolding Option-elim
   item-seen value next next' on = by_field (field_of form done) refl
     where
-      by-range : (k : ℕ) (r : Range) (v : ℕ) → field_of form done ≡ Line k r → value k r ≡ some v → (b : Bool) → admits_of r v ≡ b
+      by-range : (k : Key) (r : Range) (v : ℕ) → field_of form done ≡ line k r → value k r ≡ some v → (b : Bool) → admits_of r v ≡ b
           → cond b (next (done ++ (v ∷ []))) (refused out_of_range n (second_of form)) ≡ F (cond b (next' (done ++ (v ∷ []))) (refused out_of_range m (second_of form)))
       by-range k r v f x true a = on k r v f x a
       by-range k r v f x false a = sym (seen out_of_range)
 
-      by_value : (k : ℕ) (r : Range) → field_of form done ≡ Line k r → (x : Option ℕ) → value k r ≡ x
+      by_value : (k : Key) (r : Range) → field_of form done ≡ line k r → (x : Option ℕ) → value k r ≡ x
           → Option-elim x (refused malformed n (second_of form)) (λ v. cond (admits_of r v) (next (done ++ (v ∷ []))) (refused out_of_range n (second_of form)))
           ≡ F (Option-elim x (refused malformed m (second_of form)) (λ v. cond (admits_of r v) (next' (done ++ (v ∷ []))) (refused out_of_range m (second_of form))))
       by_value k r f none x = sym (seen malformed)
@@ -221,8 +223,8 @@ module _ (form : Form) (n m : ℕ) (done : List ℕ) (F : Outcome (List ℕ) →
       by_field : (d : Field) → field_of form done ≡ d
           → on_field d (refused missing n (second_of form)) (λ k r. Option-elim (value k r) (refused malformed n (second_of form)) (λ v. cond (admits_of r v) (next (done ++ (v ∷ []))) (refused out_of_range n (second_of form))))
           ≡ F (on_field d (refused missing m (second_of form)) (λ k r. Option-elim (value k r) (refused malformed m (second_of form)) (λ v. cond (admits_of r v) (next' (done ++ (v ∷ []))) (refused out_of_range m (second_of form)))))
-      by_field End f = sym (seen missing)
-      by_field (Line k r) f = by_value k r f (value k r) refl
+      by_field None f = sym (seen missing)
+      by_field (Some x) f = by_value x.key x.range f (value x.key x.range) refl
 
 -- the lines that are left, of which the first has the number n and the first real one is the real line m
 abbrev Numbered : Form → (ℕ → ℕ) → ℕ → ℕ → List (List ℕ) → Type 0

@@ -12,8 +12,8 @@ use lib.ListN.{length, get_or, take, drop, drop_of_length-le, length-append}
 use lib.Seq.{append_snoc, take-suc, length-take-le}
 use Rattle.model.specs.Limits.{most_amount}
 use Rattle.lists.specs.Lists.{head_size, per_link, per_flow, link_at, flow_at, tunnel_at, plan_sizes, plan_size, most_network, most_plan, most_numbers, at}
-use Rattle.forms.specs.Keys.{prefix_of, keys, place_in}
-use Rattle.forms.specs.Form.{is_hex, line, field_of, allows, Sound, Whole, most_of}
+use Rattle.forms.specs.Keys.{prefix_of}
+use Rattle.forms.specs.Form.{Field, is_hex, line, field_of, allows, Sound, Whole, most_of}
 use Rattle.forms.specs.Line.{most_in_remark, most_remarks}
 use Rattle.forms.specs.Laws.{most_bytes}
 use Rattle.forms.specs.Write.{digits_in, width_of, value_digits, line_of, render_from, render}
@@ -21,11 +21,12 @@ use Rattle.forms.specs.declared.form.Form.{Form}
 use Rattle.forms.specs.declared.form.Form.TheVariants.{Network, Plan, Rules}
 use Rattle.forms.specs.declared.form.Range.{Range}
 use Rattle.forms.specs.declared.form.Range.TheVariants.{Between}
-use Rattle.forms.specs.declared.form.Field.{Field}
-use Rattle.forms.specs.declared.form.Field.TheVariants.{Line, End}
 use Rattle.forms.proofs.Forms.{between, sound-take, sound-at, room, room-in-all, small, plan-body-field, head-of-plan}
 use Rattle.forms.proofs.Keys.{key-length}
 use Rattle.forms.proofs.Numbers.{length_digits, width-most, width-ten}
+use Rattle.std.specs.declared.option.Option.TheVariants.{None, Some}
+use Rattle.forms.specs.declared.form.Key.{Key}
+use Rattle.forms.specs.declared.form.Key.TheVariants as key
 use Rattle.forms.proofs.Walks.{step}
 
 -- the lines of the numbers from i on
@@ -56,7 +57,7 @@ module _ (form : Form) (l : List ℕ) (i : ℕ) (h : i < length l) (s : Sound fo
   pub at_most : i < most_numbers
   at_most = rw count at (room-in-all form (take i l) (get_or l i 0) (sound-take form l i (le_of_lt h) s) (sound-at form l i h s))
 
-  pub short-value : (k : ℕ) (r : Range) → field_of form (take i l) ≡ Line k r → is_hex r ≡ false → get_or l i 0 < 10000000000
+  pub short-value : (k : Key) (r : Range) → field_of form (take i l) ≡ line k r → is_hex r ≡ false → get_or l i 0 < 10000000000
   short-value k r e x = small form (take i l) k r (get_or l i 0) (sound-take form l i (le_of_lt h) s) e (rw e at (sound-at form l i h s)) x
 
 -- how many digits a value has
@@ -67,7 +68,7 @@ digits-length : (hex : Bool) (v : ℕ) → length (cond hex (digits_in 16 16 v) 
 digits-length true v = length_digits 16 16 v
 digits-length false v = length_digits 10 (width_of v) v
 
-pub line-length : (k : ℕ) (r : Range) (v : ℕ) → length (line_of (Line k r) v) ≡ length (prefix_of k) + digit_count r v + 1
+pub line-length : (k : Key) (r : Range) (v : ℕ) → length (line_of (line k r) v) ≡ length (prefix_of k) + digit_count r v + 1
 line-length k r v = rw (length-append (prefix_of k), length-append (value_digits r v), digits-length (is_hex r) v) (omega arith)
 
 -- ---- how long what is written may be
@@ -78,8 +79,8 @@ most_plain = most_bytes - (most_remarks + 2) * (most_in_remark + 1)
 
 -- a line has at most 27 bytes
 pub line-short : (f : Field) (v : ℕ) → length (line_of f v) ≤ 27
-line-short End v = omega arith
-line-short (Line k r) v = omega (arith, line-length k r v, key-length k, digits-few (is_hex r))
+line-short None v = omega arith
+line-short (Some x) v = omega (arith, line-length x.key x.range v, key-length x.key, digits-few (is_hex x.range))
   where
     digits-few : (hex : Bool) → cond hex 16 (width_of v) ≤ 16
     digits-few true = omega arith
@@ -124,11 +125,11 @@ module _ (l : List ℕ) (s : Sound Plan l) where
       let e = plan-body-field l j (le_of_lt h) four in
       rw e (go (ltb j (plan_size (plan_sizes l))) (rw e at (sound-at Plan l j h s)))
     where
-      go : (b : Bool) → T (allows (cond b (line "at=" (Between 0 (most_amount * at l 1))) End) (get_or l j 0))
-          → length (line_of (cond b (line "at=" (Between 0 (most_amount * at l 1))) End) (get_or l j 0)) ≤ 13
+      go : (b : Bool) → T (allows (cond b (line key.At (Between 0 (most_amount * at l 1))) None) (get_or l j 0))
+          → length (line_of (cond b (line key.At (Between 0 (most_amount * at l 1))) None) (get_or l j 0)) ≤ 13
       go true t =
           let v : get_or l j 0 < 10 ^ 9 = omega (arith, (between 0 (most_amount * at l 1) (get_or l j 0) t).1, (head-of-plan l s (omega arith)).parts.1) in
-          omega (arith, line-length (place_in keys "at=") (Between 0 (most_amount * at l 1)) (get_or l j 0), width-most (get_or l j 0) 9 (omega arith) (omega arith) v)
+          omega (arith, line-length key.At (Between 0 (most_amount * at l 1)) (get_or l j 0), width-most (get_or l j 0) 9 (omega arith) (omega arith) v)
       go false t = absurd t
 
   plan-short : length (render Plan l) ≤ most_plain

@@ -8,18 +8,17 @@ use native.Mathlib.Omega.{arith}
 use lib.Dec.{T}
 use lib.ListN.{length}
 use lib.Seq.{append_snoc}
-use Rattle.model.specs.Outcome.{Outcome, good, refused, and_then, malformed, out_of_range, missing}
+use Rattle.model.specs.Outcome.{Outcome, good, refused, and_then}
+use Rattle.model.specs.declared.Cause.TheVariants.{Malformed as malformed, OutOfRange as out_of_range, Missing as missing}
 use Rattle.lists.specs.Answers.{with_room}
 use Rattle.forms.specs.Line.{lines, is_remark, plain, line_value}
-use Rattle.forms.specs.Form.{field_of, admits_of, allows, second_of, Sound}
+use Rattle.forms.specs.Form.{Field, line, field_of, admits_of, allows, second_of, Sound}
 use Rattle.forms.specs.Read.{walk, number_in, moved, read_lines, judge_numbers, read_text, judge_list, add_up, on_field}
 use Rattle.forms.specs.Turns.{itself}
 use Rattle.forms.specs.Write.{line_of, render_from, render, write_text}
 use Rattle.forms.specs.Laws.{InOrder, Follows, FileForm, RoundTrip, most_bytes}
 use Rattle.forms.specs.declared.form.Form.{Form}
 use Rattle.forms.specs.declared.form.Range.{Range}
-use Rattle.forms.specs.declared.form.Field.{Field}
-use Rattle.forms.specs.declared.form.Field.TheVariants.{Line, End}
 use Rattle.lists.proofs.Rooms.{room-good, good-room}
 use Rattle.forms.proofs.Forms.{sound_none, sound_more, small, small-set}
 use Rattle.forms.proofs.Rendering.{render-plain}
@@ -27,6 +26,8 @@ use Rattle.forms.proofs.Values.{value-of-line, line-of-value, value-real-line, l
 use Rattle.forms.proofs.Cut.{first_bytes}
 use Rattle.forms.proofs.Texts.{filter}
 use Rattle.forms.proofs.Remarks.{real_lines, plain-real, plain-same, lines-plain, read-passed, read-unremarked, read-ordered, read_real, plain-longer}
+use Rattle.std.specs.declared.option.Option.TheVariants.{None, Some}
+use Rattle.forms.specs.declared.form.Key.{Key}
 use Rattle.forms.proofs.Walks.{then-good, judged-good}
 
 -- ---- the first round trip
@@ -38,16 +39,16 @@ module _ (form : Form) (n v : ℕ) (done l g : List ℕ) (s : Sound form done) w
   abbrev Again : Type 0
   Again = Sound form more → walk itself form (n + 1) more l ≡ good g → walk line_value form (n + 1) more (lines (render_from form more l)) ≡ good g
 
-  again-line : (k : ℕ) (r : Range) → field_of form done ≡ Line k r → admits_of r v ≡ true → Again → walk itself form (n + 1) more l ≡ good g
+  again-line : (k : Key) (r : Range) → field_of form done ≡ line k r → admits_of r v ≡ true → Again → walk itself form (n + 1) more l ≡ good g
       → walk line_value form n done (lines (render_from form done (v ∷ l))) ≡ good g
   unfolding walk render_from Option-elim
   again-line k r e a ih w =
       let t : T (admits_of r v) = rw a tt in
       let t' : T (allows (field_of form done) v) = rw (e, a) tt in
-      let x : line_value k r (line_of (Line k r) v) ≡ some v = value-of-line k r v (small form done k r v s e t) (small-set form done k r v s e t) in
+      let x : line_value k r (line_of (line k r) v) ≡ some v = value-of-line k r v (small form done k r v s e t) (small-set form done k r v s e t) in
       rw (e, lines-written k r v (render_from form more l), e, x, a) (ih (sound_more form done v s t') w)
 
-  again-range : (k : ℕ) (r : Range) → field_of form done ≡ Line k r → (b : Bool) → admits_of r v ≡ b → Again
+  again-range : (k : Key) (r : Range) → field_of form done ≡ line k r → (b : Bool) → admits_of r v ≡ b → Again
       → cond b (walk itself form (n + 1) more l) (refused out_of_range n (second_of form)) ≡ good g → walk line_value form n done (lines (render_from form done (v ∷ l))) ≡ good g
   again-range k r e true a ih w = again-line k r e a ih w
   again-range k r e false a ih w = let z : ◌≡◌ {A = ℕ} 0 1 = cc in absurd (omega arith)
@@ -56,8 +57,8 @@ module _ (form : Form) (n v : ℕ) (done l g : List ℕ) (s : Sound form done) w
       → on_field f (refused missing n (second_of form)) (λ k r. Option-elim (itself k r v) (refused malformed n (second_of form)) (λ u. cond (admits_of r u) (walk itself form (n + 1) (done ++ (u ∷ [])) l) (refused out_of_range n (second_of form)))) ≡ good g
       → walk line_value form n done (lines (render_from form done (v ∷ l))) ≡ good g
   unfolding Option-elim
-  again-field End e ih w = let z : ◌≡◌ {A = ℕ} 0 1 = cc in absurd (omega arith)
-  again-field (Line k r) e ih w = again-range k r e (admits_of r v) refl ih w
+  again-field None e ih w = let z : ◌≡◌ {A = ℕ} 0 1 = cc in absurd (omega arith)
+  again-field (Some x) e ih w = again-range x.key x.range e (admits_of x.range v) refl ih w
 
 again : (form : Form) (n : ℕ) (done l g : List ℕ) → Sound form done → walk itself form n done l ≡ good g → walk line_value form n done (lines (render_from form done l)) ≡ good g
 unfolding walk render_from lines
@@ -76,14 +77,14 @@ record Reads (form : Form) (n : ℕ) (done : List ℕ) (ls : List (List ℕ)) (g
 module _ (form : Form) (n : ℕ) (done g : List ℕ) where
   reads_end : (f : Field) → field_of form done ≡ f → on_field f (good done) (λ k r. refused missing n (second_of form)) ≡ good g → Reads form n done [] g
   unfolding walk render_from flatten filter
-  reads_end End f e = record { list = []; same = rw append-nil (let k : g ≡ done = cc in k); written = refl; real = refl; accepted = rw f e }
-  reads_end (Line k r) f e = let z : ◌≡◌ {A = ℕ} 0 1 = cc in absurd (omega arith)
+  reads_end None f e = record { list = []; same = rw append-nil (let k : g ≡ done = cc in k); written = refl; real = refl; accepted = rw f e }
+  reads_end (Some x) f e = let z : ◌≡◌ {A = ℕ} 0 1 = cc in absurd (omega arith)
 
   module _ (x : List ℕ) (xs : List (List ℕ)) where
     abbrev Rest : Type 0
     Rest = (v : ℕ) → walk line_value form (n + 1) (done ++ (v ∷ [])) xs ≡ good g → Reads form (n + 1) (done ++ (v ∷ [])) xs g
 
-    reads-range : (k : ℕ) (r : Range) (v : ℕ) → field_of form done ≡ Line k r → line_value k r x ≡ some v → (b : Bool) → admits_of r v ≡ b → Rest
+    reads-range : (k : Key) (r : Range) (v : ℕ) → field_of form done ≡ line k r → line_value k r x ≡ some v → (b : Bool) → admits_of r v ≡ b → Rest
         → cond b (walk line_value form (n + 1) (done ++ (v ∷ [])) xs) (refused out_of_range n (second_of form)) ≡ good g → Reads form n done (x ∷ xs) g
     unfolding walk render_from flatten filter Option-elim
     reads-range k r v f w true a ih e =
@@ -97,7 +98,7 @@ module _ (form : Form) (n : ℕ) (done g : List ℕ) where
         }
     reads-range k r v f w false a ih e = let z : ◌≡◌ {A = ℕ} 0 1 = cc in absurd (omega arith)
 
-    reads-value : (k : ℕ) (r : Range) → field_of form done ≡ Line k r → (y : Option ℕ) → line_value k r x ≡ y → Rest
+    reads-value : (k : Key) (r : Range) → field_of form done ≡ line k r → (y : Option ℕ) → line_value k r x ≡ y → Rest
         → Option-elim y (refused malformed n (second_of form)) (λ v. cond (admits_of r v) (walk line_value form (n + 1) (done ++ (v ∷ [])) xs) (refused out_of_range n (second_of form))) ≡ good g
         → Reads form n done (x ∷ xs) g
     unfolding Option-elim
@@ -107,8 +108,8 @@ module _ (form : Form) (n : ℕ) (done g : List ℕ) where
     reads-field : (f : Field) → field_of form done ≡ f → Rest
         → on_field f (refused missing n (second_of form)) (λ k r. Option-elim (line_value k r x) (refused malformed n (second_of form)) (λ v. cond (admits_of r v) (walk line_value form (n + 1) (done ++ (v ∷ [])) xs) (refused out_of_range n (second_of form)))) ≡ good g
         → Reads form n done (x ∷ xs) g
-    reads-field End f ih e = let z : ◌≡◌ {A = ℕ} 0 1 = cc in absurd (omega arith)
-    reads-field (Line k r) f ih e = reads-value k r f (line_value k r x) refl ih e
+    reads-field None f ih e = let z : ◌≡◌ {A = ℕ} 0 1 = cc in absurd (omega arith)
+    reads-field (Some d) f ih e = reads-value d.key d.range f (line_value d.key d.range x) refl ih e
 
 reads : (form : Form) (n : ℕ) (done : List ℕ) (ls : List (List ℕ)) (g : List ℕ) → walk line_value form n done ls ≡ good g → Reads form n done ls g
 unfolding walk

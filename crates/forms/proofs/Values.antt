@@ -11,28 +11,28 @@ use Rattle.model.proofs.Searches.{and-false}
 use Rattle.forms.specs.Keys.{prefix_of}
 use Rattle.forms.specs.Line.{lines, is_remark, value_part, decimal_of, hex_of, line_value}
 use Rattle.forms.specs.Turns.{hashed, no_feeds}
-use Rattle.forms.specs.Form.{is_hex, has_remarks}
+use Rattle.forms.specs.Form.{line, is_hex, has_remarks}
 use Rattle.forms.specs.Write.{digit_char, digits_in, width_of, value_digits, line_of}
 use Rattle.forms.specs.declared.form.Form.{Form}
 use Rattle.forms.specs.declared.form.Range.{Range}
-use Rattle.forms.specs.declared.form.Field.TheVariants.{Line}
 use Rattle.forms.proofs.Keys.{key-no-feed, key-real}
 use Rattle.forms.proofs.Lines.{own-part, part-line}
 use Rattle.forms.proofs.Numbers.{some-digits, decimal-digits, hex-digits, digits_decimal, digits-hex}
+use Rattle.forms.specs.declared.form.Key.{Key}
 use Rattle.forms.proofs.Texts.{lines-line}
 
 -- ---- a line that is written, read
 
-pub value-of-line : (k : ℕ) (r : Range) (v : ℕ) → (is_hex r ≡ false → v < 10000000000) → (is_hex r ≡ true → v < 2 ^ 64) → line_value k r (line_of (Line k r) v) ≡ some v
+pub value-of-line : (k : Key) (r : Range) (v : ℕ) → (is_hex r ≡ false → v < 10000000000) → (is_hex r ≡ true → v < 2 ^ 64) → line_value k r (line_of (line k r) v) ≡ some v
 value-of-line k r v s h = go (is_hex r) refl
   where
-    go : (b : Bool) → is_hex r ≡ b → line_value k r (line_of (Line k r) v) ≡ some v
+    go : (b : Bool) → is_hex r ≡ b → line_value k r (line_of (line k r) v) ≡ some v
     go true e = rw (own-part (prefix_of k) (value_digits r v), e) (hex-digits v (h e))
     go false e = rw (own-part (prefix_of k) (value_digits r v), e) (decimal-digits v (s e))
 
 -- ---- a line that is read, written
 
-pub line-of-value : (k : ℕ) (r : Range) (l : List ℕ) (v : ℕ) → line_value k r l ≡ some v → l ≡ line_of (Line k r) v
+pub line-of-value : (k : Key) (r : Range) (l : List ℕ) (v : ℕ) → line_value k r l ≡ some v → l ≡ line_of (line k r) v
 line-of-value k r l v e =
     part-line (prefix_of k) l (value_part (prefix_of k) l) (some-digits (is_hex r) _ v e) refl
     ∙ ap (λ (d : List ℕ). prefix_of k ++ (d ++ (10 ∷ []))) (go (is_hex r) e)
@@ -90,7 +90,7 @@ value-real r v = go (is_hex r)
     go true = digits-real 16 16 v
     go false = digits-real 10 (width_of v) v
 
-line-real : (k : ℕ) (r : Range) (v : ℕ) → T (not (hashed (line_of (Line k r) v)))
+line-real : (k : Key) (r : Range) (v : ℕ) → T (not (hashed (line_of (line k r) v)))
 line-real k r v = real-append (prefix_of k) _ (key-real k) (real-append (value_digits r v) (10 ∷ []) (value-real r v) tt)
 
 off : (b : Bool) → T (not b) → b ≡ false
@@ -98,13 +98,13 @@ off true t = absurd t
 off false t = refl
 
 -- nor is a line that has a value
-pub value-real-line : (form : Form) (k : ℕ) (r : Range) (l : List ℕ) (v : ℕ) → line_value k r l ≡ some v → is_remark form l ≡ false
+pub value-real-line : (form : Form) (k : Key) (r : Range) (l : List ℕ) (v : ℕ) → line_value k r l ≡ some v → is_remark form l ≡ false
 value-real-line form k r l v e =
-    rw (line-of-value k r l v e, off (hashed (line_of (Line k r) v)) (line-real k r v)) (and-false (has_remarks form))
+    rw (line-of-value k r l v e, off (hashed (line_of (line k r) v)) (line-real k r v)) (and-false (has_remarks form))
 
 -- ---- the lines of what is written
 
-pub lines-written : (k : ℕ) (r : Range) (v : ℕ) (rest : List ℕ) → lines (line_of (Line k r) v ++ rest) ≡ line_of (Line k r) v ∷ lines rest
+pub lines-written : (k : Key) (r : Range) (v : ℕ) (rest : List ℕ) → lines (line_of (line k r) v ++ rest) ≡ line_of (line k r) v ∷ lines rest
 lines-written k r v rest =
     rw (← append_assoc (prefix_of k) (value_digits r v) (10 ∷ []))
     (lines-line (prefix_of k ++ value_digits r v) rest

@@ -9,18 +9,20 @@ use native.Mathlib.Omega.{arith}
 use lib.Dec.{T}
 use lib.ListN.{length, get_or, drop, drop_of_length-le, length-append}
 use lib.Seq.{drop-cons, append_snoc, take-append_seam, get_or-append_seam}
-use Rattle.model.specs.Outcome.{Outcome, good, refused, out_of_range, missing, malformed, Cause, unless, Place}
+use Rattle.model.specs.Outcome.{Outcome, good, refused, unless, Place}
+use Rattle.model.specs.declared.Cause.TheVariants.{OutOfRange as out_of_range, Missing as missing, Malformed as malformed}
+use Rattle.model.specs.declared.Cause.TheVariants as causes
 use Rattle.model.specs.Rule as rule
 use Rattle.lists.specs.Lists.{network_of}
-use Rattle.forms.specs.Form.{field_of, admits_of, allows, second_of, Sound, Whole}
+use Rattle.forms.specs.Form.{Field, line, field_of, admits_of, allows, second_of, Sound, Whole}
 use Rattle.model.specs.Outcome.{and_then}
 use Rattle.forms.specs.Read.{walk, on_field, judge_numbers, judge_list, add_up}
 use Rattle.forms.specs.Turns.{itself}
 use Rattle.forms.specs.declared.form.Form.{Form}
 use Rattle.forms.specs.declared.form.Form.TheVariants.{Network, Plan, Rules}
 use Rattle.forms.specs.declared.form.Range.{Range}
-use Rattle.forms.specs.declared.form.Field.{Field}
-use Rattle.forms.specs.declared.form.Field.TheVariants.{Line, End}
+use Rattle.std.specs.declared.option.Option.TheVariants.{None, Some}
+use Rattle.forms.specs.declared.form.Key.{Key}
 use Rattle.forms.proofs.Forms.{sound_none, sound_more, sound-at}
 
 -- what stands from i on: the element at i, and what stands from i + 1 on
@@ -30,29 +32,29 @@ step t i h = rw (add-one, drop-cons t i 0 h)
 -- ---- the walk over the numbers of a list, from i on, in each case
 
 module _ (form : Form) (n : ℕ) (done l : List ℕ) (i : ℕ) where
-  pub judge-done : length l ≤ i → field_of form done ≡ End → walk itself form n done (drop i l) ≡ good done
+  pub judge-done : length l ≤ i → field_of form done ≡ None → walk itself form n done (drop i l) ≡ good done
   unfolding walk
   judge-done h f = rw (drop_of_length-le l h, f)
 
-  pub judge-missing : (k : ℕ) (r : Range) → length l ≤ i → field_of form done ≡ Line k r → walk itself form n done (drop i l) ≡ refused missing n (second_of form)
+  pub judge-missing : (k : Key) (r : Range) → length l ≤ i → field_of form done ≡ line k r → walk itself form n done (drop i l) ≡ refused missing n (second_of form)
   unfolding walk
   judge-missing k r h f = rw (drop_of_length-le l h, f)
 
-  pub judge-many : i < length l → field_of form done ≡ End → walk itself form n done (drop i l) ≡ refused missing n (second_of form)
+  pub judge-many : i < length l → field_of form done ≡ None → walk itself form n done (drop i l) ≡ refused missing n (second_of form)
   unfolding walk
   judge-many h f = rw (step l i h, f)
 
-  pub judge-outside : (k : ℕ) (r : Range) → i < length l → field_of form done ≡ Line k r → admits_of r (get_or l i 0) ≡ false
+  pub judge-outside : (k : Key) (r : Range) → i < length l → field_of form done ≡ line k r → admits_of r (get_or l i 0) ≡ false
       → walk itself form n done (drop i l) ≡ refused out_of_range n (second_of form)
   unfolding walk Option-elim
   judge-outside k r h f a = rw (step l i h, f, a)
 
-  pub judge-more : (k : ℕ) (r : Range) → i < length l → field_of form done ≡ Line k r → admits_of r (get_or l i 0) ≡ true
+  pub judge-more : (k : Key) (r : Range) → i < length l → field_of form done ≡ line k r → admits_of r (get_or l i 0) ≡ true
       → walk itself form n done (drop i l) ≡ walk itself form (n + 1) (done ++ (get_or l i 0 ∷ [])) (drop (i + 1) l)
   unfolding walk Option-elim
   judge-more k r h f a = rw (step l i h, f, a)
 
-pub allows-line : (f : Field) (k : ℕ) (r : Range) (v : ℕ) → f ≡ Line k r → admits_of r v ≡ true → T (allows f v)
+pub allows-line : (f : Field) (k : Key) (r : Range) (v : ℕ) → f ≡ line k r → admits_of r v ≡ true → T (allows f v)
 allows-line f k r v e a = rw (e, a) tt
 
 -- ---- a list that is judged good is whole, and it is what is got
@@ -60,9 +62,9 @@ allows-line f k r v e a = rw (e, a) tt
 abbrev Accepts : Form → List ℕ → List ℕ → Type 0
 Accepts form g l = (g ≡ l) × Whole form l
 
-judged-end : (form : Form) (n : ℕ) (done g : List ℕ) (f : Field) → on_field f (good done) (λ k r. refused missing n (second_of form)) ≡ good g → (g ≡ done) × (f ≡ End)
-judged-end form n done g End e = (cc, refl)
-judged-end form n done g (Line k r) e = let z : ◌≡◌ {A = ℕ} 0 1 = cc in absurd (omega arith)
+judged-end : (form : Form) (n : ℕ) (done g : List ℕ) (f : Field) → on_field f (good done) (λ k r. refused missing n (second_of form)) ≡ good g → (g ≡ done) × (f ≡ None)
+judged-end form n done g None e = (cc, refl)
+judged-end form n done g (Some x) e = let z : ◌≡◌ {A = ℕ} 0 1 = cc in absurd (omega arith)
 
 judged-range : (form : Form) (n : ℕ) (g : List ℕ) (w : Outcome (List ℕ)) (b : Bool) (P : Type 0) → (T b → w ≡ good g → P)
     → cond b w (refused out_of_range n (second_of form)) ≡ good g → P
@@ -72,8 +74,8 @@ judged-range form n g w false P f e = let z : ◌≡◌ {A = ℕ} 0 1 = cc in ab
 judged-field : (form : Form) (n v : ℕ) (g : List ℕ) (w : Outcome (List ℕ)) (f : Field) (P : Type 0) → (T (allows f v) → w ≡ good g → P)
     → on_field f (refused missing n (second_of form)) (λ k r. Option-elim (itself k r v) (refused malformed n (second_of form)) (λ u. cond (admits_of r u) w (refused out_of_range n (second_of form)))) ≡ good g → P
 unfolding Option-elim
-judged-field form n v g w End P f e = let z : ◌≡◌ {A = ℕ} 0 1 = cc in absurd (omega arith)
-judged-field form n v g w (Line k r) P f e = judged-range form n g w (admits_of r v) P f e
+judged-field form n v g w None P f e = let z : ◌≡◌ {A = ℕ} 0 1 = cc in absurd (omega arith)
+judged-field form n v g w (Some x) P f e = judged-range form n g w (admits_of x.range v) P f e
 
 judged : (form : Form) (n : ℕ) (done l g : List ℕ) → Sound form done → walk itself form n done l ≡ good g → Accepts form g (done ++ l)
 unfolding walk Option-elim
@@ -93,8 +95,8 @@ judged-whole form l g e = judged form 1 [] l g (sound_none form) e
 by_field : (f : Field) (v : ℕ) (w o : Outcome (List ℕ)) (x y : Outcome (List ℕ)) → T (allows f v)
     → on_field f x (λ k r. Option-elim (itself k r v) y (λ u. cond (admits_of r u) w o)) ≡ w
 unfolding Option-elim
-by_field End v w o x y t = absurd t
-by_field (Line k r) v w o x y t = go (admits_of r v) t
+by_field None v w o p q t = absurd t
+by_field (Some x) v w o p q t = go (admits_of x.range v) t
   where
     go : (b : Bool) → T b → cond b w o ≡ w
     go true t = refl
@@ -103,7 +105,7 @@ by_field (Line k r) v w o x y t = go (admits_of r v) t
 accepted : (form : Form) (n : ℕ) (done l : List ℕ) → Whole form (done ++ l) → walk itself form n done l ≡ good (done ++ l)
 unfolding walk Option-elim
 accepted form n done [] w =
-    let e : field_of form done ≡ End = rw append-nil at w.ends in
+    let e : field_of form done ≡ None = rw append-nil at w.ends in
     rw (e, append-nil)
 accepted form n done (v ∷ l) w =
     let h : length done < length (done ++ (v ∷ l)) = simp length-append (omega arith) in
@@ -123,16 +125,11 @@ pub add-up-same : (form : Form) (l g : List ℕ) → add_up form l ≡ good g �
 unfolding add_up
 add-up-same Network l g e = go (rule.missed_rate (network_of l)) e
   where
-    go : (o : Option Place) → unless Cause.missed_rate o (good l) ≡ good g → g ≡ l
+    go : (o : Option Place) → unless causes.MissedRate o (good l) ≡ good g → g ≡ l
     go none e = cc
     go (some p) e = let z : ◌≡◌ {A = ℕ} 0 1 = cc in absurd (omega arith)
 add-up-same Plan l g e = cc
 add-up-same Rules l g e = cc
-
--- what is not good is passed on
-pub not-good-then : (o : Outcome (List ℕ)) (next : List ℕ → Outcome (List ℕ)) → ((g : List ℕ) → o ≡ good g → ⊥) → and_then o next ≡ o
-not-good-then (good g) next h = absurd (h g refl)
-not-good-then (refused c place second) next h = refl
 
 pub then-good : (o : Outcome (List ℕ)) (next : List ℕ → Outcome (List ℕ)) (g : List ℕ) → and_then o next ≡ good g
     → (l : List ℕ) × (o ≡ good l) × (next l ≡ good g)
@@ -156,15 +153,8 @@ judged-good form l g e =
 pub good-judged : (form : Form) (l : List ℕ) → Whole form l → add_up form l ≡ good l → judge_list form l ≡ good l
 good-judged form l w s = rw (whole-judged form l w) s
 
--- a plan has no sums of its own, nor have rule tables
-no-sums : (form : Form) → ((l : List ℕ) → add_up form l ≡ good l) → (o : Outcome (List ℕ)) → and_then o (add_up form) ≡ o
-no-sums form h (good l) = h l
-no-sums form h (refused c a b) = refl
-
-pub plan-no-sums : (o : Outcome (List ℕ)) → and_then o (add_up Plan) ≡ o
-unfolding add_up
-plan-no-sums o = no-sums Plan (λ l. refl) o
-
+-- rule tables have no sums
 pub rules-no-sums : (o : Outcome (List ℕ)) → and_then o (add_up Rules) ≡ o
 unfolding add_up
-rules-no-sums o = no-sums Rules (λ l. refl) o
+rules-no-sums (good l) = refl
+rules-no-sums (refused c a b) = refl

@@ -1,20 +1,20 @@
 -- The keys. "Each line is a key, `=`, a value and one line feed (byte 10)."
-use Rattle.std.specs.Prelude.{ℕ, suc, cond, List, [], ◌∷◌, get_or}
+use Rattle.std.specs.Prelude.{ℕ, List}
 use Prim.Native.String.{String}
-use lib.Text.{eqt}
 use Rattle.forms.specs.Bytes.{bytes}
+use Rattle.forms.specs.declared.form.Key.{Key}
+use Rattle.forms.specs.declared.form.Key.TheVariants.{Net, Scratch, Overrun, Links, Flows, Tunnels, Cap, Class, Rate, Flow, Via, Old, New, Plan, Parts, Steps, At, Rules, Slack, Switches, Room, Kind, Next, Unit, Held}
 
--- what stands before the values: each key with its `=`
-abbrev pub keys : List String
-keys =
-    "net=" ∷ "scratch=" ∷ "overrun=" ∷ "links=" ∷ "flows=" ∷ "tunnels=" ∷ "cap=" ∷ "class=" ∷ "rate="
-    ∷ "flow=" ∷ "via=" ∷ "old=" ∷ "new=" ∷ "plan=" ∷ "parts=" ∷ "steps=" ∷ "at="
-    ∷ "rules=" ∷ "slack=" ∷ "switches=" ∷ "room=" ∷ "kind=" ∷ "next=" ∷ "unit=" ∷ "held=" ∷ []
+-- the keys of a network's head, and those of its links, flows and tunnels; the others are those of plans and of rule tables
+abbrev pub head_key : Key → String → String
+head_key key other = elim key [ Net ↦ "net=" | Scratch ↦ "scratch=" | Overrun ↦ "overrun=" | Unit ↦ "unit=" | Links ↦ "links=" | Flows ↦ "flows=" | Tunnels ↦ "tunnels=" | _ ↦ other ]
 
--- the place of a text in a list: a key is known by its place among the keys
-abbrev pub place_in : List String → String → ℕ
-place_in [] s = 0
-place_in (k ∷ ks) s = cond (eqt k s) 0 (suc (place_in ks s))
+abbrev pub body_key : Key → String → String
+body_key key other = elim key [ Cap ↦ "cap=" | Held ↦ "held=" | Class ↦ "class=" | Rate ↦ "rate=" | Next ↦ "next=" | Flow ↦ "flow=" | Via ↦ "via=" | Old ↦ "old=" | New ↦ "new=" | _ ↦ other ]
 
-abbrev pub prefix_of : ℕ → List ℕ
-prefix_of k = bytes (get_or keys k "")
+abbrev pub plan_key : Key → String
+plan_key key = elim key [ Plan ↦ "plan=" | Parts ↦ "parts=" | Steps ↦ "steps=" | At ↦ "at=" | Rules ↦ "rules=" | Slack ↦ "slack=" | Switches ↦ "switches=" | Room ↦ "room=" | Kind ↦ "kind=" | _ ↦ "" ]
+
+-- what stands before a value: the key with its `=`
+abbrev pub prefix_of : Key → List ℕ
+prefix_of key = bytes (head_key key (body_key key (plan_key key)))

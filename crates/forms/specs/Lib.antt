@@ -1,6 +1,5 @@
 pub mod Bytes
 pub mod Keys
-pub mod Slots
 pub mod Form
 pub mod Line
 pub mod Read

@@ -3,8 +3,9 @@ use Rattle.std.specs.Prelude.{ℕ, ◌+◌, ◌*◌, ◌-◌, Bool, cond, not, �
 use mathlib.Core.List.{List, [], ◌∷◌, flat_map}
 use Rattle.std.proofs.Math.Option.{Option, none, some}
 use Rattle.forms.specs.Keys.{prefix_of}
-use Rattle.forms.specs.Form.{is_hex, has_remarks}
+use Rattle.forms.specs.Form.{line, is_hex, has_remarks}
 use Rattle.forms.specs.declared.form.Form.{Form}
+use Rattle.forms.specs.declared.form.Key.{Key}
 use Rattle.forms.specs.declared.form.Range.{Range}
 
 -- a byte put before the first of some lines
@@ -78,5 +79,5 @@ unfolding number_from
 hex_of d = cond (eqb (length d) 16) (number_from 16 0 d) none
 
 -- the number that a line has, by its key and range; none where the line is "not in its form, or text stops inside it"
-abbrev pub line_value : ℕ → Range → List ℕ → Option ℕ
+abbrev pub line_value : Key → Range → List ℕ → Option ℕ
 line_value k r line = cond (is_hex r) (hex_of (value_part (prefix_of k) line)) (decimal_of (value_part (prefix_of k) line))

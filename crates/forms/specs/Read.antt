@@ -1,25 +1,26 @@
 -- What a text is read as, and what a list is judged to be: a walk over the lines or the numbers, by the form, and then the sums.
 use Rattle.std.specs.Prelude.{ℕ, zero, suc, ◌+◌, cond, List, [], ◌∷◌, ◌++◌, ltb}
 use Rattle.std.proofs.Math.Option.{Option, none, some, Option-elim}
-use Rattle.model.specs.Outcome.{Outcome, good, refused, unless, and_then, malformed, out_of_range, missing, missed_rate}
+use Rattle.model.specs.Outcome.{Outcome, good, refused, unless, and_then}
+use Rattle.model.specs.declared.Cause.TheVariants.{Malformed as malformed, OutOfRange as out_of_range, Missing as missing, MissedRate as missed_rate}
 use Rattle.model.specs.Rule as rule
 use Rattle.lists.specs.Lists.{network_of}
 use Rattle.forms.specs.Line.{lines, line_value, is_remark, fits, is_passed, plain}
-use Rattle.forms.specs.Form.{field_of, admits_of, second_of}
+use Rattle.forms.specs.Form.{Field, field_of, admits_of, second_of}
 use Rattle.forms.specs.declared.form.Form.{Form}
 use Rattle.forms.specs.declared.form.Form.TheVariants.{Network, Plan, Rules}
+use Rattle.std.specs.declared.option.Option.TheVariants.{None, Some}
+use Rattle.forms.specs.declared.form.Key.{Key}
 use Rattle.forms.specs.declared.form.Range.{Range}
-use Rattle.forms.specs.declared.form.Field.{Field}
-use Rattle.forms.specs.declared.form.Field.TheVariants.{Line, End}
 
 -- by cases on a field
-abbrev pub on_field : {A : Type 0} → Field → A → (ℕ → Range → A) → A
-on_field End a f = a
-on_field (Line k r) a f = f k r
+abbrev pub on_field : {A : Type 0} → Field → A → (Key → Range → A) → A
+on_field None a f = a
+on_field (Some x) a f = f x.key x.range
 
 -- "lines are judged one after the other", "each for 3, then 1, then 2": the items that are left, of which the first has the place n,
 -- after the numbers that are done
-unfoldable pub walk : {X : Type 0} → (ℕ → Range → X → Option ℕ) → Form → ℕ → List ℕ → List X → Outcome (List ℕ)
+unfoldable pub walk : {X : Type 0} → (Key → Range → X → Option ℕ) → Form → ℕ → List ℕ → List X → Outcome (List ℕ)
 walk value form n done [] = on_field (field_of form done) (good done) (λ k r. refused missing n (second_of form))
 walk value form n done (x ∷ xs) =
     on_field (field_of form done) (refused missing n (second_of form)) (λ k r.

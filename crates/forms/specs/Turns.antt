@@ -2,15 +2,17 @@
 -- that both come to the same is `read-by-turns` in proofs/Remarks.antt.
 use Rattle.std.specs.Prelude.{ℕ, ◌+◌, Bool, true, cond, not, ◌&&◌, List, [], ◌∷◌, ◌++◌, eqb, get_or}
 use Rattle.std.proofs.Math.Option.{Option, some, Option-elim}
-use Rattle.model.specs.Outcome.{Outcome, good, refused, malformed, out_of_range, missing}
+use Rattle.model.specs.Outcome.{Outcome, good, refused}
+use Rattle.model.specs.declared.Cause.TheVariants.{Malformed as malformed, OutOfRange as out_of_range, Missing as missing}
 use Rattle.forms.specs.Line.{line_value, is_remark, fits, is_passed}
 use Rattle.forms.specs.Form.{field_of, admits_of, second_of}
 use Rattle.forms.specs.Read.{on_field}
 use Rattle.forms.specs.declared.form.Form.{Form}
+use Rattle.forms.specs.declared.form.Key.{Key}
 use Rattle.forms.specs.declared.form.Range.{Range}
 
 -- the value of a number in a list
-abbrev pub itself : ℕ → Range → ℕ → Option ℕ
+abbrev pub itself : Key → Range → ℕ → Option ℕ
 itself k r v = some v
 
 -- no byte is a line feed
@@ -27,7 +29,7 @@ hashed l = eqb (get_or l 0 0) 35
 abbrev pub at_end : Form → ℕ → List ℕ → Outcome (List ℕ)
 at_end form n done = on_field (field_of form done) (good done) (λ k r. refused missing n (second_of form))
 
-abbrev pub at_item : Form → ℕ → List ℕ → (ℕ → Range → Option ℕ) → (List ℕ → Outcome (List ℕ)) → Outcome (List ℕ)
+abbrev pub at_item : Form → ℕ → List ℕ → (Key → Range → Option ℕ) → (List ℕ → Outcome (List ℕ)) → Outcome (List ℕ)
 at_item form n done value next =
     on_field (field_of form done) (refused missing n (second_of form)) (λ k r.
     Option-elim (value k r) (refused malformed n (second_of form)) (λ v.

@@ -2,13 +2,12 @@
 use Rattle.std.specs.Prelude.{ℕ, zero, suc, ◌+◌, ◌/◌, ◌%◌, ◌^◌, cond, List, [], ◌∷◌, ◌++◌, ltb}
 use Rattle.model.specs.Outcome.{Outcome, good}
 use Rattle.forms.specs.Keys.{prefix_of}
-use Rattle.forms.specs.Form.{field_of, is_hex}
+use Rattle.forms.specs.Form.{Field, field_of, is_hex}
 use Rattle.model.specs.Outcome.{and_then}
 use Rattle.forms.specs.Read.{judge_list}
 use Rattle.forms.specs.declared.form.Form.{Form}
+use Rattle.std.specs.declared.option.Option.TheVariants.{None, Some}
 use Rattle.forms.specs.declared.form.Range.{Range}
-use Rattle.forms.specs.declared.form.Field.{Field}
-use Rattle.forms.specs.declared.form.Field.TheVariants.{Line, End}
 
 -- the byte of a digit, in lower case
 abbrev pub digit_char : ℕ → ℕ
@@ -34,8 +33,8 @@ value_digits r v = cond (is_hex r) (digits_in 16 16 v) (digits_in 10 (width_of v
 
 -- "Each line is a key, `=`, a value and one line feed (byte 10)."
 abbrev pub line_of : Field → ℕ → List ℕ
-line_of End v = []
-line_of (Line k r) v = prefix_of k ++ (value_digits r v ++ (10 ∷ []))
+line_of None v = []
+line_of (Some x) v = prefix_of x.key ++ (value_digits x.range v ++ (10 ∷ []))
 
 -- the lines of the numbers that are left, after those that are done
 unfoldable pub render_from : Form → List ℕ → List ℕ → List ℕ

@@ -14,13 +14,15 @@ use Rattle.model.specs.Limits.{most_flows, most_tunnels, most_amount}
 use Rattle.model.specs.Sum.{sum_over}
 use Rattle.model.specs.Search.{only_if, first}
 use Rattle.model.specs.Net.{Net}
-use Rattle.model.specs.Outcome.{Place, Cause, unless, good}
+use Rattle.model.specs.Outcome.{Place, unless, good}
+use Rattle.model.specs.declared.Cause.TheVariants as causes
 use Rattle.model.specs.Rule.{flow_sum, missed_by, missed_rate}
 use Rattle.model.proofs.Sums.{sum-zero, sum-take, sum-skip, sum-line, sum_bound}
 use Rattle.model.proofs.Searches.{first-at}
 use Rattle.lists.specs.Lists.{network_of}
-use Rattle.lists.specs.Answers.{done}
-use Rattle.lists.specs.declared.Answer.TheVariants.{Done, Refused}
+use Rattle.lists.specs.Refusals.{judged}
+use Rattle.model.specs.declared.Cause.TheVariants.{MissedRate}
+use Rattle.std.specs.declared.result.Result.TheVariants.{Ok, Err}
 use Rattle.forms.specs.Read.{add_up}
 use Rattle.judges.specs.Sums.{Gathered, pair_of}
 use Rattle.forms.specs.declared.form.Form.TheVariants.{Network}
@@ -117,10 +119,10 @@ module _ (N : Net) (f s r n : ℕ) (e : s ≡ flow_sum N N.old f + flow_sum N N.
 
 module _ (l : List ℕ) where
   pub missed-at : (f : ℕ) (p : Place) → first f (missed_by (network_of l)) ≡ none → missed_by (network_of l) f ≡ some p → f < (network_of l).flows
-      → done (add_up Network l) ≡ Refused 4 p.place p.second
+      → judged (add_up Network l) ≡ Err (record { cause = MissedRate; place = p.place; second = p.second })
   unfolding add_up missed_rate
-  missed-at f p e m h = ap (λ (o : Option Place). done (unless Cause.missed_rate o (good l))) (first-at (missed_by (network_of l)) f (network_of l).flows p e m h)
+  missed-at f p e m h = ap (λ (o : Option Place). judged (unless causes.MissedRate o (good l))) (first-at (missed_by (network_of l)) f (network_of l).flows p e m h)
 
-  pub missed-none : first (network_of l).flows (missed_by (network_of l)) ≡ none → done (add_up Network l) ≡ Done (length l)
-  unfolding add_up missed_rate
-  missed-none e = ap (λ (o : Option Place). done (unless Cause.missed_rate o (good l))) e
+  pub missed-none : missed_rate (network_of l) ≡ none → judged (add_up Network l) ≡ Ok l
+  unfolding add_up
+  missed-none e = ap (λ (o : Option Place). judged (unless causes.MissedRate o (good l))) e

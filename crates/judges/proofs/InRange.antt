@@ -15,16 +15,17 @@ use Rattle.lists.specs.Lists.{at, has_held, per_link, per_flow, next_in, network
 use Rattle.lists.specs.declared.Network as counts
 use Rattle.lists.proofs.Positions.{link-most, second, flow-most, third, next-third, tunnel-after, each_number}
 use Rattle.lists.proofs.Held.{with-held}
-use Rattle.forms.specs.Form.{line, Sound, Whole, allows, admits_of, field_of, network_lines, network_body, link_lines, flow_lines, tunnel_lines}
+use Rattle.forms.specs.Form.{Field, line, Sound, Whole, allows, admits_of, field_of, network_lines, network_body, link_lines, flow_lines, tunnel_lines}
 use Rattle.lists.specs.Good.{LinksIn, FlowsIn, TunnelsIn}
 use Rattle.judges.specs.Ranges.{Decides, head_lines, HeadIn, NetworkHead}
+use Rattle.std.specs.declared.option.Option.TheVariants.{None}
 use Rattle.forms.specs.declared.form.Form.{Form}
+use Rattle.forms.specs.declared.form.Key.{Key}
+use Rattle.forms.specs.declared.form.Key.TheVariants as key
 use Rattle.forms.specs.declared.form.Form.TheVariants.{Network}
 use Rattle.forms.specs.declared.form.Range.TheVariants.{Between, Set}
-use Rattle.forms.specs.declared.form.Field.TheVariants.{Line, End}
 use Rattle.forms.proofs.Forms.{in_between, head-there, own_body, body-link, body-flow, body-tunnel, body_end, network-head-field, network-body-field, network-head-at}
 use Rattle.forms.proofs.Good.{network-ranges, last_line, set-in, in-set}
-use Rattle.forms.specs.declared.form.Field.{Field}
 use Rattle.forms.specs.declared.form.Range.{Range}
 
 -- ---- tests
@@ -41,10 +42,10 @@ decides-same b f g d = record { yes = λ e. f (d.yes e); no = λ e y. d.no e (g 
 pub untrue : (b : Bool) → b ≡ false → T b → ⊥
 untrue b e t = rw e at t
 
-pub no_line : (f : Field) (v : ℕ) → f ≡ End → T (allows f v) → ⊥
+pub no_line : (f : Field) (v : ℕ) → f ≡ None → T (allows f v) → ⊥
 no_line f v e t = rw e at t
 
-pub not-allowed : (f : Field) (k : ℕ) (r : Range) (v : ℕ) → f ≡ Line k r → admits_of r v ≡ false → T (allows f v) → ⊥
+pub not-allowed : (f : Field) (k : Key) (r : Range) (v : ℕ) → f ≡ line k r → admits_of r v ≡ false → T (allows f v) → ⊥
 not-allowed f k r v e a t = rw (e, a) at t
 
 -- a set, where the limit and its position are known by other names
@@ -77,8 +78,8 @@ module _ (form : Form) (l : List ℕ) where
   pub head-none : HeadIn form l 0
   head-none = record { each = λ i h. absurd (omega arith) }
 
-  pub head_more : (n : ℕ) → HeadIn form l n → T (allows (get_or (head_lines form (at l 0)) n End) (at l n)) → HeadIn form l (n + 1)
-  head_more n h t = record { each = one_more (λ i. T (allows (get_or (head_lines form (at l 0)) i End) (at l i))) n h.each t }
+  pub head_more : (n : ℕ) → HeadIn form l n → T (allows (get_or (head_lines form (at l 0)) n None) (at l n)) → HeadIn form l (n + 1)
+  head_more n h t = record { each = one_more (λ i. T (allows (get_or (head_lines form (at l 0)) i None) (at l i))) n h.each t }
 
 module _ (l : List ℕ) where
   pub links-none : LinksIn l 0
@@ -135,8 +136,8 @@ module _ (l : List ℕ) (r : InRange l) where
 
   -- a link has its capacity, and past it only what is held of it
   link-in : (k j before : ℕ) → before ≡ at l (link_at sizes k + j - 1) → k < sizes.links → j < per_link sizes.edition
-      → T (allows (get_or (link_lines sizes.edition before) j End) (at l (link_at sizes k + j)))
-  link-in k zero before e h g = at_first (λ v. T (allows (line "cap=" (Between 0 most_amount)) v)) (link_at sizes k) (in_between 0 most_amount _ (omega arith) (r.links.cap k h))
+      → T (allows (get_or (link_lines sizes.edition before) j None) (at l (link_at sizes k + j)))
+  link-in k zero before e h g = at_first (λ v. T (allows (line key.Cap (Between 0 most_amount)) v)) (link_at sizes k) (in_between 0 most_amount _ (omega arith) (r.links.cap k h))
   link-in k (suc zero) before e h g =
       let y : has_held sizes.edition ≡ true = second sizes.edition g in
       let i : link_at sizes k + 1 - 1 ≡ link_at sizes k = omega arith in
@@ -144,16 +145,16 @@ module _ (l : List ℕ) (r : InRange l) where
   link-in k (suc (suc j)) before e h g = absurd (omega (arith, link-most sizes.edition))
 
   -- a flow has its class and its rate, and past them only its next
-  flow-in : (f j : ℕ) → f < sizes.flows → j < per_flow sizes.edition → T (allows (get_or (flow_lines sizes.edition) j End) (at l (flow_at sizes f + j)))
-  flow-in f zero h k = at_first (λ v. T (allows (line "class=" (Between 0 2)) v)) (flow_at sizes f) (in_between 0 2 _ (omega arith) (r.flows.class f h))
+  flow-in : (f j : ℕ) → f < sizes.flows → j < per_flow sizes.edition → T (allows (get_or (flow_lines sizes.edition) j None) (at l (flow_at sizes f + j)))
+  flow-in f zero h k = at_first (λ v. T (allows (line key.Class (Between 0 2)) v)) (flow_at sizes f) (in_between 0 2 _ (omega arith) (r.flows.class f h))
   flow-in f (suc zero) h k = in_between 0 most_amount _ (omega arith) (r.flows.rate f h)
   flow-in f (suc (suc j)) h k =
       let e : next_in sizes.edition ≡ suc (suc j) = omega (arith, flow-most sizes.edition, next-third sizes.edition (third sizes.edition (omega arith))) in
-      let last : T (allows (get_or (flow_lines sizes.edition) (next_in sizes.edition) End) (at l (flow_at sizes f + next_in sizes.edition)))
+      let last : T (allows (get_or (flow_lines sizes.edition) (next_in sizes.edition) None) (at l (flow_at sizes f + next_in sizes.edition)))
       = rw (last_line sizes.edition) (in_between 0 most_amount _ (omega arith) (r.flows.next f h)) in
       rw e at last
 
-  tunnel-in : (t j : ℕ) → t < sizes.tunnels → j < 4 → T (allows (get_or (tunnel_lines sizes) j End) (at l (tunnel_at sizes t + j)))
+  tunnel-in : (t j : ℕ) → t < sizes.tunnels → j < 4 → T (allows (get_or (tunnel_lines sizes) j None) (at l (tunnel_at sizes t + j)))
   tunnel-in t zero h k = at_first (λ v. T (ltb v sizes.flows)) (tunnel_at sizes t) (rw (lt-ltb _ _ (r.tunnels.flow t h)) tt)
   tunnel-in t (suc zero) h k = in-set sizes.links _ (r.tunnels.via t h)
   tunnel-in t (suc (suc zero)) h k = in_between 0 most_amount _ (omega arith) (r.tunnels.old t h)
@@ -171,7 +172,7 @@ module _ (l : List ℕ) (r : InRange l) where
   in-sound i h (yes k) = rw (network-head-field l i (le_of_lt h) k) (r.head.each i k)
   in-sound i h (no k) = rw (network-body-field l i (le_of_lt h) (omega arith)) (body-in i (omega (arith, head-there l)) (omega (arith, r.size)))
 
-  ends : field_of Network l ≡ End
+  ends : field_of Network l ≡ None
   ends = own_body l (omega (arith, r.size, head-there l, tunnel-after sizes sizes.tunnels)) ∙ body_end sizes _ (length l) (omega (arith, r.size))
 
   pub in-range-whole : Whole Network l

@@ -13,9 +13,9 @@ use Rattle.lists.specs.Lists.{at, table_sizes, room_at, rule_at, tables_size}
 use Rattle.lists.specs.declared.RuleTables.{RuleTables}
 use Rattle.forms.specs.Form.{Sound, Whole, allows, admits_of, field_of, rules_lines, rule_lines, rules_body}
 use Rattle.judges.specs.Ranges.{HeadIn, TablesSized, RoomsIn, RulesIn}
+use Rattle.std.specs.declared.option.Option.TheVariants.{None}
 use Rattle.forms.specs.declared.form.Form.TheVariants.{Rules}
 use Rattle.forms.specs.declared.form.Range.TheVariants.{Set}
-use Rattle.forms.specs.declared.form.Field.TheVariants.{End}
 use Rattle.forms.proofs.Forms.{between, in_between, rules-head-field, rules-body-field, rules-head-at, rules-body-at, body-room, body-rule, rules-end, RulesHead}
 use Rattle.forms.proofs.Good.{lines-no-end}
 use Rattle.judges.proofs.InRange.{one_more}
@@ -56,12 +56,12 @@ module _ (n : RuleTables) where
           subst P e (rule (m / 2) (m % 2) (omega arith) (omega arith))
 
   -- where the form has an end, it is past the last number
-  body-ends : (i : ℕ) → room_at n 0 ≤ i → rules_body n i ≡ End → tables_size n ≤ i
+  body-ends : (i : ℕ) → room_at n 0 ≤ i → rules_body n i ≡ None → tables_size n ≤ i
   body-ends i h e = go (dec_lt i (tables_size n))
     where
       go : Dec (i < tables_size n) → tables_size n ≤ i
       go (yes k) =
-          absurd (each_number (λ m. rules_body n m ≡ End → ⊥)
+          absurd (each_number (λ m. rules_body n m ≡ None → ⊥)
           (λ s k x. let z : ◌≡◌ {A = ℕ} 0 1 = cc (body-room n s k) in omega arith)
           (λ t j k g x. lines-no-end (rule_lines n) j (tt, (tt, tt)) g (sym (body-rule n t j k g) ∙ x)) i h k e)
       go (no k) = omega arith
@@ -86,7 +86,7 @@ pub tables-sized : (l : List ℕ) → HeadIn Rules l (length rules_lines) → le
 tables-sized l h e = let c = head-counts l h in record { switches = c.switches.1; tunnels = c.tunnels; size = e }
 
 module _ (l : List ℕ) (r : TablesIn l) where
-  rule-in : (t j : ℕ) → t < (table_sizes l).tunnels → j < 2 → T (allows (get_or (rule_lines (table_sizes l)) j End) (at l (rule_at (table_sizes l) t + j)))
+  rule-in : (t j : ℕ) → t < (table_sizes l).tunnels → j < 2 → T (allows (get_or (rule_lines (table_sizes l)) j None) (at l (rule_at (table_sizes l) t + j)))
   rule-in t zero h k =
       let e : rule_at (table_sizes l) t + 0 ≡ rule_at (table_sizes l) t = omega arith in
       subst⁻¹ (λ (i : ℕ). T (admits_of (Set (table_sizes l).switches) (at l i))) e (r.rules.via t h)
@@ -103,7 +103,7 @@ module _ (l : List ℕ) (r : TablesIn l) where
   in-sound i h (yes k) = rw (rules-head-field l i (le_of_lt h) k) (r.head.each i k)
   in-sound i h (no k) = rw (rules-body-field l i (le_of_lt h) (omega arith)) (body-in i (omega arith) (omega (arith, r.size)))
 
-  ends : field_of Rules l ≡ End
+  ends : field_of Rules l ≡ None
   unfolding field_of
   ends =
       let long : length rules_lines ≤ length l = omega (arith, r.size) in
@@ -123,7 +123,7 @@ module _ (l : List ℕ) (w : Whole Rules l) where
       go (yes h) = absurd (lines-no-end rules_lines (length l) (tt, (tt, (tt, (tt, tt)))) h (rw (lt-ltb (length l) (length rules_lines) h) at w.ends))
       go (no h) = omega arith
 
-  rules-ends : rules_body (table_sizes l) (length l) ≡ End
+  rules-ends : rules_body (table_sizes l) (length l) ≡ None
   unfolding field_of
   rules-ends = rw (le-ltb (length l) (length rules_lines) long) at w.ends
 
@@ -132,11 +132,11 @@ module _ (l : List ℕ) (w : Whole Rules l) where
     where
       go : Dec (tables_size (table_sizes l) < length l) → length l ≡ tables_size (table_sizes l)
       go (yes h) =
-          let e : rules_body (table_sizes l) (tables_size (table_sizes l)) ≡ End = rules-end (table_sizes l) (tables_size (table_sizes l)) (omega arith) in
+          let e : rules_body (table_sizes l) (tables_size (table_sizes l)) ≡ None = rules-end (table_sizes l) (tables_size (table_sizes l)) (omega arith) in
           absurd (rw e at (rules-body-at l w.sound (tables_size (table_sizes l)) h (omega arith)))
       go (no h) = omega (arith, body-ends (table_sizes l) (length l) (omega (arith, long)) rules-ends)
 
-  tunnel-line : (t j i : ℕ) → t < (table_sizes l).tunnels → j < 2 → i ≡ rule_at (table_sizes l) t + j → T (allows (get_or (rule_lines (table_sizes l)) j End) (at l i))
+  tunnel-line : (t j i : ℕ) → t < (table_sizes l).tunnels → j < 2 → i ≡ rule_at (table_sizes l) t + j → T (allows (get_or (rule_lines (table_sizes l)) j None) (at l i))
   tunnel-line t j i h k e =
       rw e (rw (body-rule (table_sizes l) t j h k) at (rules-body-at l w.sound (rule_at (table_sizes l) t + j) (omega (arith, tables-size)) (omega arith)))
 

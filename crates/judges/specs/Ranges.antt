@@ -1,13 +1,11 @@
 -- The parts of a list whose ranges are looked at in one loop each. Those of a network's body stand in lists:Good.
-use Rattle.std.specs.Prelude.{ℕ, ◌+◌, ◌≤◌, ◌<◌, ◌≡◌, Bool, true, false, List, T, length, get_or}
+use Rattle.std.specs.Prelude.{ℕ, ◌+◌, ◌≤◌, ◌<◌, ◌≡◌, Bool, true, false, List, T, length, get_or, None}
 use Rattle.model.specs.Limits.{most_tunnels, most_switches, most_room}
 use Rattle.lists.specs.Lists.{at, plan_sizes, row_at, table_sizes, room_at, rule_at, tables_size}
-use Rattle.forms.specs.Form.{network_lines, plan_lines, rules_lines, admits_of, allows}
+use Rattle.forms.specs.Form.{Field, network_lines, plan_lines, rules_lines, admits_of, allows}
 use Rattle.forms.specs.declared.form.Form.{Form}
 use Rattle.forms.specs.declared.form.Form.TheVariants.{Network, Plan, Rules}
 use Rattle.forms.specs.declared.form.Range.TheVariants.{Set}
-use Rattle.forms.specs.declared.form.Field.{Field}
-use Rattle.forms.specs.declared.form.Field.TheVariants.{End}
 
 -- a test that says exactly whether something holds
 pub record Decides (answer : Bool) (X : Type 0) : Type 0 where
@@ -24,7 +22,7 @@ head_lines Rules edition = rules_lines
 
 -- the first so many numbers are in their ranges
 pub record HeadIn (form : Form) (l : List ℕ) (n : ℕ) : Type 0 where
-  pub each : (i : ℕ) → i < n → T (allows (get_or (head_lines form (at l 0)) i End) (at l i))
+  pub each : (i : ℕ) → i < n → T (allows (get_or (head_lines form (at l 0)) i None) (at l i))
 
 -- a list that has a network's head
 pub record NetworkHead (l : List ℕ) : Type 0 where

@@ -1,30 +1,32 @@
 // The judges of lists: the numbers, one after the other, each for 3, then 2; then, for a network, the sums.
 ghost use Rattle.std.specs.Prelude.{◌≡◌, ◌+◌, ◌≤◌};
-ghost use Rattle.lists.specs.Answers.{done};
 ghost use Rattle.lists.specs.Lists.{most_numbers};
+ghost use Rattle.lists.specs.Refusals.{counted, judged};
 ghost use Rattle.forms.specs.Form.{field_of, second_of, Sound};
 ghost use Rattle.forms.specs.Read.{judge_numbers};
 ghost use Rattle.forms.specs.Named.{judge_network, judge_plan, judge_rules};
 
 use crate::{ranges, sums};
 use forms::form;
-use forms::form::{Field, Form};
-use lists::{Answer, Network};
+use forms::form::{Form, Line};
+use lists::Network;
+use lists::judged::{NetworkList, PlanList};
+use lists::refusal::{Cause, Refusal};
 
 // The refusal of the number at i, whose line is i + 1.
-fn refusal(number: u64, i: usize, form: Form) -> Answer
+fn refusal(cause: Cause, i: usize, form: Form) -> Refusal
     requires { i ≤ most_numbers }
-    ensures { result ≡ Answer.Refused number (i + 1) (second_of form) }
+    ensures { result ≡ record { cause = cause; place = i + 1; second = second_of form } }
 {
-    Answer::Refused {
-        number,
+    Refusal {
+        cause,
         place: (i + 1) as u64,
-        second: form::second(form),
+        second: form.second(),
     }
 }
 
 // What stands after some numbers. With one caller the compiler puts it into the loop, and that is what it is fast by.
-fn field_after(form: Form, done: &[u64]) -> Field
+fn field_after(form: Form, done: &[u64]) -> Option<Line>
     requires { Sound form done.now }
     ensures { result ≡ field_of form done.now }
 {
@@ -41,58 +43,53 @@ fn field_after(form: Form, done: &[u64]) -> Field
     }
 }
 
-fn judge_numbers(form: Form, list: &[u64]) -> Answer
-    ensures { result ≡ done (judge_numbers form list.now) }
+fn judge_numbers(form: Form, list: &[u64]) -> Result<usize, Refusal>
+    ensures { result ≡ counted (judge_numbers form list.now) }
 {
+    // An index, since the form, and not the list, says where the walk ends.
     let mut i: usize = 0;
-    loop {
-        let field = field_after(form, &list[..i]);
-        let Field::Line(_, range) = field else {
-            if i == list.len() {
-                return Answer::Done(i);
-            }
-            return refusal(3, i, form);
+    while let Some(line) = field_after(form, &list[..i]) {
+        let Some(&number) = list.get(i) else {
+            return Err(refusal(Cause::Missing, i, form));
         };
-        if i == list.len() {
-            return refusal(3, i, form);
+        if !line.range.admits(number) {
+            return Err(refusal(Cause::OutOfRange, i, form));
         }
-        if form::admits(range, list[i]) {
-            i += 1;
-        } else {
-            return refusal(2, i, form);
-        }
+        i += 1;
     }
+    if i < list.len() {
+        return Err(refusal(Cause::Missing, i, form));
+    }
+    Ok(i)
 }
 
-// Judges the list of a network. Done carries its length. Here and below, only a list that is not in the form is gone through
-// number by number, for the place of the refusal.
-pub fn judge_network(list: &[u64]) -> Answer
-    ensures { result ≡ done (judge_network list.now) }
+// Judges the list of a network. Here and below, only a list that is not in the form is gone through number by number, for the place of the
+// refusal.
+pub fn judge_network<'a>(list: &'a [u64]) -> Result<NetworkList<'a>, Refusal>
+    ensures { result ≡ judged (judge_network list.now) }
 {
-    if ranges::is_network(list) {
-        sums::add_up(list, Network::of(list))
-    } else {
-        judge_numbers(Form::Network, list)
+    if !ranges::is_network(list) {
+        judge_numbers(Form::Network, list)?;
     }
+    sums::add_up(list, Network::of(list))
 }
 
-// Judges the list of a plan. Done carries its length.
-pub fn judge_plan(list: &[u64]) -> Answer
-    ensures { result ≡ done (judge_plan list.now) }
+// Judges the list of a plan.
+pub fn judge_plan<'a>(list: &'a [u64]) -> Result<PlanList<'a>, Refusal>
+    ensures { result ≡ judged (judge_plan list.now) }
 {
-    if ranges::is_plan(list) {
-        Answer::Done(list.len())
-    } else {
-        judge_numbers(Form::Plan, list)
+    if !ranges::is_plan(list) {
+        judge_numbers(Form::Plan, list)?;
     }
+    Ok(PlanList::new(list))
 }
 
-// Judges the list of rule tables. Done carries its length.
-pub fn judge_rules(list: &[u64]) -> Answer
-    ensures { result ≡ done (judge_rules list.now) }
+// Judges the list of rule tables, and gives its length.
+pub fn judge_rules(list: &[u64]) -> Result<usize, Refusal>
+    ensures { result ≡ counted (judge_rules list.now) }
 {
     if ranges::is_rules(list) {
-        Answer::Done(list.len())
+        Ok(list.len())
     } else {
         judge_numbers(Form::Rules, list)
     }

@@ -1,18 +1,18 @@
 // Whether a list is in the form of a network, of a plan or of rule tables, by loops over its parts. No refusal is told: where the answer is no, the
 // judge goes through the numbers one by one for its place.
-ghost use Rattle.std.specs.Prelude.{◌≡◌, ◌≤◌, length, get_or};
+ghost use Rattle.std.specs.Prelude.{◌≡◌, ◌≤◌, length, get_or, None};
 ghost use Rattle.lists.specs.Lists.{at, network_sizes, table_sizes};
 ghost use Rattle.lists.specs.Good.{Sized, LinksIn, FlowsIn, TunnelsIn};
 ghost use Rattle.forms.specs.Form.{Whole};
 ghost use Rattle.judges.specs.Ranges.{Decides, head_lines, HeadIn, NetworkHead, AmountsIn, TablesSized, RoomsIn, RulesIn};
 
 use forms::form;
-use forms::form::{Field, Form};
+use forms::form::{Form, Line};
 use lists::{Network, PlanSizes, RuleTables};
 
 // The line at place n of a form's head.
-fn head_line(form: Form, edition: u64, n: usize) -> Field
-    ensures { result ≡ get_or (head_lines form edition) n Field.End }
+fn head_line(form: Form, edition: u64, n: usize) -> Option<Line>
+    ensures { result ≡ get_or (head_lines form edition) n None }
 {
     match form {
         Form::Network => form::network_head(edition, n),
@@ -26,14 +26,11 @@ fn head_in(form: Form, edition: u64, list: &[u64], count: usize) -> bool
     requires { (count ≤ length list.now) × (head_lines form edition ≡ head_lines form (at list.now 0)) }
     ensures { Decides result (HeadIn form list.now count) }
 {
-    let mut i: usize = 0;
-    while i < count {
-        let Field::Line(_, range) = head_line(form, edition, i) else {
+    for i in 0..count {
+        let Some(line) = head_line(form, edition, i) else {
             return false;
         };
-        if form::admits(range, list[i]) {
-            i += 1;
-        } else {
+        if !line.range.admits(list[i]) {
             return false;
         }
     }
@@ -56,14 +53,14 @@ fn network_head_in(list: &[u64]) -> bool
     head_in(Form::Network, Network::HELD_SINCE, list, Network::HEAD)
 }
 
-// Are the numbers of each link in their ranges? The last says what is held, or is the capacity itself.
+// Are the numbers of each link in their ranges? The last says what is held, or is the capacity itself. Here and below the loops go by the number
+// of a link, a flow, a tunnel or a switch, since from it follows where its numbers stand; the list is not judged yet.
 fn links_in(list: &[u64], sizes: Network) -> bool
     requires { Sized list.now × (sizes ≡ network_sizes list.now) }
     ensures { Decides result (LinksIn list.now sizes.links) }
 {
     let last = sizes.per_link() - 1;
-    let mut k: usize = 0;
-    while k < sizes.links {
+    for k in 0..sizes.links {
         let at = sizes.link_at(k);
         if Network::AMOUNT < list[at] {
             return false;
@@ -71,7 +68,6 @@ fn links_in(list: &[u64], sizes: Network) -> bool
         if list[at] < list[at + last] {
             return false;
         }
-        k += 1;
     }
     true
 }
@@ -82,8 +78,7 @@ fn flows_in(list: &[u64], sizes: Network) -> bool
     ensures { Decides result (FlowsIn list.now sizes.flows) }
 {
     let next = sizes.next();
-    let mut f: usize = 0;
-    while f < sizes.flows {
+    for f in 0..sizes.flows {
         let at = sizes.flow_at(f);
         if 2 < list[at] {
             return false;
@@ -94,7 +89,6 @@ fn flows_in(list: &[u64], sizes: Network) -> bool
         if Network::AMOUNT < list[at + next] {
             return false;
         }
-        f += 1;
     }
     true
 }
@@ -105,8 +99,7 @@ fn tunnels_in(list: &[u64], sizes: Network) -> bool
     ensures { Decides result (TunnelsIn list.now sizes.tunnels) }
 {
     let links = sizes.links as u64;
-    let mut t: usize = 0;
-    while t < sizes.tunnels {
+    for t in 0..sizes.tunnels {
         let at = sizes.tunnel_at(t);
         let flow = list[at] as usize;
         if sizes.flows <= flow {
@@ -121,7 +114,6 @@ fn tunnels_in(list: &[u64], sizes: Network) -> bool
         if Network::AMOUNT < list[at + Network::NEW] {
             return false;
         }
-        t += 1;
     }
     true
 }
@@ -132,38 +124,26 @@ fn body_in(list: &[u64]) -> bool
     ensures { Decides result (Whole Form.Network list.now) }
 {
     let sizes = Network::of(list);
-    if list.len() != sizes.tunnel_at(sizes.tunnels) {
-        return false;
-    }
-    if !links_in(list, sizes) {
-        return false;
-    }
-    if !flows_in(list, sizes) {
-        return false;
-    }
-    tunnels_in(list, sizes)
+    list.len() == sizes.tunnel_at(sizes.tunnels)
+        && links_in(list, sizes)
+        && flows_in(list, sizes)
+        && tunnels_in(list, sizes)
 }
 
 pub(crate) fn is_network(list: &[u64]) -> bool
     ensures { Decides result (Whole Form.Network list.now) }
 {
-    if network_head_in(list) {
-        body_in(list)
-    } else {
-        false
-    }
+    network_head_in(list) && body_in(list)
 }
 
-// Is each number of a plan after its head at most `high`?
+// Is each number of a plan after its head at most `high`? An index: the part after the head would have to be known to be there.
 fn amounts_in(list: &[u64], high: u64) -> bool
     ensures { Decides result (AmountsIn list.now high (length list.now)) }
 {
-    let mut i = PlanSizes::HEAD;
-    while i < list.len() {
+    for i in PlanSizes::HEAD..list.len() {
         if high < list[i] {
             return false;
         }
-        i += 1;
     }
     true
 }
@@ -174,23 +154,13 @@ fn rows_in(list: &[u64]) -> bool
     ensures { Decides result (Whole Form.Plan list.now) }
 {
     let sizes = PlanSizes::of(list);
-    if list.len() != sizes.row_at(sizes.steps) {
-        return false;
-    }
-    amounts_in(list, Network::AMOUNT * sizes.parts)
+    list.len() == sizes.row_at(sizes.steps) && amounts_in(list, Network::AMOUNT * sizes.parts)
 }
 
 pub(crate) fn is_plan(list: &[u64]) -> bool
     ensures { Decides result (Whole Form.Plan list.now) }
 {
-    if list.len() < PlanSizes::HEAD {
-        return false;
-    }
-    if head_in(Form::Plan, 0, list, PlanSizes::HEAD) {
-        rows_in(list)
-    } else {
-        false
-    }
+    PlanSizes::HEAD <= list.len() && head_in(Form::Plan, 0, list, PlanSizes::HEAD) && rows_in(list)
 }
 
 // Is the room of each switch in its range?
@@ -198,13 +168,11 @@ fn rooms_in(list: &[u64], sizes: RuleTables) -> bool
     requires { TablesSized list.now × (sizes ≡ table_sizes list.now) }
     ensures { Decides result (RoomsIn list.now sizes.switches) }
 {
-    let mut s: usize = 0;
-    while s < sizes.switches {
+    for s in 0..sizes.switches {
         let at = sizes.room_at(s);
         if RuleTables::ROOM < list[at] {
             return false;
         }
-        s += 1;
     }
     true
 }
@@ -215,8 +183,7 @@ fn rules_in(list: &[u64], sizes: RuleTables) -> bool
     ensures { Decides result (RulesIn list.now sizes.tunnels) }
 {
     let switches = sizes.switches as u64;
-    let mut t: usize = 0;
-    while t < sizes.tunnels {
+    for t in 0..sizes.tunnels {
         let at = sizes.rule_at(t);
         if !form::is_set(list[at], switches) {
             return false;
@@ -227,7 +194,6 @@ fn rules_in(list: &[u64], sizes: RuleTables) -> bool
         if RuleTables::REMOVE < list[at + RuleTables::KIND] {
             return false;
         }
-        t += 1;
     }
     true
 }
@@ -238,25 +204,13 @@ fn tables_in(list: &[u64]) -> bool
     ensures { Decides result (Whole Form.Rules list.now) }
 {
     let sizes = RuleTables::of(list);
-    if list.len() != sizes.rule_at(sizes.tunnels) {
-        return false;
-    }
-    if rooms_in(list, sizes) {
-        rules_in(list, sizes)
-    } else {
-        false
-    }
+    list.len() == sizes.rule_at(sizes.tunnels) && rooms_in(list, sizes) && rules_in(list, sizes)
 }
 
 pub(crate) fn is_rules(list: &[u64]) -> bool
     ensures { Decides result (Whole Form.Rules list.now) }
 {
-    if list.len() < RuleTables::HEAD {
-        return false;
-    }
-    if head_in(Form::Rules, 0, list, RuleTables::HEAD) {
-        tables_in(list)
-    } else {
-        false
-    }
+    RuleTables::HEAD <= list.len()
+        && head_in(Form::Rules, 0, list, RuleTables::HEAD)
+        && tables_in(list)
 }

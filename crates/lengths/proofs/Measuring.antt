@@ -1,5 +1,5 @@
 -- How long the lines of a list are: all that is not a decimal digit, and those.
-use mathlib.Core.Path.{◌≡◌, refl, sym, ap, ◌∙◌}
+use mathlib.Core.Path.{◌≡◌, refl, sym, ap, ap₂, ◌∙◌}
 use mathlib.Core.Bool.{true, false}
 use mathlib.Core.List.{List, [], ◌∷◌, ◌++◌}
 use mathlib.Core.Logic.{⊎_elim}
@@ -8,24 +8,22 @@ use native.Mathlib.Numerals.{add-one}
 use native.Mathlib.Nat.{zero-add, le_of_lt}
 use native.Mathlib.Decide.{dec_lt}
 use native.Mathlib.Omega.{arith}
-use lib.ListN.{length, get_or, length-append}
+use lib.ListN.{length, get_or, take, length-append}
+use lib.Seq.{length-take-le, get_or-take}
 use Rattle.model.proofs.Searches.{bool_cases}
-use Rattle.lists.specs.Lists.{has_next, has_held, head_size, per_link, per_flow, network_sizes, link_at, flow_at, tunnel_at}
+use Rattle.lists.specs.Lists.{has_next, has_held, head_size, per_link, per_flow, network_sizes, network_of, link_at, flow_at, tunnel_at}
+use Rattle.lists.specs.Good.{GoodNetwork, GoodPlan}
 use Rattle.lists.specs.declared.Network as counts
 use Rattle.lists.proofs.Positions.{with-unit, without-unit, head-low, two-a-link, one-a-link, link-most, second, flow-most, third, with-next, without-next, link-at, flow-at, tunnel-at, flows-follow, tunnels-follow, each_number}
 use Rattle.forms.specs.Bytes.{bytes}
-use Rattle.forms.specs.Form.{is_hex, Whole, network_lines, plan_lines}
+use Rattle.forms.specs.Form.{Whole, plan_lines}
 use Rattle.forms.specs.Write.{digits_in, width_of, render}
 use Rattle.forms.specs.declared.form.Form.{Form}
 use Rattle.forms.specs.declared.form.Form.TheVariants.{Network, Plan}
-use Rattle.forms.specs.declared.form.Range.{Range}
-use Rattle.forms.specs.declared.form.Field.{Field}
-use Rattle.forms.specs.declared.form.Field.TheVariants.{Line, End}
 use Rattle.forms.proofs.Forms.{lines-in-head, head-there}
-use Rattle.forms.proofs.Good.{network-size, plan-size}
 use Rattle.forms.proofs.Numbers.{length_digits}
 use Rattle.lengths.specs.Lines.{line_at, lines_from, Decimal, widths_of, tunnel_widths, head_bytes, link_bytes, flow_bytes}
-use Rattle.lengths.proofs.Runs.{DecimalAt, lines_none, lines_more, all_lines, network-head-line, unit-line, count-line, cap-line, held-line, class-line, rate-line, next-line, flow-line, via-line, old-line, new_line, plan-head-line, at-line}
+use Rattle.lengths.proofs.Runs.{DecimalAt, lines_none, lines_more, all_lines, net-line, scratch-line, overrun-line, unit-line, links-line, flows-line, tunnels-line, cap-line, held-line, class-line, rate-line, next-line, flow-line, via-line, old-line, new_line, plan-line, parts-line, steps-line, plan-tunnels-line, at-line}
 
 module _ (l : List ℕ) where
   pub widths-none : widths_of l 0 ≡ 0
@@ -36,14 +34,30 @@ module _ (l : List ℕ) where
   unfolding widths_of
   widths-more n = rw add-one
 
+  -- of the first n numbers by themselves
+  module _ (n : ℕ) (h : n ≤ length l) where
+    widths-kept : (m : ℕ) → m ≤ n → widths_of (take n l) m ≡ widths_of l m
+    unfolding widths_of
+    widths-kept zero k = refl
+    widths-kept (suc m) k = ap₂ (λ (w v : ℕ). w + width_of v) (widths-kept m (le_of_lt k)) (get_or-take n l m 0 k)
+
+    pub widths-first : widths_of (take n l) (length (take n l)) ≡ widths_of l n
+    widths-first = ap (widths_of (take n l)) (length-take-le n l h) ∙ widths-kept n (omega arith)
+
   pub tunnel-widths-none : tunnel_widths l 0 ≡ 0
   unfolding tunnel_widths
   tunnel-widths-none = refl
 
   pub tunnel-widths-more : (t : ℕ) → tunnel_widths l (t + 1)
-      ≡ tunnel_widths l t + (width_of (get_or l (tunnel_at (network_sizes l) t) 0) + width_of (get_or l (tunnel_at (network_sizes l) t + 2) 0) + width_of (get_or l (tunnel_at (network_sizes l) t + 3) 0))
+      ≡ tunnel_widths l t + (width_of ((network_of l).flow t) + width_of ((network_of l).old t) + width_of ((network_of l).new t))
   unfolding tunnel_widths
   tunnel-widths-more t = rw add-one
+
+  -- by where the numbers stand
+  tunnel-widths-at : (t : ℕ) → tunnel_widths l (t + 1)
+      ≡ tunnel_widths l t + (width_of (get_or l (tunnel_at (network_sizes l) t) 0) + width_of (get_or l (tunnel_at (network_sizes l) t + 2) 0) + width_of (get_or l (tunnel_at (network_sizes l) t + 3) 0))
+  unfolding network_of
+  tunnel-widths-at t = tunnel-widths-more t
 
 pub head-bytes-most : (edition : ℕ) → head_bytes edition ≤ 52
 unfolding head_bytes
@@ -89,29 +103,28 @@ module _ (form : Form) (l : List ℕ) where
 
 -- ---- the plan
 
-module _ (l : List ℕ) (w : Whole Plan l) where
+module _ (l : List ℕ) (g : GoodPlan l) where
   plan-head-long : Long Plan l 4 29
   plan-head-long =
-      let line = plan-head-line l w in
-      let one : Long Plan l 1 6 = long-more Plan l 0 1 0 6 (bytes "plan=") refl refl (line 0 _ _ (omega arith) refl refl) (long-none Plan l) in
-      let two : Long Plan l 2 13 = long-more Plan l 1 2 6 13 (bytes "parts=") refl refl (line 1 _ _ (omega arith) refl refl) one in
-      let three : Long Plan l 3 20 = long-more Plan l 2 3 13 20 (bytes "steps=") refl refl (line 2 _ _ (omega arith) refl refl) two in
-      long-more Plan l 3 4 20 29 (bytes "tunnels=") refl refl (line 3 _ _ (omega arith) refl refl) three
+      let one : Long Plan l 1 6 = long-more Plan l 0 1 0 6 (bytes "plan=") refl refl (plan-line l g) (long-none Plan l) in
+      let two : Long Plan l 2 13 = long-more Plan l 1 2 6 13 (bytes "parts=") refl refl (parts-line l g) one in
+      let three : Long Plan l 3 20 = long-more Plan l 2 3 13 20 (bytes "steps=") refl refl (steps-line l g) two in
+      long-more Plan l 3 4 20 29 (bytes "tunnels=") refl refl (plan-tunnels-line l g) three
 
   rows_long : (n : ℕ) → 4 + n ≤ length l → Long Plan l (4 + n) (29 + 4 * n)
   rows_long zero h = plan-head-long
-  rows_long (suc n) h = long-more Plan l (4 + n) (4 + suc n) (29 + 4 * n) (29 + 4 * suc n) (bytes "at=") (omega arith) (omega arith) (at-line l w (4 + n) (omega arith) (omega arith)) (rows_long n (omega arith))
+  rows_long (suc n) h = long-more Plan l (4 + n) (4 + suc n) (29 + 4 * n) (29 + 4 * suc n) (bytes "at=") (omega arith) (omega arith) (at-line l g (4 + n) (omega arith) (omega arith)) (rows_long n (omega arith))
 
   pub plan-length : length (render Plan l) ≡ 29 + 4 * (length l - length plan_lines) + widths_of l (length l)
   plan-length =
-      let e : 4 + (length l - 4) ≡ length l = omega (arith, plan-size l w) in
+      let e : 4 + (length l - 4) ≡ length l = omega (arith, g.size) in
       omega (arith, rw (e, all_lines Plan l) at (rows_long (length l - 4) (omega arith)))
 
   plan-head-number : (i : ℕ) → i < length plan_lines → Decimal l i
-  plan-head-number zero h = (plan-head-line l w 0 _ _ h refl refl).number
-  plan-head-number (suc zero) h = (plan-head-line l w 1 _ _ h refl refl).number
-  plan-head-number (suc (suc zero)) h = (plan-head-line l w 2 _ _ h refl refl).number
-  plan-head-number (suc (suc (suc zero))) h = (plan-head-line l w 3 _ _ h refl refl).number
+  plan-head-number zero h = (plan-line l g).number
+  plan-head-number (suc zero) h = (parts-line l g).number
+  plan-head-number (suc (suc zero)) h = (steps-line l g).number
+  plan-head-number (suc (suc (suc zero))) h = (plan-tunnels-line l g).number
   plan-head-number (suc (suc (suc (suc i)))) h = absurd (omega arith)
 
   -- all numbers of a plan are decimal
@@ -120,32 +133,11 @@ module _ (l : List ℕ) (w : Whole Plan l) where
     where
       go : Dec (i < 4) → Decimal l i
       go (yes k) = plan-head-number i k
-      go (no k) = (at-line l w i (omega arith) h).number
+      go (no k) = (at-line l g i (omega arith) h).number
 
 -- ---- the network
 
--- all lines of its head are decimal
-pub record DecimalIn (fs : List Field) (n : ℕ) : Type 0 where
-  pub key : ℕ
-  pub range : Range
-  pub line : get_or fs n End ≡ Line key range
-  pub decimal : is_hex range ≡ false
-
-abbrev Decimals : List Field → Type 0
-Decimals [] = Unit {0}
-Decimals (Line k r ∷ fs) = (is_hex r ≡ false) × Decimals fs
-Decimals (End ∷ fs) = ⊥
-
-decimal-in : (fs : List Field) (n : ℕ) → Decimals fs → n < length fs → DecimalIn fs n
-decimal-in [] n d h = absurd (omega arith)
-decimal-in (End ∷ fs) n d h = absurd d
-decimal-in (Line k r ∷ fs) zero d h = record { key = k; range = r; line = refl; decimal = d.0 }
-decimal-in (Line k r ∷ fs) (suc n) d h = let x = decimal-in fs n d.1 (omega arith) in record { key = x.key; range = x.range; line = x.line; decimal = x.decimal }
-
-head-decimals : (edition : ℕ) → Decimals (network_lines edition)
-head-decimals edition = (refl, (refl, (refl, ⊎_elim (λ e. rw e (refl, (refl, (refl, (refl, tt))))) (λ e. rw e (refl, (refl, (refl, tt)))) (bool_cases (has_held edition)))))
-
-module _ (l : List ℕ) (w : Whole Network l) where
+module _ (l : List ℕ) (g : GoodNetwork l) (w : Whole Network l) where
   abbrev edition : ℕ
   edition = get_or l 0 0
 
@@ -155,29 +147,25 @@ module _ (l : List ℕ) (w : Whole Network l) where
   -- the counts' lines, where c stands for what is not a digit before them
   counts-long : (n c : ℕ) → n ≡ head_size edition - 3 → Long Network l n c → Long Network l (head_size edition) (c + 23)
   counts-long n c e before =
-      let line = count-line l w in
-      let one : Long Network l (n + 1) (c + 7) = long-more Network l n (n + 1) c (c + 7) (bytes "links=") refl (omega arith) (line 0 n _ _ (omega arith) (omega arith) refl refl) before in
-      let two : Long Network l (n + 2) (c + 14) = long-more Network l (n + 1) (n + 2) (c + 7) (c + 14) (bytes "flows=") (omega arith) (omega arith) (line 1 (n + 1) _ _ (omega arith) (omega arith) refl refl) one in
-      long-more Network l (n + 2) (head_size edition) (c + 14) (c + 23) (bytes "tunnels=") (omega (arith, head-low edition)) (omega arith) (line 2 (n + 2) _ _ (omega arith) (omega arith) refl refl) two
+      let one : Long Network l (n + 1) (c + 7) = long-more Network l n (n + 1) c (c + 7) (bytes "links=") refl (omega arith) (links-line l g n e) before in
+      let two : Long Network l (n + 2) (c + 14) = long-more Network l (n + 1) (n + 2) (c + 7) (c + 14) (bytes "flows=") (omega arith) (omega arith) (flows-line l g (n + 1) (omega arith)) one in
+      long-more Network l (n + 2) (head_size edition) (c + 14) (c + 23) (bytes "tunnels=") (omega (arith, head-low edition)) (omega arith) (tunnels-line l g (n + 2) (omega arith)) two
 
   network-head-long : Long Network l (head_size edition) (head_bytes edition)
   unfolding head_bytes
   network-head-long =
       ⊎_elim
-      (λ (e : has_held edition ≡ true). rw e (counts-long 4 29 (omega (arith, with-unit edition e)) (long-more Network l 3 4 23 29 (bytes "unit=") refl refl (unit-line l w e) three)))
+      (λ (e : has_held edition ≡ true). rw e (counts-long 4 29 (omega (arith, with-unit edition e)) (long-more Network l 3 4 23 29 (bytes "unit=") refl refl (unit-line l g w e) three)))
       (λ (e : has_held edition ≡ false). rw e (counts-long 3 23 (omega (arith, without-unit edition e)) three))
       (bool_cases (has_held edition))
     where
-      some : 6 ≤ head_size edition
-      some = head-low edition
-
       two : Long Network l 2 14
       two =
-          long-more Network l 1 2 5 14 (bytes "scratch=") refl refl (network-head-line l w 1 _ _ (omega (arith, some)) refl refl)
-          (long-more Network l 0 1 0 5 (bytes "net=") refl refl (network-head-line l w 0 _ _ (omega (arith, some)) refl refl) (long-none Network l))
+          long-more Network l 1 2 5 14 (bytes "scratch=") refl refl (scratch-line l g)
+          (long-more Network l 0 1 0 5 (bytes "net=") refl refl (net-line l g) (long-none Network l))
 
       three : Long Network l 3 23
-      three = long-more Network l 2 3 14 23 (bytes "overrun=") refl refl (network-head-line l w 2 _ _ (omega (arith, some)) refl refl) two
+      three = long-more Network l 2 3 14 23 (bytes "overrun=") refl refl (overrun-line l g) two
 
   -- the lines of link k, likewise
   link-long : (k c : ℕ) → k < sizes.links → Long Network l (link_at sizes k) c → Long Network l (link_at sizes k + per_link sizes.edition) (c + link_bytes sizes.edition)
@@ -185,7 +173,7 @@ module _ (l : List ℕ) (w : Whole Network l) where
   link-long k c h before =
       ⊎_elim
       (λ (e : has_held sizes.edition ≡ true).
-      rw (two-a-link sizes.edition e, e) (long-more Network l (i + 1) (i + 2) (c + 5) (c + 11) (bytes "held=") (omega arith) (omega arith) (held-line l w k (i + 1) h e refl) one))
+      rw (two-a-link sizes.edition e, e) (long-more Network l (i + 1) (i + 2) (c + 5) (c + 11) (bytes "held=") (omega arith) (omega arith) (held-line l g k (i + 1) h e refl) one))
       (λ (e : has_held sizes.edition ≡ false). rw (one-a-link sizes.edition e, e) one)
       (bool_cases (has_held sizes.edition))
     where
@@ -193,7 +181,7 @@ module _ (l : List ℕ) (w : Whole Network l) where
       i = link_at sizes k
 
       one : Long Network l (i + 1) (c + 5)
-      one = long-more Network l i (i + 1) c (c + 5) (bytes "cap=") refl (omega arith) (cap-line l w k i h refl) before
+      one = long-more Network l i (i + 1) c (c + 5) (bytes "cap=") refl (omega arith) (cap-line l g k i h refl) before
 
   links-long : (k : ℕ) → k ≤ sizes.links → Long Network l (link_at sizes k) (head_bytes edition + link_bytes sizes.edition * k)
   links-long zero h = let e : head_bytes edition + link_bytes sizes.edition * 0 ≡ head_bytes edition = omega arith in rw (head-there l ∙ sym (lines-in-head edition), e) network-head-long
@@ -208,7 +196,7 @@ module _ (l : List ℕ) (w : Whole Network l) where
   flow-long f c h before =
       ⊎_elim
       (λ (e : has_next sizes.edition ≡ true).
-      rw (with-next sizes.edition e, e) (long-more Network l (i + 2) (i + 3) (c + 13) (c + 19) (bytes "next=") (omega arith) (omega arith) (next-line l w f (i + 2) h e refl) two))
+      rw (with-next sizes.edition e, e) (long-more Network l (i + 2) (i + 3) (c + 13) (c + 19) (bytes "next=") (omega arith) (omega arith) (next-line l g f (i + 2) h e refl) two))
       (λ (e : has_next sizes.edition ≡ false). rw (without-next sizes.edition e, e) two)
       (bool_cases (has_next sizes.edition))
     where
@@ -217,8 +205,8 @@ module _ (l : List ℕ) (w : Whole Network l) where
 
       two : Long Network l (i + 2) (c + 13)
       two =
-          long-more Network l (i + 1) (i + 2) (c + 7) (c + 13) (bytes "rate=") (omega arith) (omega arith) (rate-line l w f (i + 1) h refl)
-          (long-more Network l i (i + 1) c (c + 7) (bytes "class=") refl (omega arith) (class-line l w f i h refl) before)
+          long-more Network l (i + 1) (i + 2) (c + 7) (c + 13) (bytes "rate=") (omega arith) (omega arith) (rate-line l g f (i + 1) h refl)
+          (long-more Network l i (i + 1) c (c + 7) (bytes "class=") refl (omega arith) (class-line l g f i h refl) before)
 
   flows_long : (f : ℕ) → f ≤ sizes.flows → Long Network l (flow_at sizes f) (head_bytes edition + link_bytes sizes.edition * sizes.links + flow_bytes sizes.edition * f)
   flows_long zero h = rw (flows-follow sizes) (omega (arith, links-long sizes.links (omega arith)))
@@ -230,7 +218,7 @@ module _ (l : List ℕ) (w : Whole Network l) where
   via-length : (t i : ℕ) → t < sizes.tunnels → i ≡ tunnel_at sizes t + 1 → length (line_at Network l i) ≡ 21
   via-length t i h e =
       let d = digits_in 16 16 (get_or l i 0) in
-      omega (arith, ap length (via-line l w t i h e), length-append d (10 ∷ []), length_digits 16 16 (get_or l i 0))
+      omega (arith, ap length (via-line l g t i h e), length-append d (10 ∷ []), length_digits 16 16 (get_or l i 0))
 
   -- the tunnels: the digits of their flows, old and new amounts are counted apart
   abbrev TunnelsLong : ℕ → Type 0
@@ -246,11 +234,11 @@ module _ (l : List ℕ) (w : Whole Network l) where
       let old : i + 2 ≡ i + 1 + 1 = omega arith in
       let new : i + 3 ≡ i + 1 + 1 + 1 = omega arith in
       let width : ℕ → ℕ = λ j. width_of (get_or l j 0) in
-      let flow-size = size-more Network l i ∙ ap (λ (n : ℕ). size Network l i + n) (decimal-length Network l i (bytes "flow=") (flow-line l w t i h refl)) in
+      let flow-size = size-more Network l i ∙ ap (λ (n : ℕ). size Network l i + n) (decimal-length Network l i (bytes "flow=") (flow-line l g t i h refl)) in
       let via-size = size-more Network l (i + 1) ∙ ap (λ (n : ℕ). size Network l (i + 1) + n) (via-length t (i + 1) h refl) in
-      let old-size = size-more Network l (i + 1 + 1) ∙ ap (λ (n : ℕ). size Network l (i + 1 + 1) + n) (decimal-length Network l (i + 1 + 1) (bytes "old=") (old-line l w t (i + 1 + 1) h (sym old))) in
-      let new-size = size-more Network l (i + 1 + 1 + 1) ∙ ap (λ (n : ℕ). size Network l (i + 1 + 1 + 1) + n) (decimal-length Network l (i + 1 + 1 + 1) (bytes "new=") (new_line l w t (i + 1 + 1 + 1) h (sym new))) in
-      omega (arith, flow-size, via-size, old-size, new-size, ap (size Network l) e, tunnel-widths-more l t, ap width old, ap width new)
+      let old-size = size-more Network l (i + 1 + 1) ∙ ap (λ (n : ℕ). size Network l (i + 1 + 1) + n) (decimal-length Network l (i + 1 + 1) (bytes "old=") (old-line l g t (i + 1 + 1) h (sym old))) in
+      let new-size = size-more Network l (i + 1 + 1 + 1) ∙ ap (λ (n : ℕ). size Network l (i + 1 + 1 + 1) + n) (decimal-length Network l (i + 1 + 1 + 1) (bytes "new=") (new_line l g t (i + 1 + 1 + 1) h (sym new))) in
+      omega (arith, flow-size, via-size, old-size, new-size, ap (size Network l) e, tunnel-widths-at l t, ap width old, ap width new)
 
   tunnels-long : (t : ℕ) → t ≤ sizes.tunnels → TunnelsLong t
   tunnels-long zero h = tunnels-none
@@ -258,25 +246,47 @@ module _ (l : List ℕ) (w : Whole Network l) where
 
   pub network-length : length (render Network l)
       ≡ head_bytes edition + link_bytes sizes.edition * sizes.links + flow_bytes sizes.edition * sizes.flows + 37 * sizes.tunnels + widths_of l (tunnel_at sizes 0) + tunnel_widths l sizes.tunnels
-  network-length = sym (ap length (all_lines Network l)) ∙ ap (size Network l) (network-size l w) ∙ tunnels-long sizes.tunnels (omega arith)
+  network-length = sym (ap length (all_lines Network l)) ∙ ap (size Network l) g.ranges.sized.size ∙ tunnels-long sizes.tunnels (omega arith)
+
+  -- the numbers of the head, and then all before those of the tunnels, are decimal
+  count-number : (i : ℕ) → head_size edition - 3 ≤ i → i < head_size edition → Decimal l i
+  count-number i h k = go (i - (head_size edition - 3)) refl
+    where
+      go : (j : ℕ) → j ≡ i - (head_size edition - 3) → Decimal l i
+      go zero e = (links-line l g i (omega arith)).number
+      go (suc zero) e = (flows-line l g i (omega (arith, head-low edition))).number
+      go (suc (suc zero)) e = (tunnels-line l g i (omega (arith, head-low edition))).number
+      go (suc (suc (suc j))) e = absurd (omega arith)
 
   network-head-number : (i : ℕ) → i < head_size edition → Decimal l i
-  network-head-number i h = let d = decimal-in (network_lines edition) i (head-decimals edition) (omega (arith, lines-in-head edition)) in (network-head-line l w i _ _ h d.line d.decimal).number
+  network-head-number zero h = (net-line l g).number
+  network-head-number (suc zero) h = (scratch-line l g).number
+  network-head-number (suc (suc zero)) h = (overrun-line l g).number
+  network-head-number (suc (suc (suc i))) h = ⊎_elim with without (bool_cases (has_held edition))
+    where
+      with : has_held edition ≡ true → Decimal l (suc (suc (suc i)))
+      with e = go i refl
+        where
+          go : (j : ℕ) → j ≡ i → Decimal l (suc (suc (suc i)))
+          go zero f = rw (← f) (unit-line l g w e).number
+          go (suc j) f = count-number (suc (suc (suc i))) (omega (arith, with-unit edition e)) h
 
-  -- the numbers before those of the tunnels are decimal
+      without : has_held edition ≡ false → Decimal l (suc (suc (suc i)))
+      without e = count-number (suc (suc (suc i))) (omega (arith, without-unit edition e)) h
+
   pub network-number : (i : ℕ) → i < tunnel_at sizes 0 → Decimal l i
   network-number i h = head (dec_lt i (head_size edition))
     where
       flow : (f j : ℕ) → f < sizes.flows → j < per_flow sizes.edition → flow_at sizes f + j < tunnel_at sizes 0 → Decimal l (flow_at sizes f + j)
-      flow f zero k g less = (class-line l w f (flow_at sizes f + 0) k (omega arith)).number
-      flow f (suc zero) k g less = (rate-line l w f (flow_at sizes f + 1) k refl).number
-      flow f (suc (suc zero)) k g less = (next-line l w f (flow_at sizes f + 2) k (third sizes.edition g) refl).number
-      flow f (suc (suc (suc j))) k g less = absurd (omega (arith, flow-most sizes.edition))
+      flow f zero k b less = (class-line l g f (flow_at sizes f + 0) k (omega arith)).number
+      flow f (suc zero) k b less = (rate-line l g f (flow_at sizes f + 1) k refl).number
+      flow f (suc (suc zero)) k b less = (next-line l g f (flow_at sizes f + 2) k (third sizes.edition b) refl).number
+      flow f (suc (suc (suc j))) k b less = absurd (omega (arith, flow-most sizes.edition))
 
       link : (k j : ℕ) → k < sizes.links → j < per_link sizes.edition → link_at sizes k + j < tunnel_at sizes 0 → Decimal l (link_at sizes k + j)
-      link k zero g h less = (cap-line l w k (link_at sizes k + 0) g (omega arith)).number
-      link k (suc zero) g h less = (held-line l w k (link_at sizes k + 1) g (second sizes.edition h) refl).number
-      link k (suc (suc j)) g h less = absurd (omega (arith, link-most sizes.edition))
+      link k zero a b less = (cap-line l g k (link_at sizes k + 0) a (omega arith)).number
+      link k (suc zero) a b less = (held-line l g k (link_at sizes k + 1) a (second sizes.edition b) refl).number
+      link k (suc (suc j)) a b less = absurd (omega (arith, link-most sizes.edition))
 
       head : Dec (i < head_size edition) → Decimal l i
       head (yes k) = network-head-number i k
@@ -284,5 +294,5 @@ module _ (l : List ℕ) (w : Whole Network l) where
           each_number sizes (λ m. m < tunnel_at sizes 0 → Decimal l m)
           link
           flow
-          (λ t j g g' less. absurd (omega (arith, tunnel-at sizes t)))
+          (λ t j a b less. absurd (omega (arith, tunnel-at sizes t)))
           i (omega (arith, head-there l, lines-in-head edition)) (omega (arith, tunnel-at sizes sizes.tunnels)) h

@@ -1,6 +1,8 @@
 -- The lines of a list, from any on: what they are, and what is written of them after one more.
 use mathlib.Core.Path.{◌≡◌, refl, sym, ap, ◌∙◌}
 use mathlib.Core.Bool.{Bool, true, false, cond}
+use mathlib.Core.Logic.{⊎_elim}
+use lib.Dec.{T}
 use mathlib.Core.List.{List, [], ◌++◌, append_assoc, append-nil}
 use Prim.Native.Nat.{ℕ, zero, suc, ◌+◌, ◌-◌, ◌≤◌, ◌<◌}
 use native.Mathlib.Nat.{add-zero, zero-add, add-suc, add_assoc, le_of_lt}
@@ -9,22 +11,24 @@ use native.Mathlib.Omega.{arith}
 use lib.ListN.{length, get_or, take, drop, length-append}
 use Rattle.model.specs.Limits.{most_amount}
 use borrow.Author.Tests.{lt-ltb}
-use Rattle.lists.specs.Lists.{has_next, has_held, head_size, per_link, per_flow, network_sizes, link_at, flow_at, tunnel_at, plan_sizes, plan_size}
+use Rattle.lists.specs.Lists.{has_next, has_held, head_size, per_link, per_flow, network_sizes, link_at, flow_at, tunnel_at, plan_sizes, plan_size, network_size}
+use Rattle.lists.specs.Good.{GoodNetwork, GoodPlan}
 use Rattle.lists.specs.declared.Network as counts
-use Rattle.lists.proofs.Positions.{head-low, two-a-link, flow-some, with-next, link-some, head_in, link-in, flow-in, tunnel-in, link-after, flow-after, tunnel-after}
+use Rattle.lists.proofs.Held.{with-held}
+use Rattle.lists.proofs.Positions.{with-unit, short, short-plan, most-in-all, next-third, head-low, two-a-link, flow-some, with-next, link-some, head_in, link-in, flow-in, tunnel-in, link-after, flow-after, tunnel-after}
 use Rattle.forms.specs.Bytes.{bytes}
-use Rattle.forms.specs.Keys.{keys, place_in, prefix_of}
-use Rattle.forms.specs.Form.{field_of, is_hex, Sound, Whole, count_lines, network_lines, network_body, link_lines, flow_lines, tunnel_lines, plan_lines}
+use Rattle.forms.specs.Keys.{prefix_of}
+use Rattle.forms.specs.Form.{Field, line, allows, field_of, is_hex, Sound, Whole, count_lines, network_lines, network_body, link_lines, flow_lines, tunnel_lines, plan_lines}
 use Rattle.forms.specs.Write.{width_of, line_of, render, render_from}
 use Rattle.forms.specs.declared.form.Form.{Form}
 use Rattle.forms.specs.declared.form.Form.TheVariants.{Network, Plan}
 use Rattle.forms.specs.declared.form.Range.{Range}
 use Rattle.forms.specs.declared.form.Range.TheVariants.{Between}
-use Rattle.forms.specs.declared.form.Field.{Field}
-use Rattle.forms.specs.declared.form.Field.TheVariants.{Line, End}
-use Rattle.forms.proofs.Forms.{lines-in-head, count-field, head-there, body-link, body-flow, body-tunnel, network-head-field, network-body-field, plan-head-field, plan-body-field}
-use Rattle.forms.proofs.Good.{network-size, plan-size}
-use Rattle.forms.proofs.Rendering.{render-step, render-end, at_most, short-value, line-length}
+use Rattle.forms.specs.declared.form.Key.{Key}
+use Rattle.forms.specs.declared.form.Key.TheVariants as key
+use Rattle.std.specs.declared.option.Option.TheVariants.{None}
+use Rattle.forms.proofs.Forms.{between, network-head-at, lines-in-head, count-field, head-there, body-link, body-flow, body-tunnel, network-head-field, network-body-field, plan-head-field, plan-body-field}
+use Rattle.forms.proofs.Rendering.{render-step, render-end, short-value, line-length}
 use Rattle.lines.specs.Puts.{Puts, decimal_line, hex_line}
 use Rattle.lengths.specs.Lines.{line_at, lines_from, Decimal, Writable}
 use Rattle.lines.proofs.Writing.{puts_none, then-fits, then-puts}
@@ -130,27 +134,15 @@ pub record DecimalAt (form : Form) (l : List ℕ) (i : ℕ) (key : List ℕ) : T
   pub line : line_at form l i ≡ decimal_line key (get_or l i 0)
   pub number : Decimal l i
 
-decimal-at : (form : Form) (l : List ℕ) (i k : ℕ) (r : Range) → Sound form l → i < length l → field_of form (take i l) ≡ Line k r → is_hex r ≡ false → DecimalAt form l i (prefix_of k)
+decimal-at : (form : Form) (l : List ℕ) (i : ℕ) (k : Key) (r : Range) → Decimal l i → field_of form (take i l) ≡ line k r → is_hex r ≡ false → DecimalAt form l i (prefix_of k)
 unfolding line_at
-decimal-at form l i k r s h e x =
-    record {
-      line = rw (e, x);
-      number = record { within = h; few = at_most form l i h s; small = short-value form l i h s k r e x };
-    }
+decimal-at form l i k r d e x = record { line = rw (e, x); number = d }
 
--- the first n lines are written from the front on, and the next of them is decimal
-module _ (form : Form) (l : List ℕ) (n : ℕ) {out : List ℕ} (fits : length (lines_from form l 0 n) ≤ length out) (m : ℕ) (less : m < n) {key : List ℕ}
-    (d : DecimalAt form l m key) {out₁ : List ℕ} {a : ℕ} (p : Puts (lines_from form l 0 m) 0 out out₁ a) where
-  head-room : 0 + length (lines_from form l 0 n) ≤ length out
-  head-room = omega arith
+-- the head lies in the list
+pub head-in : (l : List ℕ) → length l ≡ network_size (network_sizes l) → head_size (get_or l 0 0) ≤ length l
+head-in l s = omega (arith, s, head-there l, lines-in-head (get_or l 0 0), head_in l s)
 
-  pub head-fits : (get_or l m 0 < 10000000000) × (a + length (decimal_line key (get_or l m 0)) ≤ length out₁)
-  head-fits = (d.number.small, next_fits form l 0 n head-room m m less (sym (zero-add m)) d.line p)
-
-  pub head-next : {out₂ : List ℕ} {b : ℕ} → Puts (decimal_line key (get_or l m 0)) a out₁ out₂ b → Puts (lines_from form l 0 (m + 1)) 0 out out₂ b
-  head-next q = next-put form l 0 n head-room m m less (sym (zero-add m)) d.line p (m + 1) refl q
-
-module _ (l : List ℕ) (w : Whole Network l) where
+module _ (l : List ℕ) (g : GoodNetwork l) where
   abbrev sizes : counts.Network
   sizes = network_sizes l
 
@@ -158,94 +150,156 @@ module _ (l : List ℕ) (w : Whole Network l) where
   abbrev edition : ℕ
   edition = get_or l 0 0
 
-  pub long : head_size edition ≤ length l
-  long = omega (arith, network-size l w, head-there l, lines-in-head edition, head_in l (network-size l w))
+  pub sized : length l ≡ network_size sizes
+  sized = g.ranges.sized.size
 
-  pub network-head-line : (i k : ℕ) (r : Range) → i < head_size edition → get_or (network_lines edition) i End ≡ Line k r → is_hex r ≡ false → DecimalAt Network l i (prefix_of k)
-  network-head-line i k r h e x =
-      decimal-at Network l i k r w.sound (omega (arith, long)) (network-head-field l i (omega (arith, long)) (omega (arith, lines-in-head edition)) ∙ e) x
+  long : head_size edition ≤ length l
+  long = head-in l sized
 
-  pub unit-line : has_held edition ≡ true → DecimalAt Network l 3 (bytes "unit=")
-  unit-line e = network-head-line 3 (place_in keys "unit=") (Between 0 1) (omega (arith, head-low edition)) (rw e) refl
+  decimal : (i : ℕ) → i < length l → get_or l i 0 < 10000000000 → Decimal l i
+  decimal i h small = record { within = h; few = omega (arith, short l g.ranges.sized, most-in-all); small = small }
 
-  pub count-line : (j i k : ℕ) (r : Range) → j < length count_lines → i ≡ head_size edition - length count_lines + j → get_or count_lines j End ≡ Line k r → is_hex r ≡ false
+  head-line : (i : ℕ) (k : Key) (r : Range) → i < head_size edition → get_or (network_lines edition) i None ≡ line k r → is_hex r ≡ false → get_or l i 0 < 10000000000
       → DecimalAt Network l i (prefix_of k)
-  count-line j i k r h e line x = network-head-line i k r (omega (arith, head-low edition)) (rw e (count-field edition j ∙ line)) x
+  head-line i k r h e x small =
+      let within : i < length l = omega (arith, long) in
+      decimal-at Network l i k r (decimal i within small) (network-head-field l i (omega (arith, long)) (omega (arith, lines-in-head edition)) ∙ e) x
+
+  pub net-line : DecimalAt Network l 0 (bytes "net=")
+  net-line = head-line 0 _ _ (omega (arith, head-low edition)) refl refl (omega (arith, g.ranges.edition))
+
+  pub scratch-line : DecimalAt Network l 1 (bytes "scratch=")
+  scratch-line = head-line 1 _ _ (omega (arith, head-low edition)) refl refl (omega (arith, g.ranges.scratch))
+
+  pub overrun-line : DecimalAt Network l 2 (bytes "overrun=")
+  overrun-line = head-line 2 _ _ (omega (arith, head-low edition)) refl refl (⊎_elim (λ e. omega (arith, e)) (λ e. omega (arith, e)) g.ranges.overrun)
+
+  pub unit-line : Whole Network l → has_held edition ≡ true → DecimalAt Network l 3 (bytes "unit=")
+  unit-line w e =
+      let t : T (allows (get_or (network_lines edition) 3 None) (get_or l 3 0)) = network-head-at l w.sound 3 (omega (arith, long, with-unit edition e)) (omega (arith, lines-in-head edition, with-unit edition e)) in
+      head-line 3 key.Unit (Between 0 1) (omega (arith, head-low edition)) (rw e) refl (omega (arith, between 0 1 (get_or l 3 0) (rw e at t)))
+
+  -- the lines of the counts, the last of the head
+  of-count : (j i : ℕ) (k : Key) (r : Range) → j < length count_lines → i ≡ head_size edition - length count_lines + j → get_or count_lines j None ≡ line k r → is_hex r ≡ false
+      → get_or l i 0 < 10000000000 → DecimalAt Network l i (prefix_of k)
+  of-count j i k r h e line x small = head-line i k r (omega (arith, head-low edition)) (rw e (count-field edition j ∙ line)) x small
+
+  pub links-line : (i : ℕ) → i ≡ head_size edition - 3 → DecimalAt Network l i (bytes "links=")
+  unfolding network_sizes
+  links-line i e = of-count 0 i _ _ (omega arith) (omega arith) refl refl (omega (arith, ap (λ (j : ℕ). get_or l j 0) e, g.ranges.sized.counts))
+
+  pub flows-line : (i : ℕ) → i ≡ head_size edition - 3 + 1 → DecimalAt Network l i (bytes "flows=")
+  unfolding network_sizes
+  flows-line i e =
+      let same : i ≡ head_size edition - 2 = omega (arith, head-low edition) in
+      of-count 1 i _ _ (omega arith) (omega arith) refl refl (omega (arith, ap (λ (j : ℕ). get_or l j 0) same, g.ranges.sized.counts))
+
+  pub tunnels-line : (i : ℕ) → i ≡ head_size edition - 3 + 2 → DecimalAt Network l i (bytes "tunnels=")
+  unfolding network_sizes
+  tunnels-line i e =
+      let same : i ≡ head_size edition - 1 = omega (arith, head-low edition) in
+      of-count 2 i _ _ (omega arith) (omega arith) refl refl (omega (arith, ap (λ (j : ℕ). get_or l j 0) same, g.ranges.sized.counts))
 
   -- the field at a number after the head
   body-field : (i j : ℕ) → i < length l → i ≡ j → link_at sizes 0 ≤ j → field_of Network (take i l) ≡ network_body sizes (get_or l (i - 1) 0) j
   body-field i j h e after = network-body-field l i (le_of_lt h) (omega (arith, head-there l)) ∙ ap (network_body sizes (get_or l (i - 1) 0)) e
 
   -- the lines of link k
-  of-link : (k j i key : ℕ) (r : Range) → k < sizes.links → j < per_link sizes.edition → i ≡ link_at sizes k + j
-      → get_or (link_lines sizes.edition (get_or l (i - 1) 0)) j End ≡ Line key r → is_hex r ≡ false → DecimalAt Network l i (prefix_of key)
-  of-link k j i key r h below e line x =
-      let within : i < length l = omega (arith, link-in l (network-size l w) k j h below) in
-      decimal-at Network l i key r w.sound within
+  of-link : (k j i : ℕ) (key : Key) (r : Range) → k < sizes.links → j < per_link sizes.edition → i ≡ link_at sizes k + j
+      → get_or (link_lines sizes.edition (get_or l (i - 1) 0)) j None ≡ line key r → is_hex r ≡ false → get_or l i 0 < 10000000000 → DecimalAt Network l i (prefix_of key)
+  of-link k j i key r h below e line x small =
+      let within : i < length l = omega (arith, link-in l sized k j h below) in
+      decimal-at Network l i key r (decimal i within small)
       (body-field i (link_at sizes k + j) within e (omega (arith, link-after sizes k)) ∙ body-link sizes _ k j h below ∙ line) x
 
   pub cap-line : (k i : ℕ) → k < sizes.links → i ≡ link_at sizes k → DecimalAt Network l i (bytes "cap=")
-  cap-line k i h e = of-link k 0 i _ _ h (link-some sizes.edition) (omega arith) refl refl
+  cap-line k i h e = of-link k 0 i _ _ h (link-some sizes.edition) (omega arith) refl refl (omega (arith, ap (λ (j : ℕ). get_or l j 0) e, g.ranges.links.cap k h))
 
   pub held-line : (k i : ℕ) → k < sizes.links → has_held sizes.edition ≡ true → i ≡ link_at sizes k + 1 → DecimalAt Network l i (bytes "held=")
-  held-line k i h has e = of-link k 1 i (place_in keys "held=") (Between 0 (get_or l (i - 1) 0)) h (omega (arith, two-a-link sizes.edition has)) e (rw has) refl
+  held-line k i h has e =
+      of-link k 1 i key.Held (Between 0 (get_or l (i - 1) 0)) h (omega (arith, two-a-link sizes.edition has)) e (rw has) refl
+      (omega (arith, ap (λ (j : ℕ). get_or l j 0) e, with-held l k has, g.ranges.links.held k h, g.ranges.links.cap k h))
 
   -- the lines of flow f, and those of tunnel t
   flow-within : (f j i : ℕ) → f < sizes.flows → j < per_flow sizes.edition → i ≡ flow_at sizes f + j → i < length l
-  flow-within f j i h k e = omega (arith, flow-in l (network-size l w) f j h k)
+  flow-within f j i h k e = omega (arith, flow-in l sized f j h k)
 
-  flow-field : (f j i : ℕ) → f < sizes.flows → j < per_flow sizes.edition → i ≡ flow_at sizes f + j → field_of Network (take i l) ≡ get_or (flow_lines sizes.edition) j End
+  flow-field : (f j i : ℕ) → f < sizes.flows → j < per_flow sizes.edition → i ≡ flow_at sizes f + j → field_of Network (take i l) ≡ get_or (flow_lines sizes.edition) j None
   flow-field f j i h k e = body-field i (flow_at sizes f + j) (flow-within f j i h k e) e (omega (arith, flow-after sizes f)) ∙ body-flow sizes _ f j h k
 
   tunnel-within : (t j i : ℕ) → t < sizes.tunnels → j < length (tunnel_lines sizes) → i ≡ tunnel_at sizes t + j → i < length l
-  tunnel-within t j i h k e = omega (arith, tunnel-in l (network-size l w) t h)
+  tunnel-within t j i h k e = omega (arith, tunnel-in l sized t h)
 
-  tunnel-field : (t j i : ℕ) → t < sizes.tunnels → j < length (tunnel_lines sizes) → i ≡ tunnel_at sizes t + j → field_of Network (take i l) ≡ get_or (tunnel_lines sizes) j End
+  tunnel-field : (t j i : ℕ) → t < sizes.tunnels → j < length (tunnel_lines sizes) → i ≡ tunnel_at sizes t + j → field_of Network (take i l) ≡ get_or (tunnel_lines sizes) j None
   tunnel-field t j i h k e = body-field i (tunnel_at sizes t + j) (tunnel-within t j i h k e) e (omega (arith, tunnel-after sizes t)) ∙ body-tunnel sizes _ t j h k
 
-  of-flow : (f j i k : ℕ) (r : Range) → f < sizes.flows → j < per_flow sizes.edition → i ≡ flow_at sizes f + j → get_or (flow_lines sizes.edition) j End ≡ Line k r → is_hex r ≡ false
-      → DecimalAt Network l i (prefix_of k)
-  of-flow f j i k r h below e line x = decimal-at Network l i k r w.sound (flow-within f j i h below e) (flow-field f j i h below e ∙ line) x
+  of-flow : (f j i : ℕ) (k : Key) (r : Range) → f < sizes.flows → j < per_flow sizes.edition → i ≡ flow_at sizes f + j → get_or (flow_lines sizes.edition) j None ≡ line k r → is_hex r ≡ false
+      → get_or l (flow_at sizes f + j) 0 < 10000000000 → DecimalAt Network l i (prefix_of k)
+  of-flow f j i k r h below e line x small =
+      decimal-at Network l i k r (decimal i (flow-within f j i h below e) (omega (arith, small, ap (λ (n : ℕ). get_or l n 0) e))) (flow-field f j i h below e ∙ line) x
 
-  of-tunnel : (t j i k : ℕ) (r : Range) → t < sizes.tunnels → j < length (tunnel_lines sizes) → i ≡ tunnel_at sizes t + j → get_or (tunnel_lines sizes) j End ≡ Line k r → is_hex r ≡ false
-      → DecimalAt Network l i (prefix_of k)
-  of-tunnel t j i k r h below e line x = decimal-at Network l i k r w.sound (tunnel-within t j i h below e) (tunnel-field t j i h below e ∙ line) x
+  of-tunnel : (t j i : ℕ) (k : Key) (r : Range) → t < sizes.tunnels → j < length (tunnel_lines sizes) → i ≡ tunnel_at sizes t + j → get_or (tunnel_lines sizes) j None ≡ line k r → is_hex r ≡ false
+      → get_or l (tunnel_at sizes t + j) 0 < 10000000000 → DecimalAt Network l i (prefix_of k)
+  of-tunnel t j i k r h below e line x small =
+      decimal-at Network l i k r (decimal i (tunnel-within t j i h below e) (omega (arith, small, ap (λ (n : ℕ). get_or l n 0) e))) (tunnel-field t j i h below e ∙ line) x
+
+  first-of : (i : ℕ) → get_or l i 0 < 10000000000 → get_or l (i + 0) 0 < 10000000000
+  first-of i h = let e : i + 0 ≡ i = omega arith in rw e h
 
   pub class-line : (f i : ℕ) → f < sizes.flows → i ≡ flow_at sizes f → DecimalAt Network l i (bytes "class=")
-  class-line f i h e = of-flow f 0 i _ _ h (omega (arith, flow-some sizes.edition)) (omega arith) refl refl
+  class-line f i h e = of-flow f 0 i _ _ h (omega (arith, flow-some sizes.edition)) (omega arith) refl refl (first-of _ (omega (arith, g.ranges.flows.class f h)))
 
   pub rate-line : (f i : ℕ) → f < sizes.flows → i ≡ flow_at sizes f + 1 → DecimalAt Network l i (bytes "rate=")
-  rate-line f i h e = of-flow f 1 i _ _ h (flow-some sizes.edition) e refl refl
+  rate-line f i h e = of-flow f 1 i _ _ h (flow-some sizes.edition) e refl refl (omega (arith, g.ranges.flows.rate f h))
 
   pub next-line : (f i : ℕ) → f < sizes.flows → has_next sizes.edition ≡ true → i ≡ flow_at sizes f + 2 → DecimalAt Network l i (bytes "next=")
-  next-line f i h has e = of-flow f 2 i (place_in keys "next=") (Between 0 most_amount) h (omega (arith, with-next sizes.edition has)) e (rw has) refl
+  next-line f i h has e =
+      of-flow f 2 i key.Next (Between 0 most_amount) h (omega (arith, with-next sizes.edition has)) e (rw has) refl
+      (omega (arith, ap (λ (j : ℕ). get_or l (flow_at sizes f + j) 0) (next-third sizes.edition has), g.ranges.flows.next f h))
 
   pub flow-line : (t i : ℕ) → t < sizes.tunnels → i ≡ tunnel_at sizes t → DecimalAt Network l i (bytes "flow=")
-  flow-line t i h e = of-tunnel t 0 i _ _ h (omega arith) (omega arith) refl refl
+  flow-line t i h e = of-tunnel t 0 i _ _ h (omega arith) (omega arith) refl refl (first-of _ (omega (arith, g.ranges.tunnels.flow t h, g.ranges.sized.counts)))
 
   pub via-line : (t i : ℕ) → t < sizes.tunnels → i ≡ tunnel_at sizes t + 1 → line_at Network l i ≡ hex_line (bytes "via=") (get_or l i 0)
   unfolding line_at
   via-line t i h e = rw (tunnel-field t 1 i h (omega arith) e)
 
   pub old-line : (t i : ℕ) → t < sizes.tunnels → i ≡ tunnel_at sizes t + 2 → DecimalAt Network l i (bytes "old=")
-  old-line t i h e = of-tunnel t 2 i _ _ h (omega arith) e refl refl
+  old-line t i h e = of-tunnel t 2 i _ _ h (omega arith) e refl refl (omega (arith, g.ranges.tunnels.old t h))
 
   pub new_line : (t i : ℕ) → t < sizes.tunnels → i ≡ tunnel_at sizes t + 3 → DecimalAt Network l i (bytes "new=")
-  new_line t i h e = of-tunnel t 3 i _ _ h (omega arith) e refl refl
+  new_line t i h e = of-tunnel t 3 i _ _ h (omega arith) e refl refl (omega (arith, g.ranges.tunnels.new t h))
 
-module _ (l : List ℕ) (w : Whole Plan l) where
-  pub plan-head-line : (i k : ℕ) (r : Range) → i < length plan_lines → get_or plan_lines i End ≡ Line k r → is_hex r ≡ false → DecimalAt Plan l i (prefix_of k)
-  plan-head-line i k r h e x = decimal-at Plan l i k r w.sound (omega (arith, plan-size l w)) (plan-head-field l i (omega (arith, plan-size l w)) h ∙ e) x
+module _ (l : List ℕ) (g : GoodPlan l) where
+  plan-decimal : (i : ℕ) → i < length l → get_or l i 0 < 10000000000 → Decimal l i
+  plan-decimal i h small = record { within = h; few = omega (arith, short-plan l g); small = small }
+
+  plan-head-line : (i : ℕ) (k : Key) (r : Range) → i < length plan_lines → get_or plan_lines i None ≡ line k r → is_hex r ≡ false → get_or l i 0 < 10000000000 → DecimalAt Plan l i (prefix_of k)
+  plan-head-line i k r h e x small =
+      let within : i < length l = omega (arith, g.size) in
+      decimal-at Plan l i k r (plan-decimal i within small) (plan-head-field l i (le_of_lt within) h ∙ e) x
+
+  pub plan-line : DecimalAt Plan l 0 (bytes "plan=")
+  plan-line = plan-head-line 0 _ _ (omega arith) refl refl (omega (arith, g.edition))
+
+  pub parts-line : DecimalAt Plan l 1 (bytes "parts=")
+  parts-line = plan-head-line 1 _ _ (omega arith) refl refl (omega (arith, g.parts))
+
+  pub steps-line : DecimalAt Plan l 2 (bytes "steps=")
+  steps-line = plan-head-line 2 _ _ (omega arith) refl refl (omega (arith, g.steps))
+
+  pub plan-tunnels-line : DecimalAt Plan l 3 (bytes "tunnels=")
+  plan-tunnels-line = plan-head-line 3 _ _ (omega arith) refl refl (omega (arith, g.tunnels))
 
   pub at-line : (i : ℕ) → length plan_lines ≤ i → i < length l → DecimalAt Plan l i (bytes "at=")
   at-line i four h =
-      let n : i < plan_size (plan_sizes l) = omega (arith, plan-size l w) in
-      decimal-at Plan l i _ _ w.sound h (rw (lt-ltb i (plan_size (plan_sizes l)) n) at (plan-body-field l i (le_of_lt h) four)) refl
+      let n : i < plan_size (plan_sizes l) = omega (arith, g.size) in
+      decimal-at Plan l i _ _ (plan-decimal i h (omega (arith, g.amounts i (omega arith) h, g.parts))) (rw (lt-ltb i (plan_size (plan_sizes l)) n) at (plan-body-field l i (le_of_lt h) four)) refl
 
 -- ---- the lines of any form, one by one
 
 -- the line where a field stands, by what stands before its number
-module _ (f : Field) (k : ℕ) (r : Range) (v : ℕ) (name : List ℕ) (hex : Bool) (e : f ≡ Line k r) (named : name ≡ prefix_of k) (is : hex ≡ is_hex r) where
+module _ (f : Field) (k : Key) (r : Range) (v : ℕ) (name : List ℕ) (hex : Bool) (e : f ≡ line k r) (named : name ≡ prefix_of k) (is : hex ≡ is_hex r) where
   pub set_line : hex ≡ true → line_of f v ≡ hex_line name v
   set_line x = let h : is_hex r ≡ true = sym is ∙ x in rw (e, h, named)
 

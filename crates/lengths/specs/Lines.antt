@@ -1,12 +1,11 @@
 -- The lines of a list, from any on.
 use Rattle.std.specs.Prelude.{ℕ, zero, suc, ◌+◌, ◌≤◌, ◌<◌, ◌≡◌, false, cond, List, [], ◌++◌, length, take, get_or}
-use Rattle.lists.specs.Lists.{has_next, has_held, network_sizes, tunnel_at, most_numbers}
-use Rattle.forms.specs.Form.{field_of, is_hex}
+use Rattle.lists.specs.Lists.{has_next, has_held, network_of, most_numbers}
+use Rattle.forms.specs.Form.{Field, line, field_of, is_hex}
 use Rattle.forms.specs.Write.{width_of, line_of}
 use Rattle.forms.specs.declared.form.Form.{Form}
 use Rattle.forms.specs.declared.form.Range.{Range}
-use Rattle.forms.specs.declared.form.Field.{Field}
-use Rattle.forms.specs.declared.form.Field.TheVariants.{Line}
+use Rattle.forms.specs.declared.form.Key.{Key}
 
 -- ---- the lines of a list
 
@@ -26,7 +25,7 @@ pub record Needed (size room r : ℕ) : Type 0 where
 
 -- a number that can be written where a field stands: it has at most 10 digits if it is decimal
 pub record Writable (f : Field) (v : ℕ) : Type 0 where
-  pub small : (k : ℕ) (r : Range) → f ≡ Line k r → is_hex r ≡ false → v < 10000000000
+  pub small : (k : Key) (r : Range) → f ≡ line k r → is_hex r ≡ false → v < 10000000000
 
 -- how many bytes of the lines are no decimal digit: of the head and, where there is one, the unit
 unfoldable pub head_bytes : ℕ → ℕ
@@ -58,4 +57,4 @@ unfoldable pub tunnel_widths : List ℕ → ℕ → ℕ
 tunnel_widths l zero = 0
 tunnel_widths l (suc t) =
     tunnel_widths l t
-    + (width_of (get_or l (tunnel_at (network_sizes l) t) 0) + width_of (get_or l (tunnel_at (network_sizes l) t + 2) 0) + width_of (get_or l (tunnel_at (network_sizes l) t + 3) 0))
+    + (width_of ((network_of l).flow t) + width_of ((network_of l).old t) + width_of ((network_of l).new t))

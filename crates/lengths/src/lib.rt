@@ -1,15 +1,15 @@
 //! How many bytes the text of a list has: all that is not a decimal digit, and those. Inner functions of the writers.
 #![tactic(auto)]
 
-ghost use Rattle.std.specs.Prelude.{◌≡◌, ℕ, ◌*◌, ◌≤◌, ◌<◌, length};
+ghost use Rattle.std.specs.Prelude.{◌≡◌, ℕ, ◌*◌, ◌≤◌, ◌<◌, length, get_or};
 ghost use Rattle.lists.specs.Lists.{network_sizes, most_numbers};
 ghost use Rattle.forms.specs.Form.{Whole};
-ghost use Rattle.forms.specs.Slots.{key_bytes};
 ghost use Rattle.forms.specs.Write.{line_of, render};
-ghost use Rattle.lengths.specs.Lines.{Decimal, Writable, Needed, widths_of, tunnel_widths, head_bytes, link_bytes, flow_bytes};
+ghost use Rattle.lengths.specs.Lines.{Writable, Needed, widths_of, tunnel_widths, head_bytes, link_bytes, flow_bytes};
 
 use forms::form;
-use forms::form::{Field, Form};
+use forms::form::{Form, Line};
+use lists::judged::{NetworkList, PlanList};
 use lists::{Network, PlanSizes};
 
 // No valid text is longer, so that none has to be measured where there is so much room.
@@ -39,35 +39,29 @@ const PLAN_BYTES: usize = 6 + 7 + 7 + 9;
 
 const AT_BYTES: usize = 4;
 
-// How many decimal digits the first n numbers of a list have together.
-fn widths(list: &[u64], n: usize) -> usize
-    requires n_le_most_numbers { n ≤ most_numbers }
-    requires by_index { (i : ℕ) → i < n → Decimal list.now i }
-    ensures { (result ≡ widths_of list.now n) × (result ≤ 10 * n) }
+// How many decimal digits some numbers have together.
+fn widths(numbers: &[u64]) -> usize
+    requires few { length numbers.now ≤ most_numbers }
+    requires small { (i : ℕ) → i < length numbers.now → get_or numbers.now i 0 < 10000000000 }
+    ensures { (result ≡ widths_of numbers.now (length numbers.now)) × (result ≤ 10 * length numbers.now) }
 {
     let mut sum: usize = 0;
-    let mut i: usize = 0;
-    while i < n {
-        sum += lines::width(list[i]);
-        i += 1;
+    for &v in numbers {
+        sum += lines::width(v);
     }
     sum
 }
 
 // How many the tunnels' flows, old and new amounts have. A set has none: its 16 digits are hexadecimal.
-fn tunnel_widths(list: &[u64], sizes: Network) -> usize
-    requires { Whole Form.Network list.now × (sizes ≡ network_sizes list.now) }
-    ensures { (result ≡ tunnel_widths list.now sizes.tunnels) × (result ≤ 30 * sizes.tunnels) }
+fn tunnel_widths(network: &NetworkList<'_>) -> usize
+    ensures { (result ≡ tunnel_widths network.now (network_sizes network.now).tunnels) × (result ≤ 30 * (network_sizes network.now).tunnels) }
 {
     let mut sum: usize = 0;
-    let mut t: usize = 0;
-    while t < sizes.tunnels {
-        let at = sizes.tunnel_at(t);
-        let flow = lines::width(list[at]);
-        let old = lines::width(list[at + Network::OLD]);
-        let new = lines::width(list[at + Network::NEW]);
+    for t in 0..network.tunnels() {
+        let flow = lines::width(network.flow(t) as u64);
+        let old = lines::width(network.old(t));
+        let new = lines::width(network.new_amount(t));
         sum += flow + old + new;
-        t += 1;
     }
     sum
 }
@@ -105,80 +99,60 @@ fn flow_bytes(sizes: Network) -> usize
     }
 }
 
-// How many bytes a network is written as: all that is not a decimal digit, and those.
-fn network_len(list: &[u64]) -> usize
-    requires { Whole Form.Network list.now }
-    ensures { result ≡ length (render Form.Network list.now) }
+// How many bytes a network is written as, where that may be more than the room; else a number within it.
+pub fn network_needed(network: &NetworkList<'_>, room: usize) -> usize
+    requires { Whole Form.Network network.now }
+    ensures { Needed (length (render Form.Network network.now)) room result }
 {
-    let sizes = Network::of(list);
+    if BYTES <= room {
+        return 0;
+    }
+    let sizes = network.sizes();
     let head = head_bytes(sizes);
     let links = link_bytes(sizes) * sizes.links;
     let flows = flow_bytes(sizes) * sizes.flows;
     let tunnels = TUNNEL_BYTES * sizes.tunnels;
-    let digits = widths(list, sizes.tunnel_at(0));
-    let more = tunnel_widths(list, sizes);
-    head + links + flows + tunnels + digits + more
+    let list = network.numbers();
+    let digits = widths(&list[..sizes.tunnel_at(0)]);
+    head + links + flows + tunnels + digits + tunnel_widths(network)
 }
 
 // The same for a plan.
-fn plan_len(list: &[u64]) -> usize
-    requires { Whole Form.Plan list.now }
-    ensures { result ≡ length (render Form.Plan list.now) }
+pub fn plan_needed(plan: &PlanList<'_>, room: usize) -> usize
+    ensures { Needed (length (render Form.Plan plan.now)) room result }
 {
+    let list = plan.numbers();
+    if BYTES <= room {
+        return 0;
+    }
     let rows = list.len() - PlanSizes::HEAD;
-    PLAN_BYTES + AT_BYTES * rows + widths(list, list.len())
+    PLAN_BYTES + AT_BYTES * rows + widths(list)
 }
 
 // How many bytes a number's line has, by what the form has there.
-fn field_len(keys: &[u8], field: Field, v: u64) -> usize
-    requires keys_value { keys.now ≡ key_bytes }
-    requires writable { Writable field v }
-    ensures { result ≡ length (line_of field v) }
+fn line_len(line: Option<Line>, v: u64) -> usize
+    requires { Writable line v }
+    ensures { result ≡ length (line_of line v) }
 {
-    let Field::Line(key, range) = field else {
+    let Some(line) = line else {
         return 0;
     };
-    let name = form::key_part(keys, key).len();
-    if form::is_hex(range) {
+    let name = line.key.text().len();
+    if line.range.is_hex() {
         return name + 17;
     }
     name + lines::width(v) + 1
 }
 
-// How many bytes rule tables are written as, line by line.
-pub fn rules_len(keys: &[u8], list: &[u64]) -> usize
-    requires keys_value { keys.now ≡ key_bytes }
-    requires whole { Whole Form.Rules list.now }
+// How many bytes rule tables are written as, line by line: which line comes next follows from the numbers before it, so that the loop has an index.
+pub fn rules_len(list: &[u64]) -> usize
+    requires { Whole Form.Rules list.now }
     ensures { result ≡ length (render Form.Rules list.now) }
 {
     let mut sum: usize = 0;
-    let mut i: usize = 0;
-    while i < list.len() {
-        let field = form::rules_field(&list[..i]);
-        sum += field_len(keys, field, list[i]);
-        i += 1;
+    for i in 0..list.len() {
+        let line = form::rules_field(&list[..i]);
+        sum += line_len(line, list[i]);
     }
     sum
-}
-
-// How many bytes a network is written as, where that may be more than the room; else a number within it.
-pub fn network_needed(list: &[u64], room: usize) -> usize
-    requires { Whole Form.Network list.now }
-    ensures { Needed (length (render Form.Network list.now)) room result }
-{
-    if BYTES <= room {
-        return 0;
-    }
-    network_len(list)
-}
-
-// The same for a plan.
-pub fn plan_needed(list: &[u64], room: usize) -> usize
-    requires { Whole Form.Plan list.now }
-    ensures { Needed (length (render Form.Plan list.now)) room result }
-{
-    if BYTES <= room {
-        return 0;
-    }
-    plan_len(list)
 }

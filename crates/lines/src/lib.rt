@@ -29,15 +29,15 @@ fn short_width(v: u64) -> usize
     if v < 1_000 { 3 } else { 4 }
 }
 
-// Puts some bytes at a place. This and the functions below answer the place past what they put.
+// Puts some bytes at a place. This and the functions below answer the place past what they put; a cursor that holds the output would make
+// each contract say besides that it still holds the same one.
 pub fn put(out: &mut [u8], at: usize, s: &[u8]) -> usize
     requires { at + length s.now ≤ length out.old }
     ensures { Puts s.now at out.old out.new result }
 {
-    let mut i: usize = 0;
-    while i < s.len() {
+    // A loop, and no `copy_from_slice`: the keys are short, and a call for each costs a tenth of a plan's writing.
+    for i in 0..s.len() {
         out[at + i] = s[i];
-        i += 1;
     }
     at + s.len()
 }
@@ -89,7 +89,7 @@ fn put_short(out: &mut [u8], at: usize, x: u64) -> usize
     put_four(out, at, x)
 }
 
-// Puts a number of at most 8 decimal digits: the last 4 do not wait for the division that gives the others.
+// Puts a number of at most 8 decimal digits: the last 4 do not wait for the division that gives the others. So each width has a function.
 fn put_medium(out: &mut [u8], at: usize, x: u64) -> usize
     requires x_bound { x < 100000000 }
     requires x_in_bounds { at + width_of x ≤ length out.old }
@@ -129,12 +129,10 @@ fn put_hex(out: &mut [u8], at: usize, v: u64) -> usize
     requires { at + 16 ≤ length out.old }
     ensures { Puts (digits_in 16 16 v) at out.old out.new result }
 {
-    let mut x = v;
-    let mut i: usize = 16;
-    while 0 < i {
-        i -= 1;
-        out[at + i] = digit_char(x % 16);
-        x = x / 16;
+    let mut left = v;
+    for i in (0..16).rev() {
+        out[at + i] = digit_char(left % 16);
+        left /= 16;
     }
     at + 16
 }

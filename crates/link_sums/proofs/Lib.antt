@@ -1,3 +1,2 @@
 pub mod Tables
 pub mod Flows
-pub mod Good

@@ -1,6 +1,6 @@
 -- The laws of the tables of sums.
-use Prim.Native.Nat.{ℕ, ◌+◌, ◌-◌, ◌*◌, ◌^◌, ◌≤◌, ◌<◌, max}
-use mathlib.Core.Path.{◌≡◌, refl, sym, ap, subst, ◌∙◌}
+use Prim.Native.Nat.{ℕ, ◌+◌, ◌*◌, ◌^◌, ◌≤◌, ◌<◌}
+use mathlib.Core.Path.{◌≡◌, refl, sym, ap, ap₂, ◌∙◌}
 use mathlib.Core.Logic.{⊎_elim}
 use mathlib.Core.Bool.{Bool, true, false, cond, not}
 use mathlib.Core.List.{List}
@@ -12,79 +12,62 @@ use lib.ListN.{length, get_or, set, replicate, length-set, length-replicate, get
 use lib.Seq.{get_or-set_same, get_or-set_other}
 use borrow.Author.Tests.{eq-eqb, ne_eqb, eqb-true, eqb-false, lt-ltb, le-ltb}
 use Rattle.model.specs.Limits.{most_links, most_flows, most_tunnels, most_amount}
-use Rattle.lists.specs.Lists.{at}
 use Rattle.model.specs.Sum.{sum_over}
 use Rattle.model.specs.Net.{Net}
 use Rattle.model.specs.Scan.{Bound}
-use Rattle.model.specs.Rule.{crosses, across, flow_sum, by_flow, movers, on_link, counts}
+use Rattle.model.specs.Rule.{crosses, across, flow_sum, by_flow, movers, on_link, counts, load}
+use Rattle.model.specs.ThreeSums.{old_load, new_load, peak_load}
 use Rattle.model.proofs.Sums.{sum-zero, sum-take, sum-skip, sum_bound, sum_both}
 use Rattle.model.proofs.Searches.{bool_cases, cond-most}
 use Rattle.model.proofs.Movers.{movers-tunnels, on-tunnel, movers-flows, on-flow}
 use Rattle.model.proofs.Gathered.{larger-by-tunnel}
 use Rattle.model.specs.Sets.{in_set}
-use Rattle.link_sums.specs.Tables.{Part, table_size, sum_at, amount, most_sums, Room, Added, on_part, Table, unprotected, Loads, Joined}
+use Rattle.lists.specs.Lists.{network_of}
+use Rattle.lists.specs.Good.{GoodNetwork}
+use Rattle.link_sums.specs.declared.table.LinkSums.{LinkSums}
+use Rattle.link_sums.specs.declared.table.Tables.{Tables}
+use Rattle.link_sums.specs.Tables.{Part, part, nothing, of_mover, plus, sums_of, sum_at, amount, most_sums, Few, Room, Added, on_part, Table, unprotected, Loads, Split, Joined}
 
 -- ---- one link
 
--- a store that adds x to the number at i
-pub store_at : (s : List ℕ) (i x j : ℕ) → i < length s → get_or (set s i (get_or s i 0 + x)) j 0 ≡ get_or s j 0 + cond (eqb j i) x 0
-store_at s i x j h =
+part-plus : (s m : LinkSums) (p : Part) → part (plus s m) p ≡ part s p + part m p
+part-plus s m Part.old = refl
+part-plus s m Part.new = refl
+part-plus s m Part.peak = refl
+
+pub part-nothing : (p : Part) → part nothing p ≡ 0
+part-nothing Part.old = refl
+part-nothing Part.new = refl
+part-nothing Part.peak = refl
+
+-- a store that adds the sums x to those of link i
+pub store_at : (s : List LinkSums) (i : ℕ) (x : LinkSums) (p : Part) (j : ℕ) → i < length s
+    → sum_at (set s i (plus (get_or s i nothing) x)) p j ≡ sum_at s p j + cond (eqb j i) (part x p) 0
+store_at s i x p j h =
     ⊎_elim
-    (λ e. let same : j ≡ i = eqb-true j i e in rw e (rw same (get_or-set_same s i (get_or s i 0 + x) 0 h)))
-    (λ e. rw e (get_or-set_other s i j (get_or s i 0 + x) 0 (eqb-false j i e) ∙ sym (add-zero _)))
+    (λ e. let same : j ≡ i = eqb-true j i e in
+    rw e (rw same (ap (λ (m : LinkSums). part m p) (get_or-set_same s i (plus (get_or s i nothing) x) nothing h) ∙ part-plus (get_or s i nothing) x p)))
+    (λ e. rw e (ap (λ (m : LinkSums). part m p) (get_or-set_other s i j (plus (get_or s i nothing) x) nothing (eqb-false j i e)) ∙ sym (add-zero _)))
     (bool_cases (eqb j i))
 
--- a store leaves the length and all other numbers
-pub stored_other : (s s₁ : List ℕ) (i x j : ℕ) → s₁ ≡ set s i x → (j ≡ i → ⊥) → (length s₁ ≡ length s) × (get_or s₁ j 0 ≡ get_or s j 0)
-stored_other s s₁ i x j e h = (ap length e ∙ length-set s i x, ap (λ (l : List ℕ). get_or l j 0) e ∙ get_or-set_other s i j x 0 h)
+pub link-added : (s : List LinkSums) (link o n : ℕ) → link < length s → Added (λ l. eqb l link) o n s (set s link (plus (get_or s link nothing) (of_mover o n)))
+link-added s link o n h = record { size = length-set s link _; each = λ p l _. store_at s link (of_mover o n) p l h }
 
-eqb-shift : (k a b : ℕ) → eqb (k + a) (k + b) ≡ eqb a b
-eqb-shift k a b =
-    ⊎_elim
-    (λ e. let same : a ≡ b = eqb-true a b e in eq-eqb (k + a) (k + b) (omega arith) ∙ sym e)
-    (λ e. ne_eqb (k + a) (k + b) (λ q. eqb-false a b e (omega arith)) ∙ sym e)
-    (bool_cases (eqb a b))
-
-module _ (s s₁ s₂ s₃ : List ℕ) (link o n m : ℕ) (size : length s ≡ table_size) (low : link < most_links)
-    (e₁ : s₁ ≡ set s link (get_or s link 0 + o)) (e₂ : s₂ ≡ set s₁ (64 + link) (get_or s₁ (64 + link) 0 + n)) (e₃ : s₃ ≡ set s₂ (128 + link) (get_or s₂ (128 + link) 0 + m)) where
-  pub size₁ : length s₁ ≡ table_size
-  size₁ = ap length e₁ ∙ length-set s link _ ∙ size
-
-  pub size₂ : length s₂ ≡ table_size
-  size₂ = ap length e₂ ∙ length-set s₁ (64 + link) _ ∙ size₁
-
-  stored : (i : ℕ) → get_or s₃ i 0 ≡ get_or s i 0 + cond (eqb i link) o 0 + cond (eqb i (64 + link)) n 0 + cond (eqb i (128 + link)) m 0
-  stored i =
-      ap (λ (l : List ℕ). get_or l i 0) e₃
-      ∙ store_at s₂ (128 + link) m i (omega (arith, size₂))
-      ∙ ap (λ (v : ℕ). v + cond (eqb i (128 + link)) m 0)
-      (ap (λ (l : List ℕ). get_or l i 0) e₂
-      ∙ store_at s₁ (64 + link) n i (omega (arith, size₁))
-      ∙ ap (λ (v : ℕ). v + cond (eqb i (64 + link)) n 0)
-      (ap (λ (l : List ℕ). get_or l i 0) e₁ ∙ store_at s link o i (omega (arith, size))))
-
-  stored-in : m ≡ max o n → (p : Part) (l : ℕ) → l < most_links → sum_at s₃ p l ≡ sum_at s p l + cond (eqb l link) (amount o n p) 0
-  stored-in e Part.old l h =
-      stored l ∙ rw (ne_eqb l (64 + link) (λ z. omega arith), ne_eqb l (128 + link) (λ z. omega arith)) (omega arith)
-  stored-in e Part.new l h =
-      stored (64 + l) ∙ rw (ne_eqb (64 + l) link (λ z. omega arith), eqb-shift 64 l link, ne_eqb (64 + l) (128 + link) (λ z. omega arith)) (omega arith)
-  stored-in e Part.peak l h =
-      stored (128 + l) ∙ rw (ne_eqb (128 + l) link (λ z. omega arith), ne_eqb (128 + l) (64 + link) (λ z. omega arith), eqb-shift 128 l link, e) (omega arith)
-
-  pub link-added : m ≡ max o n → Added (λ l. eqb l link) o n s s₃
-  link-added e = record { size = ap length e₃ ∙ length-set s₂ (128 + link) _ ∙ size₂ ∙ sym size; each = stored-in e }
+sums-same : (s m : LinkSums) → s.old ≡ m.old → s.new ≡ m.new → s.peak ≡ m.peak → s ≡ m
+sums-same s m o n p =
+    ap₂ (λ (x y : ℕ). record { old = x; new = y; peak = s.peak }) o n ∙ ap (λ (x : ℕ). record { old = m.old; new = m.new; peak = x }) p
 
 -- ---- several links
 
 -- amounts that are added on some links and then on others
-pub added-both : (c d e : ℕ → Bool) (o n : ℕ) (s s₁ s₂ : List ℕ) → Added c o n s s₁ → Added d o n s₁ s₂
+pub added-both : (c d e : ℕ → Bool) (o n : ℕ) (s s₁ s₂ : List LinkSums) → Added c o n s s₁ → Added d o n s₁ s₂
     → ((l x : ℕ) → l < most_links → cond (c l) x 0 + cond (d l) x 0 ≡ cond (e l) x 0) → Added e o n s s₂
 added-both c d e o n s s₁ s₂ a b h = record {
   size = b.size ∙ a.size;
   each = λ p l k. omega (arith, a.each p l k, b.each p l k, h l (amount o n p) k);
 }
 
-pub added_none : (o n : ℕ) (s : List ℕ) → Added (λ l. false) o n s s
+pub added_none : (o n : ℕ) (s : List LinkSums) → Added (λ l. false) o n s s
 added_none o n s = record { size = refl; each = λ p l k. sym (add-zero _) }
 
 -- a mover's amounts make the sums those of its amounts more
@@ -93,20 +76,23 @@ amount-most B o n ho hn Part.old = ho
 amount-most B o n ho hn Part.new = hn
 amount-most B o n ho hn Part.peak = omega arith
 
-pub added-room : (c : ℕ → Bool) (o n : ℕ) (s s' : List ℕ) → Added c o n s s' → Room most_sums s → o ≤ most_amount → n ≤ most_amount → Room (most_sums + most_tunnels) s'
+pub added-room : (c : ℕ → Bool) (o n : ℕ) (s s' : List LinkSums) → Added c o n s s' → Room most_sums s → o ≤ most_amount → n ≤ most_amount → Room (most_sums + most_tunnels) s'
 added-room c o n s s' a r ho hn = record {
   size = a.size ∙ r.size;
   most = λ p l h. omega (arith, a.each p l h, r.most p l h, cond-most (c l) (amount o n p), amount-most most_amount o n ho hn p);
 }
 
--- ---- two tables joined, place by place
+-- ---- two tables joined, link by link
 
-pub record Joining (i : ℕ) (s more s' : List ℕ) : Type 0 where
-  pub size : length s' ≡ table_size
-  pub each : (k : ℕ) → at s' k ≡ at s k + cond (ltb k i) (at more k) 0
+pub record Joining (i : ℕ) (s more s' : List LinkSums) : Type 0 where
+  pub size : length s' ≡ length s
+  pub each : (p : Part) (l : ℕ) → sum_at s' p l ≡ sum_at s p l + cond (ltb l i) (sum_at more p l) 0
 
-pub join-none : (s more : List ℕ) → length s ≡ table_size → Joining 0 s more s
-join-none s more h = record { size = h; each = λ k. sym (ap (λ (b : Bool). at s k + cond b (at more k) 0) (le-ltb k 0 (omega arith)) ∙ add-zero _) }
+pub join-none : (s more : List LinkSums) → Joining 0 s more s
+join-none s more = record {
+  size = refl;
+  each = λ p l. sym (ap (λ (b : Bool). sum_at s p l + cond b (sum_at more p l) 0) (le-ltb l 0 (omega arith)) ∙ add-zero _);
+}
 
 -- what stands below i, and at i
 pub up_to : (i l x y : ℕ) → (l ≡ i → x ≡ y) → cond (ltb l i) x 0 + cond (eqb l i) y 0 ≡ cond (ltb l (i + 1)) x 0
@@ -119,28 +105,32 @@ up_to i l x y h =
       ]
     ]
 
-pub join-on : (i : ℕ) (s more s' : List ℕ) → i < table_size → Joining i s more s' → Joining (i + 1) s more (set s' i (at s' i + at more i))
+pub join-on : (i : ℕ) (s more s' : List LinkSums) → i < length s → Joining i s more s' → Joining (i + 1) s more (set s' i (plus (get_or s' i nothing) (get_or more i nothing)))
 join-on i s more s' h j = record {
   size = length-set s' i _ ∙ j.size;
-  each = λ k. omega (arith, store_at s' i (at more i) k (omega (arith, j.size)), j.each k, up_to i k (at more k) (at more i) (ap (at more)));
+  each = λ p k.
+      omega (
+        arith,
+        store_at s' i (get_or more i nothing) p k (omega (arith, j.size)),
+        j.each p k,
+        up_to i k (sum_at more p k) (sum_at more p i) (ap (λ (l : ℕ). sum_at more p l)),
+      );
 }
 
-pub join-all : (s more s' : List ℕ) → Joining table_size s more s' → Joined s more s'
-join-all s more s' j = record { size = j.size; each = λ k h. j.each k ∙ ap (λ (b : Bool). at s k + cond b (at more k) 0) (lt-ltb k table_size h) }
+pub join-all : (s more s' : List LinkSums) → length s ≡ most_links → Joining most_links s more s' → Joined s more s'
+join-all s more s' e j = record {
+  size = j.size ∙ e;
+  each = λ p l h. j.each p l ∙ ap (λ (b : Bool). sum_at s p l + cond b (sum_at more p l) 0) (lt-ltb l most_links h);
+}
 
--- a number at a place that is passed later has not changed
-pub join-ahead : (i : ℕ) (s more s' : List ℕ) → Joining i s more s' → at s' i ≡ at s i
-join-ahead i s more s' j = j.each i ∙ ap (λ (b : Bool). at s i + cond b (at more i) 0) (le-ltb i i (omega arith)) ∙ add-zero _
+-- the sums of a link that is passed later have not changed
+join-ahead : (i : ℕ) (s more s' : List LinkSums) → Joining i s more s' → (p : Part) → sum_at s' p i ≡ sum_at s p i
+join-ahead i s more s' j p = j.each p i ∙ ap (λ (b : Bool). sum_at s p i + cond b (sum_at more p i) 0) (le-ltb i i (omega arith)) ∙ add-zero _
 
-pub room-at : (n : ℕ) (s : List ℕ) → Room n s → (i : ℕ) → i < table_size → at s i ≤ n * most_amount
-room-at n s r i h =
-    elim (dec_lt i 64) [
-      | yes k ↦ r.most Part.old i k
-      | no k ↦ elim (dec_lt i 128) [
-        | yes j ↦ (let e : 64 + (i - 64) ≡ i = omega arith in subst (λ (m : ℕ). at s m ≤ n * most_amount) e (r.most Part.new (i - 64) (omega arith)))
-        | no j ↦ (let e : 128 + (i - 128) ≡ i = omega arith in subst (λ (m : ℕ). at s m ≤ n * most_amount) e (r.most Part.peak (i - 128) (omega arith)))
-      ]
-    ]
+-- both fit together
+pub join-room : (i : ℕ) (s more s' : List LinkSums) → Joining i s more s' → Room most_sums s → Room most_sums more → i < most_links → (p : Part)
+    → sum_at s' p i + sum_at more p i < 2 ^ 64
+join-room i s more s' j r q h p = omega (arith, join-ahead i s more s' j p, r.most p i h, q.most p i h)
 
 -- ---- a table of movers
 
@@ -158,25 +148,27 @@ part-tunnel N e l Part.old t = on-tunnel N e l N.old t
 part-tunnel N e l Part.new t = on-tunnel N e l N.new t
 part-tunnel N e l Part.peak t = larger-by-tunnel N e l N.old N.new t
 
-sum_zeros : (p : Part) (l : ℕ) → l < most_links → sum_at (replicate table_size 0) p l ≡ 0
-sum_zeros Part.old l h = get_or-replicate table_size l 0 0 (omega arith)
-sum_zeros Part.new l h = get_or-replicate table_size (64 + l) 0 0 (omega arith)
-sum_zeros Part.peak l h = get_or-replicate table_size (128 + l) 0 0 (omega arith)
+pub sum_zeros : (s : List LinkSums) (p : Part) (l : ℕ) → s ≡ replicate most_links nothing → l < most_links → sum_at s p l ≡ 0
+sum_zeros s p l e h =
+    ap (λ (z : List LinkSums). sum_at z p l) e ∙ ap (λ (m : LinkSums). part m p) (get_or-replicate most_links l nothing nothing h) ∙ part-nothing p
 
-pub table-zero : (N : Net) (c : ℕ → Bool) (s : List ℕ) → s ≡ replicate table_size 0 → Table N 0 c s
+table-zero : (N : Net) (c : ℕ → Bool) (s : List LinkSums) → s ≡ replicate most_links nothing → Table N 0 c s
 table-zero N c s e = record {
-  size = ap length e ∙ length-replicate {A = ℕ} table_size 0;
-  each = λ p l h. ap (λ (z : List ℕ). sum_at z p l) e ∙ sum_zeros p l h ∙ sym (sum-zero c (on_part N l p));
+  size = ap length e ∙ length-replicate {A = LinkSums} most_links nothing;
+  each = λ p l h. sum_zeros s p l e h ∙ sym (sum-zero c (on_part N l p));
 }
 
-pub table-take : (N : Net) → by_flow N ≡ false → (t : ℕ) (c : ℕ → Bool) (s s' : List ℕ) → Table N t c s → c t ≡ true → Added (in_set (N.via t)) (N.old t) (N.new t) s s'
+pub split-zero : (N : Net) (t : Tables) → t.protected ≡ replicate most_links nothing → t.all ≡ replicate most_links nothing → Split N 0 t
+split-zero N t p o = record { protected = table-zero N _ t.protected p; others = table-zero N _ t.all o }
+
+pub table-take : (N : Net) → by_flow N ≡ false → (t : ℕ) (c : ℕ → Bool) (s s' : List LinkSums) → Table N t c s → c t ≡ true → Added (in_set (N.via t)) (N.old t) (N.new t) s s'
     → Table N (t + 1) c s'
 table-take N u t c s s' T e a = record {
   size = a.size ∙ T.size;
   each = λ p l h. omega (arith, a.each p l h, T.each p l h, part-tunnel N u l p t, sum-take t c (on_part N l p) e);
 }
 
-pub table-skip : (N : Net) (m : ℕ) (c : ℕ → Bool) (s : List ℕ) → Table N m c s → c m ≡ false → Table N (m + 1) c s
+pub table-skip : (N : Net) (m : ℕ) (c : ℕ → Bool) (s : List LinkSums) → Table N m c s → c m ≡ false → Table N (m + 1) c s
 table-skip N m c s T e = record { size = T.size; each = λ p l h. T.each p l h ∙ sym (sum-skip m c (on_part N l p) e) }
 
 -- a network's counts, sets and amounts are in their ranges
@@ -213,7 +205,7 @@ module _ (N : Net) (r : InRange N) where
       (bool_cases (by_flow N))
 
   -- and all that is computed from the sums of some movers fits 64 bits
-  pub table-room : (n : ℕ) (c : ℕ → Bool) (s : List ℕ) → Table N n c s → n ≤ movers N → Room most_sums s
+  pub table-room : (n : ℕ) (c : ℕ → Bool) (s : List LinkSums) → Table N n c s → n ≤ movers N → Room most_sums s
   table-room n c s T h = record {
     size = T.size;
     most = λ p l k.
@@ -238,13 +230,40 @@ class-sum : (N : Net) (n : ℕ) (x : ℕ → ℕ) → sum_over n (counts N Bound
 unfolding counts
 class-sum N n x = sum_both n (counts N Bound.protected) (unprotected N) (counts N Bound.total) x (λ t u. either-class (counts N Bound.protected t) u)
 
-joined-part : (s more s' : List ℕ) → Joined s more s' → (p : Part) (l : ℕ) → l < most_links → sum_at s' p l ≡ sum_at s p l + sum_at more p l
-joined-part s more s' j Part.old l h = j.each l (omega arith)
-joined-part s more s' j Part.new l h = j.each (64 + l) (omega arith)
-joined-part s more s' j Part.peak l h = j.each (128 + l) (omega arith)
-
-pub tables-join : (N : Net) (s more s' : List ℕ) → Loads N Bound.protected more → Table N (movers N) (unprotected N) s → Joined s more s' → Loads N Bound.total s'
+pub tables-join : (N : Net) (s more s' : List LinkSums) → Loads N Bound.protected more → Table N (movers N) (unprotected N) s → Joined s more s' → Loads N Bound.total s'
 tables-join N s more s' P T j = record {
   size = j.size;
-  each = λ p l h. omega (arith, joined-part s more s' j p l h, P.each p l h, T.each p l h, class-sum N (movers N) (on_part N l p));
+  each = λ p l h. omega (arith, j.each p l h, P.each p l h, T.each p l h, class-sum N (movers N) (on_part N l p));
 }
+
+-- ---- what a finished table has
+
+pub loads-at : (N : Net) (b : Bound) (s : List LinkSums) (l : ℕ) → Loads N b s → l < most_links → get_or s l nothing ≡ sums_of N b l
+unfolding old_load new_load peak_load load on_part
+loads-at N b s l T h = let k = T.each in
+    sums-same (get_or s l nothing) _ (k Part.old l h) (k Part.new l h) (k Part.peak l h)
+
+-- ---- a network's list
+
+pub good-range : (l : List ℕ) → GoodNetwork l → InRange (network_of l)
+unfolding network_of
+good-range l g =
+    let t = g.ranges.tunnels in
+    record { flows = g.ranges.sized.counts.flows; tunnels = g.ranges.sized.counts.tunnels; via = λ k h. (t.via k h).1; old = t.old; new = t.new }
+
+-- ---- what the tables of a network's list say: l is the list inside, s the list that a clause sees
+
+module _ (l s : List ℕ) (same : l ≡ s) (g : GoodNetwork l) (k : ℕ) (h : k < most_links) (b : Bound) (t : List LinkSums) (T : Loads (network_of l) b t) where
+  pub sums-known : get_or t k nothing ≡ sums_of (network_of s) b k
+  sums-known = loads-at (network_of l) b t k T h ∙ ap (λ (m : List ℕ). sums_of (network_of m) b k) same
+
+  pub sums-few : Few (get_or t k nothing)
+  sums-few p = (table-room (network_of l) (good-range l g) _ _ t T (le_refl _)).most p k h
+
+-- some of a network's tunnels, or of its flows, leave room for a mover more
+module _ (l : List ℕ) (g : GoodNetwork l) (n : ℕ) (c : ℕ → Bool) (s : List LinkSums) where
+  pub tunnels-room : by_flow (network_of l) ≡ false → Table (network_of l) n c s → n ≤ (network_of l).tunnels → Room most_sums s
+  tunnels-room u T h = table-room (network_of l) (good-range l g) n c s T (omega (arith, h, movers-tunnels (network_of l) u))
+
+  pub flows-room : by_flow (network_of l) ≡ true → Table (network_of l) n c s → n ≤ (network_of l).flows → Room most_sums s
+  flows-room u T h = table-room (network_of l) (good-range l g) n c s T (omega (arith, h, movers-flows (network_of l) u))

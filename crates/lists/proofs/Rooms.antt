@@ -7,7 +7,8 @@ use native.Mathlib.Omega.{arith}
 use lib.Dec.{leb}
 use lib.ListN.{length, drop}
 use borrow.Author.Tests.{le-leb, lt-leb}
-use Rattle.model.specs.Outcome.{Outcome, good, refused, no_room}
+use Rattle.model.specs.Outcome.{Outcome, good, refused}
+use Rattle.model.specs.declared.Cause.TheVariants.{NoRoom as no_room}
 use Rattle.lists.specs.Answers.{done, with_room, lent}
 use Rattle.lists.specs.declared.Answer.TheVariants.{Done, Refused}
 

@@ -1,6 +1,7 @@
 -- What an operation answers, and what it leaves in the output that is lent to it, given what it comes to.
 use Rattle.std.specs.Prelude.{ℕ, cond, List, ◌++◌, leb, length, drop}
-use Rattle.model.specs.Outcome.{Outcome, good, refused, number, no_room}
+use Rattle.model.specs.Outcome.{Outcome, good, refused, number}
+use Rattle.model.specs.declared.Cause.TheVariants.{NoRoom as no_room}
 use Rattle.lists.specs.declared.Answer.{Answer}
 use Rattle.lists.specs.declared.Answer.TheVariants.{Done, Plan, Refused}
 

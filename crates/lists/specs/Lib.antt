@@ -1,4 +1,6 @@
 pub mod Lists
 pub mod Good
 pub mod Answers
+pub mod Refusals
 pub mod Editions
+pub mod Judged

@@ -9,6 +9,12 @@ ghost use Rattle.model.specs.Rule.{by_flow};
 ghost use Rattle.model.specs.Limits.{most_steps, most_tunnels, most_switches};
 ghost use Rattle.lists.specs.Lists.{has_next, has_held, head_size, per_link, per_flow, next_in, network_sizes, link_at, flow_at, tunnel_at, held_of, network_of, plan_sizes, row_at, table_sizes, room_at, rule_at};
 ghost use Rattle.lists.specs.Good.{Limited, StandsAt, NetworkRanges};
+ghost use Rattle.lists.specs.Refusals.{refused_with, done_with, plan_with};
+
+use refusal::Refusal;
+
+pub mod judged;
+pub mod refusal;
 
 // A network's edition, and how many links, flows and tunnels it has.
 #[derive(Clone, Copy)]
@@ -351,4 +357,38 @@ pub enum Answer {
         place: u64,
         second: u64,
     },
+}
+
+impl Answer {
+    // The answer of an operation that gives no plan.
+    pub fn done(outcome: Result<usize, Refusal>) -> Answer
+        ensures { result ≡ done_with outcome }
+    {
+        match outcome {
+            Ok(length) => Answer::Done(length),
+            Err(refusal) => Answer::from(refusal),
+        }
+    }
+
+    // And of the one that does.
+    pub fn plan(outcome: Result<usize, Refusal>) -> Answer
+        ensures { result ≡ plan_with outcome }
+    {
+        match outcome {
+            Ok(length) => Answer::Plan(length),
+            Err(refusal) => Answer::from(refusal),
+        }
+    }
+}
+
+impl From<Refusal> for Answer {
+    ghost from_gives = { λ e a. a ≡ refused_with e };
+
+    fn from(refusal: Refusal) -> Answer {
+        Answer::Refused {
+            number: refusal.cause.number(),
+            place: refusal.place,
+            second: refusal.second,
+        }
+    }
 }

@@ -1,9 +1,10 @@
 -- Laws of the loads that are gathered flow by flow.
 use Prim.Native.Nat.{ℕ, zero, suc, ◌+◌, ◌*◌, ◌≤◌, ◌<◌}
-use mathlib.Core.Path.{◌≡◌, refl, sym, ap, ap₂, ◌∙◌, subst}
+use mathlib.Core.Path.{◌≡◌, refl, sym, ap, ap₂, ◌∙◌}
 use mathlib.Core.Logic.{⊎_elim}
 use mathlib.Core.Bool.{Bool, true, false, cond, ◌&&◌}
 use mathlib.Core.List.{List}
+use Rattle.std.specs.Prelude.{Option}
 use native.Mathlib.Omega.{arith}
 use native.Mathlib.Nat.{le_trans, mul-le-mul_right}
 use lib.Dec.{eqb, leb}
@@ -14,14 +15,13 @@ use Rattle.model.specs.Sum.{sum_over}
 use Rattle.model.proofs.Searches.{bool_cases, cond-most}
 use Rattle.model.proofs.Sums.{sum-zero, sum-next, sum-cong, sum_both}
 use Rattle.model.proofs.Largests.{largest-le, largest-cong}
-use Rattle.lists.specs.Lists.{at, network_sizes}
-use Rattle.lists.specs.Good.{GoodNetwork}
+use Rattle.lists.specs.Lists.{at}
 use Rattle.loads.specs.Gathered.{of_flow, largest_sum, gathered_by_flow}
-use Rattle.loads.specs.Tables.{block_rows, number_at, load_at, loads_size, part_of, in_part, AmountTable, SetsWithin, LoadsWithin, Cleared, Addable, VectorAdded, AddedOn}
+use Rattle.loads.specs.Tables.{block_rows, number_at, load_at, loads_size, part_of, in_part, LoadsWithin, Cleared, Addable, VectorAdded, AddedOn}
 use Rattle.loads.specs.Windows.{largest_at, WidenedOn}
-use Rattle.loads.specs.Flows.{Chain, Amounts, SumsWithin, ChainSums, FlowLoads}
-use Rattle.loads.proofs.Vectors.{added-part, added_none, added_more, added-same}
-use Rattle.loads.proofs.Widening.{picked-once, widened_none, widened_more}
+use Rattle.loads.specs.Flows.{Chain, SumsWithin, ChainSums, FlowLoads}
+use Rattle.loads.proofs.Vectors.{added-part, added_more, added-same}
+use Rattle.loads.proofs.Widening.{picked-once, widened_more}
 use Rattle.loads.proofs.Passes.{gathered-cong, part-cases}
 
 -- ---- flow by flow
@@ -46,22 +46,6 @@ pub by-flow-parts : (via flow class : ℕ → ℕ) (w : ℕ) (x : ℕ → ℕ �
 unfolding gathered_by_flow in_part
 by-flow-parts via flow class w x n m l = sum_both m (in_part class 0) (in_part class 1) (λ f. true) _ (λ f u. part-cases (leb (class f) 1) u)
 
--- the amounts of a network's tunnels, whose links the code has read
-pub amounts-of : (l : List ℕ) (links : ℕ) (vias amounts : List ℕ) → GoodNetwork l → most_tunnels ≤ length vias → links ≡ (network_sizes l).links
-    → SetsWithin (network_sizes l).links vias (network_sizes l).tunnels → AmountTable (network_sizes l).tunnels amounts → Amounts links vias amounts (network_sizes l).tunnels
-amounts-of l links vias amounts g h e sets a = record {
-  few = (omega (arith, e, g.ranges.sized.counts), omega (arith, g.ranges.sized.counts), omega (arith, g.ranges.sized.counts));
-  sets = subst (λ (k : ℕ). SetsWithin k vias (network_sizes l).tunnels) (sym e) sets;
-  table = a;
-}
-
-pub fewer-amounts : (links : ℕ) (vias amounts : List ℕ) (n m : ℕ) → m ≤ n → Amounts links vias amounts n → Amounts links vias amounts m
-fewer-amounts links vias amounts n m h a = record {
-  few = (a.few.0, omega (arith, a.few), omega (arith, a.few));
-  sets = record { each = λ t k. a.sets.each t (omega arith) };
-  table = record { size = a.table.size; within = λ t k ht hk. a.table.within t k (omega arith) hk };
-}
-
 -- ---- a flow's largest sums
 
 -- of the links that c picks the sums are widened and added to the loads
@@ -70,9 +54,6 @@ pub record Both (links part times : ℕ) (sums s : List ℕ) (c : ℕ → Bool) 
   pub added : AddedOn links c (λ l k. at now.0 (number_at l k)) 2 part s now.1
 
 module _ (links part times : ℕ) (sums s : List ℕ) (hp : part < 2) where
-  pub both-none : Both links part times sums s (λ l. false) (sums, s)
-  both-none = record { widened = widened_none times (λ l. false) sums (λ l. refl); added = added_none links 2 part hp _ s }
-
   -- one link more: its sums are widened, which leaves those of the others, and added
   pub both-more : (c e : ℕ → Bool) (z : ℕ) (sums₁ sums₂ s₁ s₂ : List ℕ) → z < links → ((l x : ℕ) → cond (c l) x 0 + cond (eqb l z) x 0 ≡ cond (e l) x 0) → Both links part times sums s c (sums₁, s₁)
       → WidenedOn times (λ l. eqb l z) sums₁ sums₂ → VectorAdded (2 * z + part) (λ k. at sums₂ (number_at z k)) s₁ s₂ → Both links part times sums s e (sums₂, s₂)
@@ -110,20 +91,20 @@ neither : (b : Bool) (x y : ℕ) → cond (b && false) x 0 ≡ cond (b && false)
 neither true x y = refl
 neither false x y = refl
 
-module _ (links : ℕ) (vias : List ℕ) (flow : ℕ → ℕ) (n : ℕ) (class : ℕ → ℕ) (times : ℕ) (amounts : List ℕ) where
+module _ (links : ℕ) (via flow : ℕ → ℕ) (n : ℕ) (class : ℕ → ℕ) (times : ℕ) (amounts : List ℕ) where
   abbrev sum_of : ℕ → ℕ → ℕ → ℕ
-  sum_of l k f = largest_sum (at vias) (of_flow flow f) times (λ a t. at amounts (number_at t (k + a))) n l
+  sum_of l k f = largest_sum via (of_flow flow f) times (λ a t. at amounts (number_at t (k + a))) n l
 
-  pub flows-none : (s₀ s : List ℕ) → length s₀ ≡ loads_size → Cleared (2 * links) s₀ s → FlowLoads links vias flow n class 0 times amounts s
+  pub flows-none : (s₀ s : List ℕ) → length s₀ ≡ loads_size → Cleared (2 * links) s₀ s → FlowLoads links via flow n class 0 times amounts s
   unfolding gathered_by_flow
   flows-none s₀ s h z = record {
     size = z.size ∙ h;
     each = λ q l k hq hl hk. z.each (load_at l q k) (omega arith) ∙ sym (sum-zero (in_part class q) (sum_of l k));
   }
 
-  pub flows-more : (f m set part : ℕ) (prior sums sums₁ s s₁ : List ℕ) → (part ≡ part_of (class f)) × (part < 2) → Chain (of_flow flow f) prior n m
-      → ChainSums links vias prior m amounts set sums → WidenedOn times (in_set set) sums sums₁ → FlowLoads links vias flow n class f times amounts s
-      → AddedOn links (in_set set) (λ l k. at sums₁ (number_at l k)) 2 part s s₁ → FlowLoads links vias flow n class (f + 1) times amounts s₁
+  pub flows-more : (f m set part : ℕ) (prior : List (Option ℕ)) (sums sums₁ s s₁ : List ℕ) → (part ≡ part_of (class f)) × (part < 2) → Chain (of_flow flow f) prior n m
+      → ChainSums links via prior m amounts set sums → WidenedOn times (in_set set) sums sums₁ → FlowLoads links via flow n class f times amounts s
+      → AddedOn links (in_set set) (λ l k. at sums₁ (number_at l k)) 2 part s s₁ → FlowLoads links via flow n class (f + 1) times amounts s₁
   unfolding gathered_by_flow largest_sum largest_at in_part
   flows-more f m set part prior sums sums₁ s s₁ p c a w g d = record {
     size = d.size ∙ g.size;
@@ -137,9 +118,6 @@ module _ (links : ℕ) (vias : List ℕ) (flow : ℕ → ℕ) (n : ℕ) (class :
         ∙ ap₂ ◌+◌ (g.each q l k hq hl hk) (added ∙ ap (λ (b : ℕ). cond (eqb b q && in_set set l) (sum_of l k f) 0) p.0 ∙ inside (in_part class q f) (in_set set l) (sum_of l k f) none)
         ∙ sym (sum-next f (in_part class q) (sum_of l k));
   }
-
-  pub flows-at : (k f m : ℕ) (s : List ℕ) → links ≡ k → f ≡ m → FlowLoads links vias flow n class f times amounts s → FlowLoads k vias flow n class m times amounts s
-  flows-at k f m s l e g = subst (λ (i : ℕ). FlowLoads i vias flow n class m times amounts s) l (subst (λ (i : ℕ). FlowLoads links vias flow n class i times amounts s) e g)
 
 -- ---- room for the loads: each flow adds no more than all tunnels' amounts
 

@@ -3,5 +3,5 @@ pub mod Widening
 pub mod Passes
 pub mod Chains
 pub mod ByFlow
-pub mod Places
+pub mod Parts
 pub mod Main

@@ -1,13 +1,13 @@
 -- Laws of a pass over the tunnels: what it has gathered after each, and that the gathered sums equal the rule's.
-use Prim.Native.Nat.{ℕ, zero, suc, ◌+◌, ◌*◌, ◌≤◌, ◌<◌}
-use mathlib.Core.Path.{◌≡◌, refl, sym, ap, ap₂, ◌∙◌, subst}
+use Prim.Native.Nat.{ℕ, zero, suc, ◌+◌, ◌*◌, ◌^◌, ◌≤◌, ◌<◌}
+use mathlib.Core.Path.{◌≡◌, refl, sym, ap, ap₂, ◌∙◌}
 use mathlib.Core.Bool.{Bool, true, false, cond, ◌&&◌}
 use mathlib.Core.List.{List}
 use native.Mathlib.Omega.{arith}
 use native.Mathlib.Nat.{le_trans, mul-le-mul_right}
 use native.Mathlib.Numerals.{add-one}
 use lib.Dec.{eqb, leb}
-use lib.ListN.{length}
+use lib.ListN.{length, replicate, length-replicate, get_or-replicate}
 use Rattle.model.specs.Limits.{most_links, most_tunnels, most_steps, most_amount}
 use Rattle.model.specs.Sets.{in_set}
 use Rattle.model.specs.Sum.{sum_over}
@@ -15,8 +15,15 @@ use Rattle.model.proofs.Sums.{sum_both}
 use Rattle.model.proofs.Searches.{cond-most}
 use Rattle.lists.specs.Lists.{at}
 use Rattle.loads.specs.Gathered.{added_on, gathered}
-use Rattle.loads.specs.Tables.{number_at, load_at, loads_size, part_of, in_part, AmountTable, SetsWithin, LoadsWithin, Cleared, AddableOn, AddedOn, Loads}
+use Rattle.loads.specs.Tables.{number_at, load_at, amounts_size, loads_size, part_of, in_part, AmountTable, LoadsWithin, Cleared, AddableOn, AddedOn, Loads}
 use Rattle.loads.proofs.Vectors.{added-part}
+
+-- at first no tunnel has an amount
+pub no-amounts : AmountTable (replicate amounts_size 0)
+no-amounts = record {
+  size = length-replicate {A = ℕ} amounts_size 0;
+  within = λ t k ht hk. rw (get_or-replicate {A = ℕ} amounts_size (number_at t k) 0 0 (omega arith)) (omega arith);
+}
 
 cond-swap : (a b : Bool) (x : ℕ) → cond (a && b) x 0 ≡ cond b (cond a x 0) 0
 cond-swap true true x = refl
@@ -77,42 +84,40 @@ gathered-parts via class x n l =
     ∙ sum_both n (in_part class 0) (in_part class 1) (λ t. true) _ (λ t u. part-cases (leb (class t) 1) u)
     ∙ sym (gathered-sum via (λ t. true) x n l)
 
-module _ (links : ℕ) (vias classes amounts : List ℕ) where
-  pub loads-none : (s₀ s : List ℕ) → length s₀ ≡ loads_size → Cleared (2 * links) s₀ s → Loads links vias classes 0 amounts s
+module _ (links : ℕ) (via class : ℕ → ℕ) (amounts : List ℕ) where
+  pub loads-none : (s₀ s : List ℕ) → length s₀ ≡ loads_size → Cleared (2 * links) s₀ s → Loads links via class 0 amounts s
   loads-none s₀ s h e = record {
     size = e.size ∙ h;
-    each = λ q l k hq hl hk. e.each (load_at l q k) (omega arith) ∙ sym (gathered_none (at vias) (in_part (at classes) q) (λ t. at amounts (number_at t k)) l);
+    each = λ q l k hq hl hk. e.each (load_at l q k) (omega arith) ∙ sym (gathered_none via (in_part class q) (λ t. at amounts (number_at t k)) l);
   }
 
-  pub loads-more : (n part : ℕ) (s s₁ : List ℕ) → (part ≡ part_of (at classes n)) × (part < 2) → Loads links vias classes n amounts s
-      → AddedOn links (in_set (at vias n)) (λ _ k. at amounts (number_at n k)) 2 part s s₁ → Loads links vias classes (n + 1) amounts s₁
+  pub loads-more : (n v part : ℕ) (s s₁ : List ℕ) → v ≡ via n → (part ≡ part_of (class n)) × (part < 2) → Loads links via class n amounts s
+      → AddedOn links (in_set v) (λ _ k. at amounts (number_at n k)) 2 part s s₁ → Loads links via class (n + 1) amounts s₁
   unfolding in_part
-  loads-more n part s s₁ p g a = record {
+  loads-more n v part s s₁ e p g a = record {
     size = a.size ∙ g.size;
     each = λ q l k hq hl hk.
         added-part links part _ _ s s₁ p.1 a q l k hq hl hk
-        ∙ ap₂ (λ (y o : ℕ). y + cond (eqb o q && in_set (at vias n) l) (at amounts (number_at n k)) 0) (g.each q l k hq hl hk) p.0
-        ∙ sym (gathered-more (at vias) (in_part (at classes) q) (λ t. at amounts (number_at t k)) n l);
+        ∙ ap₂ (λ (y o : ℕ). y + cond (eqb o q && in_set v l) (at amounts (number_at n k)) 0) (g.each q l k hq hl hk) p.0
+        ∙ ap (λ (y : ℕ). gathered via (in_part class q) (λ t. at amounts (number_at t k)) n l + cond (eqb (part_of (class n)) q && in_set y l) (at amounts (number_at n k)) 0) e
+        ∙ sym (gathered-more via (in_part class q) (λ t. at amounts (number_at t k)) n l);
   }
 
-  pub loads-within : (n m most : ℕ) (s : List ℕ) → n ≤ m → n ≤ most → AmountTable m amounts → Loads links vias classes n amounts s → LoadsWithin links most s
-  loads-within n m most s hm h small g = record {
+  pub loads-within : (n most : ℕ) (s : List ℕ) → n ≤ most_tunnels → n ≤ most → AmountTable amounts → Loads links via class n amounts s → LoadsWithin links most s
+  loads-within n most s hm h small g = record {
     size = g.size;
     most = λ q l k hq hl hk.
-        let b = gathered-most (at vias) (in_part (at classes) q) (λ t. at amounts (number_at t k)) n l (most_amount * most_steps) (λ t ht. small.within t k (omega arith) hk) in
+        let b = gathered-most via (in_part class q) (λ t. at amounts (number_at t k)) n l (most_amount * most_steps) (λ t ht. small.within t k (omega arith) hk) in
         rw (g.each q l k hq hl hk) (le_trans b (mul-le-mul_right (most_amount * most_steps) h));
   }
 
-  pub loads-at : (n m : ℕ) (s : List ℕ) → n ≡ m → Loads links vias classes n amounts s → Loads links vias classes m amounts s
-  loads-at n m s e g = subst (λ (k : ℕ). Loads links vias classes k amounts s) e g
-
   -- a tunnel's amounts can be added
-  pub loads-room : (n t part : ℕ) (s : List ℕ) → t < n → n ≤ most_tunnels → links ≤ most_links → part < 2 → SetsWithin links vias n → AmountTable n amounts → Loads links vias classes t amounts s
-      → AddableOn links amounts t (at vias t) s 2 part
-  loads-room n t part s ht hn few hp sets small g = record {
+  pub loads-room : (n t v part : ℕ) (s : List ℕ) → v ≡ via t → t < n → n ≤ most_tunnels → links ≤ most_links → part < 2 → v < 2 ^ links → AmountTable amounts → Loads links via class t amounts s
+      → AddableOn links amounts t v s 2 part
+  loads-room n t v part s e ht hn few hp sets small g = record {
     few = (few, hp, omega arith);
-    links_of = sets.each t ht;
+    links_of = sets;
     source = record { few = omega arith; room = omega (arith, small.size) };
     target = record { few = omega arith; room = omega (arith, g.size) };
-    fits = λ l k hl hk. omega (arith, (loads-within t n n s (omega arith) (omega arith) small g).most part l k hp hl hk, small.within t k ht hk);
+    fits = λ l k hl hk. omega (arith, (loads-within t n s (omega arith) (omega arith) small g).most part l k hp hl hk, small.within t k (omega arith) hk);
   }

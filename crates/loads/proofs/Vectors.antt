@@ -7,7 +7,7 @@ use mathlib.Core.List.{List}
 use native.Mathlib.Omega.{arith}
 use native.Mathlib.Nat.{add-zero, eq-or-lt_of_le, mul-le-mul_left}
 use lib.Dec.{eqb}
-use lib.ListN.{length, set, length-set}
+use lib.ListN.{length, set}
 use lib.Seq.{get_or-set_same, get_or-set_other}
 use borrow.Author.Tests.{eq-eqb, ne_eqb, eqb-true, eqb-false}
 use Rattle.model.proofs.Searches.{bool_cases, order, cond-most}
@@ -24,56 +24,12 @@ at_same s i j v h e = ap (λ (k : ℕ). at (set s i v) k) e ∙ get_or-set_same 
 pub last_or : {C : Type 0} (t n : ℕ) → t < n + 1 → (t ≡ n → C) → (t < n → C) → C
 last_or t n h f g = ⊎_elim f g (eq-or-lt_of_le {n = t} {m = n} (omega arith))
 
--- ---- cleared
-
-pub record Zeros (n : ℕ) (s s₁ : List ℕ) : Type 0 where
-  pub size : length s₁ ≡ length s
-  pub each : (i : ℕ) → i < n → at s₁ i ≡ 0
-
-pub zeros-none : (s : List ℕ) → Zeros 0 s s
-zeros-none s = record { size = refl; each = λ i h. absurd (omega arith) }
-
-pub zeros-more : (n : ℕ) (s s₁ : List ℕ) → n < length s → Zeros n s s₁ → Zeros (n + 1) s (set s₁ n 0)
-zeros-more n s s₁ h z = record {
-  size = length-set s₁ _ _ ∙ z.size;
-  each = λ i k. last_or i n k (λ e. at_same s₁ n i 0 (omega (arith, z.size)) e) (λ g. at_other s₁ n i 0 (λ e. omega arith) ∙ z.each i g);
-}
-
 -- ---- a vector, added to another
 
 pub record Adding (j k : ℕ) (x : ℕ → ℕ) (s s₁ : List ℕ) : Type 0 where
   pub size : length s₁ ≡ length s
   pub done : (i b : ℕ) → b < k → at s₁ (number_at i b) ≡ at s (number_at i b) + cond (eqb i j) (x b) 0
   pub rest : (i b : ℕ) → k ≤ b → b < block_rows → at s₁ (number_at i b) ≡ at s (number_at i b)
-
-module _ (j : ℕ) (x : ℕ → ℕ) (s : List ℕ) where
-  pub adding-none : Adding j 0 x s s
-  adding-none = record { size = refl; done = λ i b h. absurd (omega arith); rest = λ i b h g. refl }
-
-  pub adding-more : (k : ℕ) (s₁ : List ℕ) → k < block_rows → number_at j k < length s₁ → Adding j k x s s₁
-      → Adding j (k + 1) x s (set s₁ (number_at j k) (at s₁ (number_at j k) + x k))
-  adding-more k s₁ hk h a =
-      let to : ℕ = number_at j k in
-      let v : ℕ = at s₁ to + x k in
-      let here : (i : ℕ) → at (set s₁ to v) (number_at i k) ≡ at s (number_at i k) + cond (eqb i j) (x k) 0 =
-      λ i.
-      ⊎_elim
-      (λ e.
-      let same : i ≡ j = eqb-true i j e in
-      rw e (at_same s₁ to (number_at i k) v h (omega arith) ∙ ap (λ (b : ℕ). b + x k) (ap (λ (b : ℕ). at s₁ (number_at b k)) (sym same) ∙ a.rest i k (omega arith) hk)))
-      (λ e. rw e (at_other s₁ to (number_at i k) v (λ q. eqb-false i j e (omega arith)) ∙ a.rest i k (omega arith) hk ∙ sym (add-zero _)))
-      (bool_cases (eqb i j)) in
-      record {
-        size = length-set s₁ _ _ ∙ a.size;
-        done = λ i b hb.
-            last_or b k hb
-            (λ e. rw e (here i))
-            (λ g. at_other s₁ to (number_at i b) v (λ q. omega arith) ∙ a.done i b g);
-        rest = λ i b hb g. at_other s₁ to (number_at i b) v (λ q. omega arith) ∙ a.rest i b (omega arith) g;
-      }
-
-  pub adding-end : (k : ℕ) (s₁ : List ℕ) → block_rows ≤ k → Adding j k x s s₁ → VectorAdded j x s s₁
-  adding-end k s₁ h a = record { size = a.size; each = λ i b hb. a.done i b (omega arith) }
 
 -- ---- vectors, added to those of a set's links
 

@@ -8,7 +8,7 @@ use native.Mathlib.Omega.{arith}
 use native.Mathlib.Nat.{add-zero, eq-or-lt_of_le, max-le}
 use native.Mathlib.Numerals.{add-one}
 use lib.Dec.{eqb, ltb}
-use lib.ListN.{length, set, length-set}
+use lib.ListN.{length}
 use borrow.Author.Tests.{eq-eqb, ne_eqb, eqb-true, eqb-false, lt-ltb, le-ltb}
 use Rattle.model.specs.Largest.{largest}
 use Rattle.model.proofs.Largests.{largest-cong}
@@ -16,7 +16,7 @@ use Rattle.model.proofs.Searches.{bool_cases, order}
 use Rattle.lists.specs.Lists.{at}
 use Rattle.loads.specs.Tables.{block_rows, number_at}
 use Rattle.loads.specs.Windows.{largest_at, Widened, WidenedOn}
-use Rattle.loads.proofs.Vectors.{at_same, at_other, last_or}
+use Rattle.loads.proofs.Vectors.{last_or}
 
 -- the largest of some values, and of those after each: of one more
 pub largest-two : (n : ℕ) (f : ℕ → ℕ) → max (largest n f) (largest n (λ k. f (suc k))) ≡ largest (suc n) f
@@ -37,34 +37,6 @@ pub record Going (j k : ℕ) (s s₁ : List ℕ) : Type 0 where
   pub done : (b : ℕ) → b < k → at s₁ (number_at j b) ≡ max (at s (number_at j b)) (at s (number_at j (b + 1)))
   pub rest : (b : ℕ) → k ≤ b → b < block_rows → at s₁ (number_at j b) ≡ at s (number_at j b)
   pub others : (i b : ℕ) → b < block_rows → i ≢ j → at s₁ (number_at i b) ≡ at s (number_at i b)
-
-module _ (j : ℕ) (s : List ℕ) where
-  pub going-none : Going j 0 s s
-  going-none = record { size = refl; done = λ b h. absurd (omega arith); rest = λ b h g. refl; others = λ i b h e. refl }
-
-  pub going_more : (k v : ℕ) (s₁ : List ℕ) → k + 1 < block_rows → number_at j k < length s₁ → v ≡ max (at s₁ (number_at j k)) (at s₁ (number_at j (k + 1))) → Going j k s s₁
-      → Going j (k + 1) s (set s₁ (number_at j k) v)
-  going_more k v s₁ hk h e a = record {
-    size = length-set s₁ _ _ ∙ a.size;
-    done = λ b hb.
-        last_or b k hb
-        (λ q.
-        at_same s₁ (number_at j k) (number_at j b) v h (omega (arith, q))
-        ∙ e
-        ∙ ap₂ max (a.rest k (omega arith) (omega arith)) (a.rest (k + 1) (omega arith) hk)
-        ∙ ap (λ (i : ℕ). max (at s (number_at j i)) (at s (number_at j (i + 1)))) (sym q))
-        (λ g. at_other s₁ (number_at j k) (number_at j b) v (λ q. omega arith) ∙ a.done b g);
-    rest = λ b hb g. at_other s₁ (number_at j k) (number_at j b) v (λ q. omega arith) ∙ a.rest b (omega arith) g;
-    others = λ i b hb o. at_other s₁ (number_at j k) (number_at i b) v (λ q. o (omega arith)) ∙ a.others i b hb o;
-  }
-
-  pub going_end : (k : ℕ) (s₁ : List ℕ) → k + 1 ≡ block_rows → Going j k s s₁ → Widened j s s₁
-  going_end k s₁ e a = record {
-    size = a.size;
-    here = λ b h. a.done b (omega arith);
-    last = λ b h. a.rest b (omega arith) (omega arith);
-    others = a.others;
-  }
 
 -- no number is then over the largest of the vector
 widened-most : (j b : ℕ) (s s₁ : List ℕ) → Widened j s s₁ → ((k : ℕ) → k < block_rows → at s (number_at j k) ≤ b) → (k : ℕ) → k < block_rows → at s₁ (number_at j k) ≤ b
@@ -108,9 +80,6 @@ module _ (j : ℕ) (s : List ℕ) where
     others = λ i k hk e. w.others i k hk (eqb-false i j e) ∙ a.others i k hk e;
   }
 
-pub times-at : (c : ℕ → Bool) (p q : ℕ) (s s₁ : List ℕ) → p ≡ q → WidenedOn p c s s₁ → WidenedOn q c s s₁
-times-at c p q s s₁ e a = subst (λ (n : ℕ). WidenedOn n c s s₁) e a
-
 -- ---- some vectors
 
 -- what is picked by one of two that pick nothing together
@@ -132,14 +101,6 @@ pub picked-once : (c e : ℕ → Bool) (z : ℕ) → ((l x : ℕ) → cond (c l)
 picked-once c e z both l t = ⊎_elim (λ q. absurd (true≢false (sym t ∙ (one_of (c l) (eqb l z) (e l) (both l)).0 q))) (λ q. q) (bool_cases (eqb l z))
 
 module _ (n : ℕ) where
-  pub widened_none : (c : ℕ → Bool) (s : List ℕ) → ((j : ℕ) → c j ≡ false) → WidenedOn n c s s
-  widened_none c s h = record {
-    size = refl;
-    here = λ j k hk e. absurd (true≢false (sym e ∙ h j));
-    most = λ j b g k hk. g k hk;
-    others = λ j k hk e. refl;
-  }
-
   pub widened_more : (c e : ℕ → Bool) (z : ℕ) (s s₁ s₂ : List ℕ) → ((l x : ℕ) → cond (c l) x 0 + cond (eqb l z) x 0 ≡ cond (e l) x 0) → WidenedOn n c s s₁ → WidenedOn n (λ j. eqb j z) s₁ s₂
       → WidenedOn n e s s₂
   unfolding largest_at
@@ -168,6 +129,3 @@ below_next n l x =
     (eq-or-lt_of_le h))
     (λ (g : n < l). rw (le-ltb l n (omega arith), ne_eqb l n (λ q. omega arith), le-ltb l (n + 1) (omega arith)) refl)
     (order l n)
-
-pub below_at : (times n m : ℕ) (s s₁ : List ℕ) → n ≡ m → WidenedOn times (λ j. ltb j n) s s₁ → WidenedOn times (λ j. ltb j m) s s₁
-below_at times n m s s₁ e a = subst (λ (k : ℕ). WidenedOn times (λ j. ltb j k) s s₁) e a

@@ -1,4 +1,5 @@
 pub mod Gathered
+pub mod Parts
 pub mod Tables
 pub mod Windows
 pub mod Flows

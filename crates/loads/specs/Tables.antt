@@ -1,6 +1,7 @@
 -- The tables in which a pass gathers the loads of a block of steps at once. No promise of the product cites these.
 use Rattle.std.specs.Prelude.{ℕ, ◌+◌, ◌*◌, ◌^◌, ◌≤◌, ◌<◌, ◌≡◌, ◌≢◌, Bool, cond, List, eqb, leb, length}
 use Rattle.model.specs.Limits.{most_links, most_tunnels, most_steps, most_amount}
+use Rattle.model.specs.Net.{Net}
 use Rattle.lists.specs.Lists.{at}
 use Rattle.loads.specs.Gathered.{gathered}
 
@@ -21,14 +22,10 @@ pub record Vectors (n : ℕ) (s : List ℕ) : Type 0 where
 abbrev pub amounts_size : ℕ
 amounts_size = block_rows * most_tunnels
 
--- no amount of the first n tunnels is over the largest, in as many parts as there can be
-pub record AmountTable (n : ℕ) (amounts : List ℕ) : Type 0 where
+-- no amount is over the largest, in as many parts as there can be
+pub record AmountTable (amounts : List ℕ) : Type 0 where
   pub size : length amounts ≡ amounts_size
-  pub within : (t k : ℕ) → t < n → k < block_rows → at amounts (number_at t k) ≤ most_amount * most_steps
-
--- the sets of the first n tunnels have none but the first so many links
-pub record SetsWithin (links : ℕ) (vias : List ℕ) (n : ℕ) : Type 0 where
-  pub each : (t : ℕ) → t < n → at vias t < 2 ^ links
+  pub within : (t k : ℕ) → t < most_tunnels → k < block_rows → at amounts (number_at t k) ≤ most_amount * most_steps
 
 -- ---- loads: two vectors for each link, those of protected tunnels, and of the others
 
@@ -41,6 +38,10 @@ loads_size = block_rows * (2 * most_links)
 abbrev pub part_of : ℕ → ℕ
 part_of class = cond (leb class 1) 0 1
 
+-- the class of a tunnel's flow
+abbrev pub class_of : Net → ℕ → ℕ
+class_of N t = N.class (N.flow t)
+
 unfoldable pub in_part : (ℕ → ℕ) → ℕ → ℕ → Bool
 in_part class part t = eqb (part_of (class t)) part
 
@@ -50,10 +51,10 @@ pub record LoadsWithin (links n : ℕ) (loads : List ℕ) : Type 0 where
   pub most : (q l k : ℕ) → q < 2 → l < links → k < block_rows → at loads (load_at l q k) ≤ n * (most_amount * most_steps)
 
 -- the loads of both parts after the first n tunnels, by their sets, their classes and their amounts
-pub record Loads (links : ℕ) (vias classes : List ℕ) (n : ℕ) (amounts loads : List ℕ) : Type 0 where
+pub record Loads (links : ℕ) (via class : ℕ → ℕ) (n : ℕ) (amounts loads : List ℕ) : Type 0 where
   pub size : length loads ≡ loads_size
   pub each : (q l k : ℕ) → q < 2 → l < links → k < block_rows
-      → at loads (load_at l q k) ≡ gathered (at vias) (in_part (at classes) q) (λ t. at amounts (number_at t k)) n l
+      → at loads (load_at l q k) ≡ gathered via (in_part class q) (λ t. at amounts (number_at t k)) n l
 
 -- ---- what is done to vectors
 

@@ -2,6 +2,7 @@
 //! nothing of plans.
 #![tactic(auto)]
 
+pub mod amounts;
 pub mod flows;
 pub mod gather;
 pub mod windows;

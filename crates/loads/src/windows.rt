@@ -1,29 +1,19 @@
 // The largest numbers of windows: in a vector of a number for each row, each becomes the larger of it and the next, and that so
 // many times.
-ghost use Rattle.std.specs.Prelude.{◌≡◌, ◌+◌, max, eqb, ltb};
+ghost use Rattle.std.specs.Prelude.{◌+◌, eqb, ltb};
 ghost use Rattle.loads.specs.Tables.{Vectors};
 ghost use Rattle.loads.specs.Windows.{Widened, WidenedOn};
 
 use crate::gather::ROWS;
 
-// The larger of two amounts.
-pub fn larger(x: u64, y: u64) -> u64
-    ensures { result ≡ max x y }
-{
-    if x < y { y } else { x }
-}
-
-// Each number of vector j but the last becomes the larger of it and the next.
+// Each number of vector j but the last becomes the larger of it and the next. An index, since a place and the next one are read.
 fn widen(table: &mut [u64], j: usize)
     requires { Vectors (j + 1) table.old }
     ensures { Widened j table.old table.new }
 {
     let at = ROWS * j;
-    let mut k = 0;
-    while k < ROWS - 1 {
-        let next = k + 1;
-        table[at + k] = larger(table[at + k], table[at + next]);
-        k = next;
+    for k in 0..ROWS - 1 {
+        table[at + k] = table[at + k].max(table[at + k + 1]);
     }
 }
 
@@ -33,10 +23,8 @@ pub(crate) fn widen_by(times: usize, table: &mut [u64], j: usize)
     requires { Vectors (j + 1) table.old }
     ensures { WidenedOn times (λ i. eqb i j) table.old table.new }
 {
-    let mut p = 0;
-    while p < times {
+    for p in 0..times {
         widen(table, j);
-        p += 1;
     }
 }
 
@@ -45,9 +33,7 @@ pub fn widen_all(times: usize, n: usize, table: &mut [u64])
     requires { Vectors n table.old }
     ensures { WidenedOn times (λ j. ltb j n) table.old table.new }
 {
-    let mut j = 0;
-    while j < n {
+    for j in 0..n {
         widen_by(times, table, j);
-        j += 1;
     }
 }

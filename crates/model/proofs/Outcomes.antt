@@ -3,7 +3,8 @@ use Prim.Native.Nat.{ℕ}
 use mathlib.Core.Path.{◌≡◌, refl}
 use mathlib.Core.Bool.{Bool, true, false, cond}
 use native.Mathlib.Omega.{arith}
-use Rattle.model.specs.Outcome.{Outcome, good, refused, and_then, Cause}
+use Rattle.model.specs.Outcome.{Outcome, good, refused, and_then}
+use Rattle.model.specs.declared.Cause.{Cause}
 
 pub good-refused : {A : Type 0} (a : A) (c : Cause) (place second : ℕ) → refused c place second ≡ good a → ⊥
 good-refused a c place second e = let z : ◌≡◌ {A = ℕ} 0 1 = cc in omega arith

@@ -2,11 +2,10 @@
 use Rattle.std.specs.Prelude.{ℕ, Bool, cond, ◌&&◌, leb}
 use Rattle.std.proofs.Math.Option.{Option, none, some}
 use Rattle.model.specs.Limits.{most_lag}
+use Rattle.model.specs.declared.Cause.{Cause}
+use Rattle.model.specs.declared.Cause.TheVariants.{Malformed as malformed, OutOfRange as out_of_range, Missing as missing, MissedRate as missed_rate, OtherTunnels as other_tunnels, MissedRow as missed_row, OverProtected as over_protected, OverTotal as over_total, NoEvenPlan as no_even_plan, NoRoom as no_room, NoSuchStep as no_such_step, NoSuchDesk as no_such_desk, FourWait as four_wait, NothingWaits as nothing_waits, OtherShared as other_shared, TooMany as too_many, OtherSteps as other_steps, Unfit as unfit, LagOutside as lag_outside, BadScript as bad_script, Unshareable as unshareable}
 
--- the causes of "Turned down, and why", and from 11 on of the second paper, in the order of their numbers
-pub data Cause : Type 0 where
-  malformed out_of_range missing missed_rate other_tunnels missed_row over_protected over_total no_even_plan no_room no_such_step no_such_desk four_wait nothing_waits other_shared too_many other_steps unfit lag_outside bad_script unshareable : Cause
-
+-- the causes of "Turned down, and why", and from 11 on of the second paper, by their numbers
 abbrev pub number : Cause → ℕ
 number malformed = 1
 number out_of_range = 2

@@ -2,7 +2,8 @@
 use Rattle.std.specs.Prelude.{ℕ, suc, Bool}
 use Rattle.std.proofs.Math.Option.{Option, or_else}
 use Rattle.model.specs.Search.{only_if, first}
-use Rattle.model.specs.Outcome.{Cause, over_protected, over_total}
+use Rattle.model.specs.declared.Cause.{Cause}
+use Rattle.model.specs.declared.Cause.TheVariants.{OverProtected as over_protected, OverTotal as over_total}
 
 -- the two bounds on a link's load: "the first bound belongs to refusal 7, the second to 8"
 pub data Bound : Type 0 where

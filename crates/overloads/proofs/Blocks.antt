@@ -6,7 +6,7 @@ use mathlib.Core.Bool.{Bool, true, false, cond}
 use mathlib.Core.List.{List}
 use native.Mathlib.Omega.{arith}
 use borrow.Author.Tests.{lt-ltb}
-use lib.Dec.{eqb, leb, ltb}
+use lib.Dec.{eqb, ltb}
 use lib.ListN.{length}
 use Rattle.model.specs.Limits.{most_flows, most_tunnels, most_lag}
 use Rattle.model.specs.Largest.{largest}
@@ -19,18 +19,19 @@ use Rattle.model.proofs.Searches.{bool_cases}
 use Rattle.lists.specs.Lists.{at, network_sizes, network_of, plan_sizes, plan_of}
 use Rattle.loads.specs.Claim.{worst_amount}
 use Rattle.loads.specs.Gathered.{gathered, gathered_by_flow}
-use Rattle.loads.specs.Tables.{block_rows, number_at, load_at, loads_size, in_part, AmountTable, SetsWithin, LoadsWithin, Loads}
+use Rattle.loads.specs.Tables.{block_rows, number_at, load_at, loads_size, in_part, class_of, AmountTable, LoadsWithin, Loads}
 use Rattle.loads.specs.Windows.{largest_at, WidenedOn}
 use Rattle.loads.specs.Flows.{FlowLoads}
 use Rattle.loads.proofs.Passes.{gathered-cong, gathered-parts, loads-within}
 use Rattle.loads.proofs.Widening.{largest-pairs}
 use Rattle.loads.proofs.ByFlow.{by-flow-cong, by-flow-parts}
 use Rattle.loads.proofs.Main.{gathering}
-use Rattle.amounts.specs.Columns.{Holds, capacity, raised}
+use Rattle.amounts.specs.declared.columns.Bounds.{Bounds}
+use Rattle.amounts.specs.Columns.{AllBounds, bounds_at}
 use Rattle.amounts.specs.Rows.{Checkable, larger_row, RowAmounts}
 use Rattle.amounts.proofs.Windows.{window-in, window-reach}
-use Rattle.overloads.specs.Inner.{over_number}
-use Rattle.overloads.specs.Blocks.{TunnelColumns, times_widened, block_steps, Gathers, InBlock, NextInBlock}
+use Rattle.overloads.specs.Inner.{over_cause}
+use Rattle.overloads.specs.Blocks.{times_widened, block_steps, Gathers, InBlock, NextInBlock}
 use Rattle.overloads.proofs.Overloads.{over_in, over-same}
 
 -- ---- how many times the amounts are widened
@@ -56,19 +57,20 @@ module _ (w : ℕ) (N : Net) (P : Plan) where
   unfolding block_steps
   block_in k h = omega (arith, h)
 
+-- how many steps are looked at
+pub steps-counted : (w : ℕ) (N : Net) (p : List ℕ) → step_count w N (plan_of p) ≡ suc ((plan_sizes p).steps - w)
+unfolding step_count plan_of
+steps-counted w N p = refl
+
 -- ---- the loads of a block
 
 part-0 : (b : Bool) → eqb (cond b 0 1) 0 ≡ b
 part-0 true = refl
 part-0 false = refl
 
-pub sets-within : (l p vias : List ℕ) → Checkable l p → Holds vias (network_sizes l).tunnels (network_of l).via → SetsWithin (network_sizes l).links vias (network_sizes l).tunnels
-unfolding network_of
-sets-within l p vias c h = record { each = λ u k. rw (h.each u k) (c.network.ranges.tunnels.via u k).1 }
-
 -- widened amounts are amounts
-pub widened-table : (n times : ℕ) (c : ℕ → Bool) (amounts wide : List ℕ) → AmountTable n amounts → WidenedOn times c amounts wide → AmountTable n wide
-widened-table n times c amounts wide a v = record { size = v.size ∙ a.size; within = λ t k ht hk. v.most t _ (λ i hi. a.within t i ht hi) k hk }
+pub widened-table : (n times : ℕ) (amounts wide : List ℕ) → AmountTable amounts → WidenedOn times (λ j. ltb j n) amounts wide → AmountTable wide
+widened-table n times amounts wide a v = record { size = v.size ∙ a.size; within = λ t k ht hk. v.most t _ (λ i hi. a.within t i ht hi) k hk }
 
 module _ (w : ℕ) (l p : List ℕ) (c : Checkable l p) (i : ℕ) where
   abbrev N : Net
@@ -77,10 +79,10 @@ module _ (w : ℕ) (l p : List ℕ) (c : Checkable l p) (i : ℕ) where
   abbrev P : Plan
   P = plan_of p
 
-  module _ (one : by_flow N ≡ false) (some : 1 ≤ w) (vias classes : List ℕ) (t : TunnelColumns l vias classes) (amounts wide loads : List ℕ)
+  module _ (one : by_flow N ≡ false) (some : 1 ≤ w) (amounts wide loads : List ℕ) (table : AmountTable wide)
       (a : RowAmounts (larger_row N P) (network_sizes l).tunnels (plan_sizes p).steps i block_rows amounts)
       (v : WidenedOn (times_widened w N P) (λ j. ltb j (network_sizes l).tunnels) amounts wide)
-      (g : Loads (network_sizes l).links vias classes (network_sizes l).tunnels wide loads) where
+      (g : Loads N.links N.via (class_of N) N.tunnels wide loads) where
     -- the largest of the larger ones of two rows is the largest in the window
     worst-in : (k u : ℕ) → k < block_steps w N P → i + k < step_count w N P → u < (network_sizes l).tunnels → at wide (number_at u k) ≡ worst_amount w N P (i + k) u
     unfolding worst_amount larger_row largest_at plan_of
@@ -98,11 +100,11 @@ module _ (w : ℕ) (l p : List ℕ) (c : Checkable l p) (i : ℕ) where
         ∙ ap (λ (n : ℕ). largest n (λ b. row N P (i + k + b) u)) e
 
     same : (x : ℕ → Bool) (y : Bound) (m k : ℕ) → k < block_steps w N P → i + k < step_count w N P → ((u : ℕ) → u < (network_sizes l).tunnels → x u ≡ counts N y u)
-        → gathered (at vias) x (λ u. at wide (number_at u k)) (network_sizes l).tunnels m ≡ load N y (worst w N P (i + k) m)
+        → gathered N.via x (λ u. at wide (number_at u k)) (network_sizes l).tunnels m ≡ load N y (worst w N P (i + k) m)
     unfolding network_of
     same x y m k hk hs hx =
-        gathered-cong (at vias) N.via x (counts N y) (λ u. at wide (number_at u k)) (worst_amount w N P (i + k)) (network_sizes l).tunnels m
-        (λ u h. t.via.each u h) hx
+        gathered-cong N.via N.via x (counts N y) (λ u. at wide (number_at u k)) (worst_amount w N P (i + k)) (network_sizes l).tunnels m
+        (λ u h. refl) hx
         (λ u h. worst-in k u hk hs h)
         ∙ gathering.tunnels w N P (i + k) m y one
 
@@ -111,26 +113,26 @@ module _ (w : ℕ) (l p : List ℕ) (c : Checkable l p) (i : ℕ) where
     gathers =
         let few = c.network.ranges.sized.counts in
         record {
-          within = loads-within _ _ _ _ (network_sizes l).tunnels (network_sizes l).tunnels (most_flows * most_tunnels) _ (omega arith) (omega (arith, few)) (widened-table _ _ _ _ _ a.table v) g;
+          within = loads-within _ _ _ _ (network_sizes l).tunnels (most_flows * most_tunnels) _ (omega (arith, few)) (omega (arith, few)) table g;
           protected = λ m k hm hk hs.
               let low = block_in w N P k hk in
               g.each 0 m k (omega arith) hm (omega (arith, low))
-              ∙ same (in_part (at classes) 0) Bound.protected m k hk hs (λ u h. ap (λ (z : ℕ). eqb (cond (leb z 1) 0 1) 0) (t.class.each u h) ∙ part-0 _ ∙ sym (counts-by-tunnel N one u));
+              ∙ same (in_part (class_of N) 0) Bound.protected m k hk hs (λ u h. part-0 _ ∙ sym (counts-by-tunnel N one u));
           total = λ m k hm hk hs.
               let low = block_in w N P k hk in
               ap₂ ◌+◌ (g.each 0 m k (omega arith) hm (omega (arith, low))) (g.each 1 m k (omega arith) hm (omega (arith, low)))
-              ∙ gathered-parts (at vias) (at classes) (λ u. at wide (number_at u k)) (network_sizes l).tunnels m
+              ∙ gathered-parts N.via (class_of N) (λ u. at wide (number_at u k)) (network_sizes l).tunnels m
               ∙ same (λ u. true) Bound.total m k hk hs (λ u h. refl);
         }
 
-  module _ (whole : by_flow N ≡ true) (vias : List ℕ) (hv : Holds vias (network_sizes l).tunnels N.via) (amounts loads : List ℕ)
-      (a : RowAmounts (row N P) (network_sizes l).tunnels ((plan_sizes p).steps + 1) i block_rows amounts) (r : LoadsWithin (network_sizes l).links (most_flows * most_tunnels) loads)
-      (g : FlowLoads (network_sizes l).links vias N.flow (network_sizes l).tunnels N.class (network_sizes l).flows (times_widened w N P) amounts loads) where
+  module _ (whole : by_flow N ≡ true) (amounts loads : List ℕ)
+      (a : RowAmounts (row N P) (network_sizes l).tunnels ((plan_sizes p).steps + 1) i block_rows amounts) (r : LoadsWithin N.links (most_flows * most_tunnels) loads)
+      (g : FlowLoads N.links N.via N.flow N.tunnels N.class N.flows (times_widened w N P) amounts loads) where
     abbrev summed : ℕ → ℕ → ℕ → ℕ
     summed k b u = at amounts (number_at u (k + b))
 
     same-flows : (x : ℕ → Bool) (y : Bound) (m k : ℕ) → k < block_steps w N P → i + k < step_count w N P → ((f : ℕ) → f < (network_sizes l).flows → x f ≡ counts N y f)
-        → gathered_by_flow (at vias) N.flow x (times_widened w N P) (summed k) (network_sizes l).tunnels (network_sizes l).flows m ≡ load N y (worst w N P (i + k) m)
+        → gathered_by_flow N.via N.flow x (times_widened w N P) (summed k) (network_sizes l).tunnels (network_sizes l).flows m ≡ load N y (worst w N P (i + k) m)
     unfolding network_of plan_of
     same-flows x y m k hk hs hx =
         let n : ℕ = times_widened w N P in
@@ -138,8 +140,8 @@ module _ (w : ℕ) (l p : List ℕ) (c : Checkable l p) (i : ℕ) where
         let low : k + n < block_rows = block_in w N P k hk in
         let end : i + k + min w P.steps ≤ P.steps = window-in w N P (i + k) hs in
         let there : (b : ℕ) → i + (k + b) ≡ i + k + b = λ b. omega arith in
-        by-flow-cong (at vias) N.via N.flow x (counts N y) n (summed k) (λ b. row N P (i + k + b)) (network_sizes l).tunnels (network_sizes l).flows m
-        (λ u h. hv.each u h) hx
+        by-flow-cong N.via N.via N.flow x (counts N y) n (summed k) (λ b. row N P (i + k + b)) (network_sizes l).tunnels (network_sizes l).flows m
+        (λ u h. refl) hx
         (λ b u hb hu. a.each u (k + b) hu (omega arith) (omega (arith, times-flow w N P whole)) ∙ ap (λ (j : ℕ). row N P j u) (there b))
         ∙ ap (λ (j : ℕ). gathered_by_flow N.via N.flow (counts N y) j (λ b. row N P (i + k + b)) (network_sizes l).tunnels (network_sizes l).flows m) e
         ∙ gathering.flows w N P (i + k) m y whole
@@ -152,7 +154,7 @@ module _ (w : ℕ) (l p : List ℕ) (c : Checkable l p) (i : ℕ) where
           g.each 0 m k (omega arith) hm (block_in w N P k hk) ∙ same-flows (in_part N.class 0) Bound.protected m k hk hs (λ f h. part-0 _ ∙ sym (counts-by-flow N whole f));
       total = λ m k hm hk hs.
           ap₂ ◌+◌ (g.each 0 m k (omega arith) hm (block_in w N P k hk)) (g.each 1 m k (omega arith) hm (block_in w N P k hk))
-          ∙ by-flow-parts (at vias) N.flow N.class (times_widened w N P) (summed k) (network_sizes l).tunnels (network_sizes l).flows m
+          ∙ by-flow-parts N.via N.flow N.class (times_widened w N P) (summed k) (network_sizes l).tunnels (network_sizes l).flows m
           ∙ same-flows (λ f. true) Bound.total m k hk hs (λ f h. refl);
     }
 
@@ -163,10 +165,6 @@ module _ (w : ℕ) (N : Net) (P : Plan) where
   unfolding block_steps
   in-first s h e = record { low = (omega arith, omega (arith, times-few w N P h)); size = e; gathers = λ o. absurd (o refl) }
 
-  -- a block begins with its first step
-  pub block_start : (i k : ℕ) (s : List ℕ) → k ≡ 0 → Gathers w N P i s → Gathers w N P (i - k) s
-  block_start i k s e g = let same : i ≡ i - k = omega (arith, e) in subst (λ (b : ℕ). Gathers w N P b s) same g
-
   pub in-next : (i k r : ℕ) (s : List ℕ) → k ≤ i → NextInBlock k (block_steps w N P) r → Gathers w N P (i - k) s → InBlock w N P (i + 1) r s
   in-next i k r s h n g =
       let same : r ≡ k + 1 → i - k ≡ i + 1 - r = λ e. omega (arith, e) in
@@ -176,15 +174,15 @@ module _ (w : ℕ) (N : Net) (P : Plan) where
         gathers = λ o. ⊎_elim (λ e. subst (λ (b : ℕ). Gathers w N P b s) (same e) g) (λ e. absurd (o e)) n.1;
       }
 
--- ---- the number that is found on a link is the rule's
+-- ---- the cause that is found on a link is the rule's
 
-module _ (w : ℕ) (N : Net) (P : Plan) (i k l : ℕ) (hi : i < step_count w N P) (hk : (k ≤ i) × (k < block_steps w N P)) (hl : l < N.links) (capacities all loads : List ℕ)
-    (hc : Holds capacities N.links (capacity N P.parts)) (ha : Holds all N.links (raised N P.parts)) (g : Gathers w N P (i - k) loads) where
-  pub number_in : over_number (ltb (at capacities l) (at loads (load_at l 0 k))) (ltb (at all l) (at loads (load_at l 0 k) + at loads (load_at l 1 k))) ≡ over_in w N P i l
-  number_in =
+module _ (w : ℕ) (N : Net) (P : Plan) (i k l : ℕ) (hi : i < step_count w N P) (hk : (k ≤ i) × (k < block_steps w N P)) (hl : l < N.links) (bounds : List Bounds) (loads : List ℕ)
+    (b : AllBounds N P.parts N.links bounds) (g : Gathers w N P (i - k) loads) where
+  pub cause_in : over_cause (ltb (bounds_at bounds l).protected (at loads (load_at l 0 k))) (ltb (bounds_at bounds l).all (at loads (load_at l 0 k) + at loads (load_at l 1 k))) ≡ over_in w N P i l
+  cause_in =
       let e : i - k + k ≡ i = omega (arith, hk) in
       let there : i - k + k < step_count w N P = subst (λ (j : ℕ). j < step_count w N P) (sym e) hi in
-      ap₂ over_number
-      (ap₂ ltb (hc.each l hl) (g.protected l k hl hk.1 there ∙ ap (λ (j : ℕ). load N Bound.protected (worst w N P j l)) e))
-      (ap₂ ltb (ha.each l hl) (g.total l k hl hk.1 there ∙ ap (λ (j : ℕ). load N Bound.total (worst w N P j l)) e))
+      ap₂ over_cause
+      (ap₂ ltb (ap (λ (x : Bounds). x.protected) (b.each l hl)) (g.protected l k hl hk.1 there ∙ ap (λ (j : ℕ). load N Bound.protected (worst w N P j l)) e))
+      (ap₂ ltb (ap (λ (x : Bounds). x.all) (b.each l hl)) (g.total l k hl hk.1 there ∙ ap (λ (j : ℕ). load N Bound.total (worst w N P j l)) e))
       ∙ over-same N P.parts l _ _

@@ -4,15 +4,8 @@ use Rattle.model.specs.Limits.{most_flows, most_tunnels}
 use Rattle.model.specs.Net.{Net, Plan}
 use Rattle.model.specs.Scan.{Bound}
 use Rattle.model.specs.Rule.{by_flow, step_count, load, worst}
-use Rattle.lists.specs.Lists.{at, network_sizes, network_of}
+use Rattle.lists.specs.Lists.{at}
 use Rattle.loads.specs.Tables.{block_rows, loads_size, load_at, LoadsWithin}
-use Rattle.amounts.specs.Columns.{Holds, class_of}
-
--- the columns that the gathering reads
-pub record TunnelColumns (l vias classes : List ℕ) : Type 0 where
-  pub size : (most_tunnels ≤ length vias) × (most_tunnels ≤ length classes)
-  pub via : Holds vias (network_sizes l).tunnels (network_of l).via
-  pub class : Holds classes (network_sizes l).tunnels (class_of (network_of l))
 
 -- how many times the amounts in a block are widened: as many as rows follow the first of a window, but one less where they are the larger of two rows from the start
 unfoldable pub times_widened : ℕ → Net → Plan → ℕ

@@ -5,27 +5,30 @@ use mathlib.Core.Logic.{◌⊎◌, ⊎_elim}
 use mathlib.Core.Bool.{Bool, cond, ◌&&◌}
 use mathlib.Core.List.{List}
 use mathlib.Core.Option.{Option, none, some}
+use native.Mathlib.Nat.{zero-add}
 use native.Mathlib.Omega.{arith}
 use borrow.Author.Tests.{le-leb, lt-leb, leb-true}
 use lib.Dec.{leb}
 use lib.ListN.{length}
 use Rattle.model.specs.Limits.{most_tunnels}
 use Rattle.model.specs.Net.{Net, Plan}
-use Rattle.model.specs.Outcome.{Outcome, good, refused, and_then, no_such_step}
+use Rattle.model.specs.Outcome.{Outcome, good, refused, and_then}
+use Rattle.model.specs.declared.Cause.TheVariants.{NoSuchStep as no_such_step, NoRoom as no_room}
 use Rattle.model.specs.Scan.{Overload}
 use Rattle.model.proofs.Choices.{kept-none}
 use Rattle.model.proofs.Outcomes.{cond-good, good-same}
 use Rattle.model.proofs.Searches.{and-true, and-false}
 use Rattle.lists.specs.Lists.{network_of, plan_of}
-use Rattle.lists.specs.Answers.{done, with_room, lent}
-use Rattle.lists.specs.declared.Answer.{Answer}
-use Rattle.lists.specs.declared.Answer.TheVariants.{Done, Refused}
-use Rattle.lists.proofs.Rooms.{give-none}
+use Rattle.lists.specs.Answers.{with_room, lent}
+use Rattle.lists.specs.Refusals.{refusal, counted}
+use Rattle.lists.specs.declared.refusal.Refusal.{Refusal}
+use Rattle.lists.proofs.Refusals.{err-room}
+use Rattle.std.specs.declared.result.Result.{Result}
+use Rattle.std.specs.declared.result.Result.TheVariants.{Ok, Err}
 use Rattle.lines.specs.Puts.{Puts}
-use Rattle.lines.proofs.Writing.{given}
-use Rattle.forms.proofs.Answers.{NotDone, refused-room}
+use Rattle.lines.proofs.Writing.{placed-front}
 use Rattle.forms.proofs.Good.{good-network, good-plan}
-use Rattle.checker.specs.Check.{judge_pair, verdict, checked}
+use Rattle.checker.specs.Check.{judge_pair, verdict, checked_count}
 use Rattle.checker.proofs.Main.{checker}
 use Rattle.checker.proofs.Pairs.{pair-good}
 use Rattle.page.specs.Page.{page, step_page, unless_over, page_of}
@@ -51,25 +54,23 @@ module _ (N : Net) (P : Plan) (s : ℕ) where
       let b = and-true (leb 1 s) (leb s P.steps) c.0 in
       (leb-true 1 s b.0, leb-true s P.steps b.1, sym (good-same _ _ c.1))
 
--- what is answered, and what is left in the output
+-- what is given, and what is left in the output
 module _ (N : Net) (P : Plan) (s : ℕ) (out : List ℕ) where
-  abbrev answer : Answer
-  answer = done (with_room (length out) (step_page N P s))
+  abbrev result : Result ℕ Refusal
+  result = counted (with_room (length out) (step_page N P s))
 
   abbrev after : List ℕ
   after = lent (with_room (length out) (step_page N P s)) out
 
-  pub none-given : (s < 1) ⊎ (P.steps < s) → (Refused 11 s 0 ≡ answer) × (out ≡ after)
+  pub none-given : (s < 1) ⊎ (P.steps < s) → (Err (refusal no_such_step s 0) ≡ result) × (out ≡ after)
   none-given h = rw (step-outside N P s h) (refl, refl)
 
   module _ (h : 1 ≤ s) (k : s ≤ P.steps) where
-    pub short-given : (m : ℕ) → length (page N P (s - 1)) ≡ m → length out < m → (Refused 10 m 0 ≡ answer) × (out ≡ after)
-    short-given m e l =
-        let g = give-none (page N P (s - 1)) out (rw e l) in
-        rw (step_in N P s h k) (ap (λ (j : ℕ). Refused 10 j 0) (sym e) ∙ sym g.0, sym g.1)
+    pub short-given : (m : ℕ) → length (page N P (s - 1)) ≡ m → length out < m → (Err (refusal no_room m 0) ≡ result) × (out ≡ after)
+    short-given m e l = rw (step_in N P s h k, e, lt-leb m (length out) l) (refl, refl)
 
-    pub all-given : {out' : List ℕ} {past : ℕ} → length (page N P (s - 1)) ≤ length out → Puts (page N P (s - 1)) 0 out out' past → (Done past ≡ answer) × (out' ≡ after)
-    all-given l p = rw (step_in N P s h k) (given (page N P (s - 1)) out l p)
+    pub all-given : {out' : List ℕ} {past : ℕ} → length (page N P (s - 1)) ≤ length out → Puts (page N P (s - 1)) 0 out out' past → (Ok past ≡ result) × (out' ≡ after)
+    all-given {out'} {past} l p = rw (step_in N P s h k, le-leb (length (page N P (s - 1))) (length out) l) (ap Ok (p.place ∙ zero-add (length (page N P (s - 1)))), p.bytes ∙ placed-front out (page N P (s - 1)))
 
 -- ---- the checker's refusals
 
@@ -88,21 +89,21 @@ room-enough : (n p q : List ℕ) → judge_pair n p ≡ good q → (network_of n
 unfolding network_of
 room-enough n p q e = (pair-good n p q e).checkable.network.ranges.sized.counts.tunnels
 
-stopped : (n : List ℕ) (v : Outcome (Option Overload)) (next : Outcome (List ℕ)) (a : Answer) → a ≡ checked n v → NotDone a → a ≡ done (and_then v (λ o. unless_over o next))
-stopped n (good none) next a e t = absurd (t _ e)
-stopped n (good (some o)) next a e t = e
-stopped n (refused c place second) next a e t = e
+stopped : (n : List ℕ) (v : Outcome (Option Overload)) (next : Outcome (List ℕ)) (r : Refusal) → checked_count n v ≡ Err r → counted (and_then v (λ o. unless_over o next)) ≡ Err r
+stopped n (good none) next r e = let z : ◌≡◌ {A = ℕ} 0 1 = cc in absurd (omega arith)
+stopped n (good (some o)) next r e = e
+stopped n (refused c place second) next r e = e
 
-pub check-refused : (n p : List ℕ) (s : ℕ) (a : Answer) (out : List ℕ) → a ≡ checked n (verdict 1 n p most_tunnels) → NotDone a
-    → (a ≡ done (with_room (length out) (page_of n p s))) × (out ≡ lent (with_room (length out) (page_of n p s)) out)
-check-refused n p s a out e t =
-    refused-room (page_of n p s) a out (stopped n (verdict 1 n p most_tunnels) (step_page (network_of n) (plan_of p) s) a e t ∙ sym (ap done (by-verdict n p s most_tunnels (room-enough n p)))) t
+pub check-refused : (n p : List ℕ) (s : ℕ) (r : Refusal) (out : List ℕ) → checked_count n (verdict 1 n p most_tunnels) ≡ Err r
+    → (counted (with_room (length out) (page_of n p s)) ≡ Err r) × (lent (with_room (length out) (page_of n p s)) out ≡ out)
+check-refused n p s r out e =
+    err-room r (page_of n p s) out (ap counted (by-verdict n p s most_tunnels (room-enough n p)) ∙ stopped n (verdict 1 n p most_tunnels) (step_page (network_of n) (plan_of p) s) r e)
 
 -- or none
-pub check-passed : (n p : List ℕ) (k : ℕ) (a : Answer) → a ≡ checked n (verdict 1 n p most_tunnels) → a ≡ Done k → verdict 1 n p most_tunnels ≡ good none
-check-passed n p k a e f = go (verdict 1 n p most_tunnels) e
+pub check-passed : (n p : List ℕ) (k : ℕ) → checked_count n (verdict 1 n p most_tunnels) ≡ Ok k → verdict 1 n p most_tunnels ≡ good none
+check-passed n p k e = go (verdict 1 n p most_tunnels) e
   where
-    go : (v : Outcome (Option Overload)) → a ≡ checked n v → v ≡ good none
+    go : (v : Outcome (Option Overload)) → checked_count n v ≡ Ok k → v ≡ good none
     go (good none) e = refl
     go (good (some o)) e = let z : ◌≡◌ {A = ℕ} 0 1 = cc in absurd (omega arith)
     go (refused c place second) e = let z : ◌≡◌ {A = ℕ} 0 1 = cc in absurd (omega arith)

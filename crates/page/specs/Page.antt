@@ -5,7 +5,8 @@ use Rattle.std.proofs.Math.Option.{Option, none, some}
 use Rattle.std.specs.Int.Count.{ones}
 use Rattle.model.specs.Listed.{listed}
 use Rattle.model.specs.Net.{Net, Plan}
-use Rattle.model.specs.Outcome.{Outcome, good, refused, and_then, no_such_step}
+use Rattle.model.specs.Outcome.{Outcome, good, refused, and_then}
+use Rattle.model.specs.declared.Cause.TheVariants.{NoSuchStep as no_such_step}
 use Rattle.model.specs.Rule.{first_overload}
 use Rattle.model.specs.Scan.{protected, total, Overload, cause, step}
 use Rattle.lists.specs.Lists.{network_of, plan_of}

@@ -17,17 +17,12 @@ fn lent(
 ) -> Desks
     ensures { result ≡ record { numbers = numbers.now; tags = tags.now; oldest = oldest.now; waiting = waiting.now; counters = counters.now; last = last } }
 {
-    let n = *numbers;
-    let t = *tags;
-    let o = *oldest;
-    let w = *waiting;
-    let c = *counters;
     Desks {
-        numbers: n,
-        tags: t,
-        oldest: o,
-        waiting: w,
-        counters: c,
+        numbers: *numbers,
+        tags: *tags,
+        oldest: *oldest,
+        waiting: *waiting,
+        counters: *counters,
         last,
     }
 }
@@ -44,6 +39,7 @@ fn leave(
 )
     ensures { record { numbers = numbers.new; tags = tags.new; oldest = oldest.new; waiting = waiting.new; counters = counters.new; last = last.new } ≡ s }
 {
+    // Each array has a name before it is stored: straight from a field there is no proof.
     let n = s.numbers;
     let t = s.tags;
     let o = s.oldest;
@@ -70,7 +66,7 @@ pub extern "C" fn pavuneshil_none_waiting(
     ensures { seen (record { numbers = numbers.new; tags = tags.new; oldest = oldest.new; waiting = waiting.new; counters = counters.new; last = last.new }) ≡ empty }
 {
     leave(
-        desks::none_waiting(),
+        Desks::none_waiting(),
         numbers,
         tags,
         oldest,
@@ -97,11 +93,10 @@ pub extern "C" fn pavuneshil_submit(
     ensures last_after { seen (record { numbers = numbers.new; tags = tags.new; oldest = oldest.new; waiting = waiting.new; counters = counters.new; last = last.new }) ≡ (submitted desk tag (seen (record { numbers = numbers.old; tags = tags.old; oldest = oldest.old; waiting = waiting.old; counters = counters.old; last = last.old }))).state }
     ensures untouched { Untouched (submitted desk tag (seen (record { numbers = numbers.old; tags = tags.old; oldest = oldest.old; waiting = waiting.old; counters = counters.old; last = last.old }))).answer (record { numbers = numbers.old; tags = tags.old; oldest = oldest.old; waiting = waiting.old; counters = counters.old; last = last.old }) (record { numbers = numbers.new; tags = tags.new; oldest = oldest.new; waiting = waiting.new; counters = counters.new; last = last.new }) }
 {
-    let s = lent(numbers, tags, oldest, waiting, counters, *last);
-    let r = desks::submit(s, desk, tag);
-    leave(r.desks, numbers, tags, oldest, waiting, counters, last);
-    let a = r.answer;
-    *answer = numbers::of_submission(a);
+    let mut desks = lent(numbers, tags, oldest, waiting, counters, *last);
+    let submission = desks.submit(desk, tag);
+    leave(desks, numbers, tags, oldest, waiting, counters, last);
+    *answer = numbers::of_submission(submission);
 }
 
 // The next job in turn.
@@ -119,9 +114,8 @@ pub extern "C" fn pavuneshil_hand_out(
     ensures last_after { seen (record { numbers = numbers.new; tags = tags.new; oldest = oldest.new; waiting = waiting.new; counters = counters.new; last = last.new }) ≡ (handed_out (seen (record { numbers = numbers.old; tags = tags.old; oldest = oldest.old; waiting = waiting.old; counters = counters.old; last = last.old }))).state }
     ensures untouched { Untouched (handed_out (seen (record { numbers = numbers.old; tags = tags.old; oldest = oldest.old; waiting = waiting.old; counters = counters.old; last = last.old }))).answer (record { numbers = numbers.old; tags = tags.old; oldest = oldest.old; waiting = waiting.old; counters = counters.old; last = last.old }) (record { numbers = numbers.new; tags = tags.new; oldest = oldest.new; waiting = waiting.new; counters = counters.new; last = last.new }) }
 {
-    let s = lent(numbers, tags, oldest, waiting, counters, *last);
-    let r = desks::hand_out(s);
-    leave(r.desks, numbers, tags, oldest, waiting, counters, last);
-    let a = r.answer;
-    *answer = numbers::of_hand_out(a);
+    let mut desks = lent(numbers, tags, oldest, waiting, counters, *last);
+    let job = desks.hand_out();
+    leave(desks, numbers, tags, oldest, waiting, counters, last);
+    *answer = numbers::of_hand_out(job);
 }

@@ -19,10 +19,10 @@ ghost use Rattle.forms.specs.Write.{write_text};
 mod desks_for_c;
 mod rules_for_c;
 
-use bound::StepBound;
 use lists::Answer;
+use lists::refusal::Refusal;
 
-// An answer as four numbers.
+// An answer as four numbers. A function, and no `From`: neither the answer's type nor an array is of this crate.
 pub(crate) fn numbers(a: Answer) -> [u64; 4]
     ensures { result ≡ four a }
 {
@@ -38,16 +38,12 @@ pub(crate) fn numbers(a: Answer) -> [u64; 4]
 }
 
 // The step bound's answer as four numbers.
-fn bound_numbers(a: StepBound) -> [u64; 4]
+fn bound_numbers(a: Result<u64, Refusal>) -> [u64; 4]
     ensures { result ≡ four_of_bound a }
 {
     match a {
-        StepBound::Steps(steps) => [0, steps, 0, 0],
-        StepBound::Refused {
-            number,
-            place,
-            second,
-        } => [2, number, place, second],
+        Ok(steps) => [0, steps, 0, 0],
+        Err(refusal) => numbers(Answer::from(refusal)),
     }
 }
 

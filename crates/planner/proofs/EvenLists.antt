@@ -94,7 +94,7 @@ module _ (N : Net) (q : ℕ) (s : List ℕ) where
   written_none r e = let k : 4 ≡ 4 + 0 * N.tunnels = omega arith in e ∙ ap (λ (n : ℕ). (1 ∷ q ∷ q ∷ N.tunnels ∷ []) ++ drop n s) k
 
   -- the next row, in its place
-  pub written_on : (n k m : ℕ) (r : List ℕ) → Written N q s n r → k ≡ 4 + n * N.tunnels → m ≡ N.tunnels
+  written_on : (n k m : ℕ) (r : List ℕ) → Written N q s n r → k ≡ 4 + n * N.tunnels → m ≡ N.tunnels
       → take k r ++ (listed N.tunnels (even_row N q (n + 1)) ++ drop m (drop k r)) ≡ ((1 ∷ q ∷ q ∷ N.tunnels ∷ []) ++ even_rows N q (n + 1)) ++ drop (4 + (n + 1) * N.tunnels) s
   unfolding start even_rows
   written_on n k m r e hk hm =
@@ -109,6 +109,19 @@ module _ (N : Net) (q : ℕ) (s : List ℕ) where
       ∙ sym (append_assoc (start n) row _)
       ∙ ap (λ (x : List ℕ). x ++ drop (4 + suc n * N.tunnels) s) (append_assoc (1 ∷ q ∷ q ∷ N.tunnels ∷ []) (even_rows N q n) row))
 
+  -- row a, from place i on, which the code writes
+  pub row_on : (a i m : ℕ) (r row : List ℕ) → 1 ≤ a → Written N q s (a - 1) r → i ≡ 4 + (a - 1) * m → m ≡ N.tunnels → row ≡ listed N.tunnels (even_row N q a)
+      → take i r ++ (row ++ drop (i + m - i) (drop i r)) ≡ ((1 ∷ q ∷ q ∷ N.tunnels ∷ []) ++ even_rows N q (a + 1 - 1)) ++ drop (4 + (a + 1 - 1) * N.tunnels) s
+  row_on a i m r row one w hi hm e =
+      let here : i ≡ 4 + (a - 1) * N.tunnels = rw hm at hi in
+      let wide : i + m - i ≡ N.tunnels = omega arith in
+      let next : a - 1 + 1 ≡ a = omega arith in
+      let last : a - 1 + 1 ≡ a + 1 - 1 = omega arith in
+      let own : row ≡ listed N.tunnels (even_row N q (a - 1 + 1)) = e ∙ ap (λ (n : ℕ). listed N.tunnels (even_row N q n)) (sym next) in
+      ap (λ (x : List ℕ). take i r ++ (x ++ drop (i + m - i) (drop i r))) own
+      ∙ written_on (a - 1) i (i + m - i) r w here wide
+      ∙ ap (λ (n : ℕ). ((1 ∷ q ∷ q ∷ N.tunnels ∷ []) ++ even_rows N q n) ++ drop (4 + n * N.tunnels) s) last
+
   pub written-length : (n : ℕ) (r : List ℕ) → Written N q s n r → 4 + n * N.tunnels ≤ length s → length r ≡ length s
   unfolding start
   written-length n r e h =
@@ -118,6 +131,13 @@ module _ (N : Net) (q : ℕ) (s : List ℕ) where
   written_all n r e h =
       e ∙ ap (λ (k : ℕ). ((1 ∷ q ∷ q ∷ N.tunnels ∷ []) ++ even_rows N q k) ++ drop (4 + k * N.tunnels) s) h
       ∙ ap₂ (λ (l : List ℕ) (k : ℕ). l ++ drop k s) (sym (list-rows N q)) (sym (list_length N q))
+
+-- row a, from place i on, ends within an output that has room
+pub row-inside : (N : Net) (q a i m room : ℕ) → a < q → i ≡ 4 + (a - 1) * m → m ≡ N.tunnels → length (even_list N q) ≤ room → 1 ≤ a → i + m ≤ room
+row-inside N q a i m room h hi hm fits one =
+    let k : suc (a - 1) ≤ q - 1 = omega arith in
+    let place : i ≡ 4 + (a - 1) * N.tunnels = rw hm at hi in
+    omega (arith, place, hm, fits, list_length N q, mul-le-mul_right N.tunnels k)
 
 -- ---- the numbers of the list, at their places
 

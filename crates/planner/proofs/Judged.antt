@@ -6,26 +6,29 @@ use mathlib.Core.Bool.{Bool, true, false, cond}
 use mathlib.Core.List.{List, [], ◌∷◌, ◌++◌}
 use mathlib.Core.Option.{Option, none, some, Option-elim}
 use native.Mathlib.Omega.{arith}
-use Rattle.model.specs.Outcome.{Outcome, good, refused, number, no_even_plan, Cause, unless, Place}
-use Rattle.model.specs.Outcome.{Place}
+use Rattle.model.specs.Outcome.{Outcome, good, refused, number, unless, Place}
+use Rattle.model.specs.declared.Cause.TheVariants.{NoEvenPlan as no_even_plan, LagOutside as lag_outside}
+use Rattle.model.specs.declared.Cause.TheVariants as causes
 use lib.Dec.{leb}
 use borrow.Author.Tests.{leb-true}
 use Rattle.model.specs.Limits.{most_lag}
 use Rattle.model.specs.Rule.{missed_rate}
 use Rattle.model.proofs.Searches.{bool_cases, and-true}
-use Rattle.lists.specs.Answers.{with_room, done, plan, lent}
+use lib.ListN.{length}
+use Rattle.std.specs.Prelude.{None, Some, Err}
+use Rattle.lists.specs.Answers.{with_room, lent}
+use Rattle.lists.specs.Refusals.{judged, counted}
 use Rattle.lists.specs.Lists.{network_of}
-use Rattle.lists.specs.declared.Answer.{Answer}
-use Rattle.forms.specs.Form.{field_of, admits_of}
-use Rattle.model.specs.Outcome.{and_then, is_lag, at_lag, lag_outside}
+use Rattle.lists.specs.declared.refusal.Refusal.{Refusal}
+use Rattle.lists.proofs.Refusals.{judged-stands, err-then, err-room}
+use Rattle.forms.specs.Form.{Field, field_of, admits_of}
+use Rattle.model.specs.Outcome.{and_then, is_lag, at_lag}
 use Rattle.forms.specs.Read.{on_field, walk, judge_numbers, add_up}
 use Rattle.forms.specs.Turns.{itself}
 use Rattle.forms.specs.declared.form.Form.{Form}
 use Rattle.forms.specs.declared.form.Form.TheVariants.{Network}
 use Rattle.forms.specs.declared.form.Range.{Range}
-use Rattle.forms.specs.declared.form.Field.{Field}
-use Rattle.forms.specs.declared.form.Field.TheVariants.{Line, End}
-use Rattle.forms.proofs.Answers.{NotDone}
+use Rattle.forms.specs.declared.form.Key.{Key}
 use Rattle.forms.proofs.Good.{good-network}
 use Rattle.planner.specs.Planned.{even_plan, planned}
 use Rattle.forms.specs.Named.{judge_network}
@@ -59,18 +62,12 @@ planned-good w l h e = lag-in w _ h ∙ ap (λ o. and_then o (λ g. even_plan w 
 
 -- ---- where the judge refuses
 
-passed_on : (o : Outcome (List ℕ)) (next : List ℕ → Outcome (List ℕ)) (a : Answer) (room : ℕ) (out : List ℕ) → a ≡ done o → NotDone a
-    → (a ≡ plan (with_room room (and_then o next))) × (out ≡ lent (with_room room (and_then o next)) out)
-passed_on (good g) next a room out e t = absurd (t _ e)
-passed_on (refused c i j) next a room out e t = (e, refl)
-
-pub planned-refused : (w : ℕ) (l : List ℕ) (a : Answer) (room : ℕ) (out : List ℕ) → is_lag w ≡ true → a ≡ done (judge_network l) → NotDone a
-    → (a ≡ plan (with_room room (planned w l))) × (out ≡ lent (with_room room (planned w l)) out)
+pub planned-refused : (w : ℕ) (l : List ℕ) (r : Refusal) (out : List ℕ) → is_lag w ≡ true → judged (judge_network l) ≡ Err r
+    → (counted (with_room (length out) (planned w l)) ≡ Err r) × (lent (with_room (length out) (planned w l)) out ≡ out)
 unfolding planned
-planned-refused w l a room out h e t =
-    let p = lag-in w (and_then (judge_network l) (λ g. even_plan w (network_of g))) h in
-    let k = passed_on (judge_network l) (λ g. even_plan w (network_of g)) a room out e t in
-    (k.0 ∙ sym (ap (λ o. plan (with_room room o)) p), k.1 ∙ sym (ap (λ o. lent (with_room room o) out) p))
+planned-refused w l r out h e =
+    let next : List ℕ → Outcome (List ℕ) = λ g. even_plan w (network_of g) in
+    err-room r (planned w l) out (ap counted (lag-in w (and_then (judge_network l) next) h) ∙ err-then r (judge_network l) next (judged-stands r (judge_network l) e))
 
 -- ---- which refusals are the judge's own: 1 to 4
 
@@ -78,9 +75,9 @@ abbrev Early : Outcome (List ℕ) → Type 0
 Early (good l) = Unit {0}
 Early (refused c p s) = number c ≤ 4
 
-field-early : (f : Field) (a : Outcome (List ℕ)) (g : ℕ → Range → Outcome (List ℕ)) → Early a → ((k : ℕ) (r : Range) → Early (g k r)) → Early (on_field f a g)
-field-early End a g h k = h
-field-early (Line n r) a g h k = k n r
+field-early : (f : Field) (a : Outcome (List ℕ)) (g : Key → Range → Outcome (List ℕ)) → Early a → ((k : Key) (r : Range) → Early (g k r)) → Early (on_field f a g)
+field-early None a g h k = h
+field-early (Some x) a g h k = k x.key x.range
 
 value-early : (o : Option ℕ) (a : Outcome (List ℕ)) (g : ℕ → Outcome (List ℕ)) → Early a → ((v : ℕ) → Early (g v)) → Early (Option-elim o a g)
 unfolding Option-elim
@@ -91,7 +88,7 @@ cond-early : (b : Bool) (x y : Outcome (List ℕ)) → Early x → Early y → E
 cond-early true x y h k = h
 cond-early false x y h k = k
 
-walk-early : {X : Type 0} (value : ℕ → Range → X → Option ℕ) (form : Form) (n : ℕ) (before : List ℕ) (xs : List X) → Early (walk value form n before xs)
+walk-early : {X : Type 0} (value : Key → Range → X → Option ℕ) (form : Form) (n : ℕ) (before : List ℕ) (xs : List X) → Early (walk value form n before xs)
 unfolding walk
 walk-early value form n before [] = field-early (field_of form before) _ _ tt (λ k r. omega arith)
 walk-early value form n before (x ∷ xs) =
@@ -99,7 +96,7 @@ walk-early value form n before (x ∷ xs) =
     value-early (value k r x) _ _ (omega arith) (λ v.
     cond-early (admits_of r v) _ _ (walk-early value form (n + 1) (before ++ (v ∷ [])) xs) (omega arith)))
 
-missed-early : (l : List ℕ) (o : Option Place) → Early (unless Cause.missed_rate o (good l))
+missed-early : (l : List ℕ) (o : Option Place) → Early (unless causes.MissedRate o (good l))
 missed-early l none = tt
 missed-early l (some p) = omega arith
 

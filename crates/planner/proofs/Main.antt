@@ -9,7 +9,8 @@ use native.Mathlib.Omega.{arith}
 use native.Mathlib.Nat.{mul-le-mul_left}
 use lib.ListN.{length}
 use Rattle.model.specs.Limits.{most_steps, most_amount}
-use Rattle.model.specs.Outcome.{Outcome, good, refused, no_even_plan}
+use Rattle.model.specs.Outcome.{Outcome, good, refused}
+use Rattle.model.specs.declared.Cause.TheVariants.{NoEvenPlan as no_even_plan}
 use Rattle.model.specs.Net.{Net}
 use Rattle.model.specs.Scan.{Overload, step}
 use Rattle.model.specs.Rule.{missed_rate, missed_row, first_overload, accepted}

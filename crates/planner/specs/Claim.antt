@@ -2,7 +2,8 @@
 use Rattle.std.specs.Prelude.{ℕ, ◌≤◌, ◌<◌, ◌≡◌, true, false, List, length}
 use Rattle.std.proofs.Math.Option.{none, some}
 use Rattle.model.specs.Limits.{most_steps}
-use Rattle.model.specs.Outcome.{good, refused, no_even_plan, lag_outside, is_lag}
+use Rattle.model.specs.Outcome.{good, refused, is_lag}
+use Rattle.model.specs.declared.Cause.TheVariants.{NoEvenPlan as no_even_plan, LagOutside as lag_outside}
 use Rattle.model.specs.Net.{Net}
 use Rattle.model.specs.Scan.{Bound, Overload, step}
 use Rattle.model.specs.Rule.{Choice, overloads, step_count, missed_row, first_overload, accepted}

@@ -1,4 +1,4 @@
-pub mod Tables
+pub mod Sums
 pub mod Planned
 pub mod Search
 pub mod Claim

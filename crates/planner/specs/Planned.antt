@@ -2,7 +2,8 @@
 use Rattle.std.specs.Prelude.{ℕ, suc, ◌-◌}
 use mathlib.Core.List.{List, [], ◌∷◌, ◌++◌, flatten}
 use Rattle.std.proofs.Math.Option.{Option, Option-elim}
-use Rattle.model.specs.Outcome.{Outcome, good, refused, no_even_plan}
+use Rattle.model.specs.Outcome.{Outcome, good, refused}
+use Rattle.model.specs.declared.Cause.TheVariants.{NoEvenPlan as no_even_plan}
 use Rattle.model.specs.Net.{Net}
 use Rattle.model.specs.Scan.{Overload, step}
 use Rattle.model.specs.Even.{even_row, fewest, even}

@@ -11,7 +11,8 @@ use lib.Dec.{eqb, leb}
 use lib.ListN.{length, get_or, take, drop, get_or-append}
 use lib.Seq.{take-append_seam}
 use Rattle.model.specs.Limits.{most_steps}
-use Rattle.model.specs.Outcome.{Outcome, good, refused, Cause, number, is_lag}
+use Rattle.model.specs.Outcome.{Outcome, good, refused, number, is_lag}
+use Rattle.model.specs.declared.Cause.TheVariants as causes
 use Rattle.model.specs.Net.{Net, Plan}
 use Rattle.model.specs.Scan.{Bound, Overload, cause, step}
 use Rattle.model.specs.Rule.{Choice, overloads, mark, at_largest, marked, step_count}
@@ -42,8 +43,8 @@ use Rattle.model.proofs.Listed.{listed-length, listed_at}
 room-planned : (o : Outcome (List ℕ)) (room k : ℕ) → plan (with_room room o) ≡ Planned k → (q : List ℕ) × (o ≡ good q) × (with_room room o ≡ good q) × (length q ≡ k)
 room-planned (good q) room k e = go (leb (length q) room) refl e
   where
-    go : (b : Bool) → leb (length q) room ≡ b → plan (cond b (good q) (refused Cause.no_room (length q) 0)) ≡ Planned k
-        → (p : List ℕ) × (good q ≡ good p) × (cond (leb (length q) room) (good q) (refused Cause.no_room (length q) 0) ≡ good p) × (length p ≡ k)
+    go : (b : Bool) → leb (length q) room ≡ b → plan (cond b (good q) (refused causes.NoRoom (length q) 0)) ≡ Planned k
+        → (p : List ℕ) × (good q ≡ good p) × (cond (leb (length q) room) (good q) (refused causes.NoRoom (length q) 0) ≡ good p) × (length p ≡ k)
     go true t e = (q, refl, simp t, cc)
     go false t e = let z : ◌≡◌ {A = ℕ} 0 1 = cc in absurd (omega arith)
 room-planned (refused c place second) room k e = let z : ◌≡◌ {A = ℕ} 0 1 = cc in absurd (omega arith)
@@ -51,7 +52,7 @@ room-planned (refused c place second) room k e = let z : ◌≡◌ {A = ℕ} 0 1
 room_within : (o : Outcome (List ℕ)) (room k : ℕ) → plan (with_room room o) ≡ Planned k → k ≤ room
 room_within (good q) room k e = go (leb (length q) room) refl e
   where
-    go : (b : Bool) → leb (length q) room ≡ b → plan (cond b (good q) (refused Cause.no_room (length q) 0)) ≡ Planned k → k ≤ room
+    go : (b : Bool) → leb (length q) room ≡ b → plan (cond b (good q) (refused causes.NoRoom (length q) 0)) ≡ Planned k → k ≤ room
     go true t e = let same : length q ≡ k = cc in omega (arith, leb-true (length q) room t)
     go false t e = let z : ◌≡◌ {A = ℕ} 0 1 = cc in absurd (omega arith)
 room_within (refused c place second) room k e = let z : ◌≡◌ {A = ℕ} 0 1 = cc in absurd (omega arith)
@@ -149,14 +150,14 @@ pub returns-room : (w : ℕ) (n p out : List ℕ) → Returns w n p out → leng
 returns-room w n p out r = room_within (planned w n) (length out) (length p) r.0
 
 -- an outcome of the planner other than 19 is that of a lag of 1 to 4
-other-lag : (w : ℕ) (n : List ℕ) (o : Outcome (List ℕ)) → planned w n ≡ o → (refused Cause.lag_outside w 0 ≡ o → ⊥) → is_lag w ≡ true
+other-lag : (w : ℕ) (n : List ℕ) (o : Outcome (List ℕ)) → planned w n ≡ o → (refused causes.LagOutside w 0 ≡ o → ⊥) → is_lag w ≡ true
 other-lag w n o e k = ⊎_elim (λ t. t) (λ f. absurd (k (sym ((planner.claim).outside w n f) ∙ e))) (bool_cases (is_lag w))
 
 pub planned-lag : (w : ℕ) (n p : List ℕ) → planned w n ≡ good p → is_lag w ≡ true
 planned-lag w n p e = other-lag w n (good p) e (λ k. let z : ◌≡◌ {A = ℕ} 0 1 = cc in omega arith)
 
-pub nine-lag : (w : ℕ) (n : List ℕ) (a l : ℕ) → planned w n ≡ refused Cause.no_even_plan a l → is_lag w ≡ true
-nine-lag w n a l e = other-lag w n (refused Cause.no_even_plan a l) e (λ k. let z : ◌≡◌ {A = ℕ} 0 1 = cc in omega arith)
+pub nine-lag : (w : ℕ) (n : List ℕ) (a l : ℕ) → planned w n ≡ refused causes.NoEvenPlan a l → is_lag w ≡ true
+nine-lag w n a l e = other-lag w n (refused causes.NoEvenPlan a l) e (λ k. let z : ◌≡◌ {A = ℕ} 0 1 = cc in omega arith)
 
 pub demand3 : Demand3
 unfolding step_bound

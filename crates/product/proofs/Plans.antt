@@ -8,7 +8,10 @@ use native.Mathlib.Omega.{arith}
 use lib.Dec.{leb}
 use lib.ListN.{length}
 use Rattle.model.specs.Limits.{most_steps}
-use Rattle.model.specs.Outcome.{Outcome, good, refused, Cause, number, no_even_plan, is_lag}
+use Rattle.model.specs.Outcome.{Outcome, good, refused, number, is_lag}
+use Rattle.model.specs.declared.Cause.{Cause}
+use Rattle.model.specs.declared.Cause.TheVariants.{NoEvenPlan as no_even_plan}
+use Rattle.model.specs.declared.Cause.TheVariants as causes
 use Rattle.model.specs.Scan.{step}
 use Rattle.model.specs.Rule.{first_overload, accepted}
 use Rattle.model.specs.Even.{even}
@@ -55,34 +58,34 @@ module _ (w : ℕ) (lag : is_lag w ≡ true) (n : List ℕ) (room : ℕ) (j : ju
 -- ---- refusal 9 is told by its number
 
 nine-cause : (c : Cause) → number c ≡ number no_even_plan → c ≡ no_even_plan
-nine-cause Cause.no_even_plan e = refl
-nine-cause Cause.malformed e = absurd (omega (arith, e))
-nine-cause Cause.out_of_range e = absurd (omega (arith, e))
-nine-cause Cause.missing e = absurd (omega (arith, e))
-nine-cause Cause.missed_rate e = absurd (omega (arith, e))
-nine-cause Cause.other_tunnels e = absurd (omega (arith, e))
-nine-cause Cause.missed_row e = absurd (omega (arith, e))
-nine-cause Cause.over_protected e = absurd (omega (arith, e))
-nine-cause Cause.over_total e = absurd (omega (arith, e))
-nine-cause Cause.no_room e = absurd (omega (arith, e))
-nine-cause Cause.no_such_step e = absurd (omega (arith, e))
-nine-cause Cause.no_such_desk e = absurd (omega (arith, e))
-nine-cause Cause.four_wait e = absurd (omega (arith, e))
-nine-cause Cause.nothing_waits e = absurd (omega (arith, e))
-nine-cause Cause.other_shared e = absurd (omega (arith, e))
-nine-cause Cause.too_many e = absurd (omega (arith, e))
-nine-cause Cause.other_steps e = absurd (omega (arith, e))
-nine-cause Cause.unfit e = absurd (omega (arith, e))
-nine-cause Cause.lag_outside e = absurd (omega (arith, e))
-nine-cause Cause.bad_script e = absurd (omega (arith, e))
-nine-cause Cause.unshareable e = absurd (omega (arith, e))
+nine-cause causes.NoEvenPlan e = refl
+nine-cause causes.Malformed e = absurd (omega (arith, e))
+nine-cause causes.OutOfRange e = absurd (omega (arith, e))
+nine-cause causes.Missing e = absurd (omega (arith, e))
+nine-cause causes.MissedRate e = absurd (omega (arith, e))
+nine-cause causes.OtherTunnels e = absurd (omega (arith, e))
+nine-cause causes.MissedRow e = absurd (omega (arith, e))
+nine-cause causes.OverProtected e = absurd (omega (arith, e))
+nine-cause causes.OverTotal e = absurd (omega (arith, e))
+nine-cause causes.NoRoom e = absurd (omega (arith, e))
+nine-cause causes.NoSuchStep e = absurd (omega (arith, e))
+nine-cause causes.NoSuchDesk e = absurd (omega (arith, e))
+nine-cause causes.FourWait e = absurd (omega (arith, e))
+nine-cause causes.NothingWaits e = absurd (omega (arith, e))
+nine-cause causes.OtherShared e = absurd (omega (arith, e))
+nine-cause causes.TooMany e = absurd (omega (arith, e))
+nine-cause causes.OtherSteps e = absurd (omega (arith, e))
+nine-cause causes.Unfit e = absurd (omega (arith, e))
+nine-cause causes.LagOutside e = absurd (omega (arith, e))
+nine-cause causes.BadScript e = absurd (omega (arith, e))
+nine-cause causes.Unshareable e = absurd (omega (arith, e))
 
 told-nine : (o : Outcome (List ℕ)) (room a l : ℕ) → plan (with_room room o) ≡ Refused (number no_even_plan) a l → o ≡ refused no_even_plan a l
 told-nine (good p) room a l e = go (leb (length p) room) e
   where
-    go : (b : Bool) → plan (cond b (good p) (refused Cause.no_room (length p) 0)) ≡ Refused (number no_even_plan) a l → good p ≡ refused no_even_plan a l
+    go : (b : Bool) → plan (cond b (good p) (refused causes.NoRoom (length p) 0)) ≡ Refused (number no_even_plan) a l → good p ≡ refused no_even_plan a l
     go true e = let z : ◌≡◌ {A = ℕ} 0 1 = cc in absurd (omega arith)
-    go false e = let k : number Cause.no_room ≡ number no_even_plan = cc in absurd (omega (arith, k))
+    go false e = let k : number causes.NoRoom ≡ number no_even_plan = cc in absurd (omega (arith, k))
 told-nine (refused c place second) room a l e =
     let k : number c ≡ number no_even_plan = cc in
     let i : place ≡ a = cc in

@@ -23,7 +23,7 @@ use Rattle.lists.specs.declared.Network as counts
 use Rattle.lists.specs.Good.{LinksIn, FlowsIn, TunnelsIn, GoodNetwork}
 use Rattle.forms.specs.Form.{allows, network_lines}
 use Rattle.forms.specs.declared.form.Form.TheVariants.{Network}
-use Rattle.forms.specs.declared.form.Field.TheVariants.{End}
+use Rattle.std.specs.declared.option.Option.TheVariants.{None}
 use Rattle.forms.specs.Named.{judge_network}
 use Rattle.forms.specs.Read.{add_up}
 use Rattle.forms.proofs.Good.{good-network}
@@ -125,11 +125,11 @@ module _ (n : List ℕ) (e : at n 0 ≡ 3) (long : 3 < length n) where
       (λ k. ap₂ ◌-◌ (of-link k) (held_same k)) of-class (of-flow 1) (of-flow (next_in (network_sizes n).edition)) of_owner (of-tunnel 1) (of-tunnel 2) (of-tunnel 3))
 
   -- its numbers are in their ranges, too
-  head_in : HeadIn Network n 7 → (i : ℕ) → i < 7 → T (allows (get_or (network_lines 3) i End) (at m i))
+  head_in : HeadIn Network n 7 → (i : ℕ) → i < 7 → T (allows (get_or (network_lines 3) i None) (at m i))
   head_in h i less =
       ⊎_elim
       (λ y. let z : i ≡ 3 = eqb-true i 3 y in rw (z, unit-here) tt)
-      (λ y. rw (others i (λ z. true≢false (sym (eq-eqb i 3 z) ∙ y))) (subst (λ (v : ℕ). T (allows (get_or (network_lines v) i End) (at n i))) e (h.each i less)))
+      (λ y. rw (others i (λ z. true≢false (sym (eq-eqb i 3 z) ∙ y))) (subst (λ (v : ℕ). T (allows (get_or (network_lines v) i None) (at n i))) e (h.each i less)))
       (bool_cases (eqb i 3))
 
   module _ (w : InRange n) where
@@ -158,7 +158,7 @@ module _ (n : List ℕ) (e : at n 0 ≡ 3) (long : 3 < length n) where
         record {
           head = record {
             each = λ i h.
-                subst (λ (v : ℕ). T (allows (get_or (network_lines v) i End) (at m i))) (sym (same-edition ∙ e))
+                subst (λ (v : ℕ). T (allows (get_or (network_lines v) i None) (at m i))) (sym (same-edition ∙ e))
                 (head_in (subst (λ (v : ℕ). HeadIn Network n (length (network_lines v))) e w.head) i (subst (λ (v : ℕ). i < length (network_lines v)) (same-edition ∙ e) h));
           };
           size = rw (length-set n 3 1, same-sizes) w.size;

@@ -2,7 +2,8 @@
 -- fewest steps, and says there is none exactly if no even plan of 1 to 50 steps is accepted." Accepted is what the checker answers at a lag of w; `room` is the room for its marks.
 use Rattle.std.specs.Prelude.{ℕ, ◌≤◌, ◌<◌, ◌≡◌, ◌↔◌, true, List, length}
 use Rattle.model.specs.Limits.{most_steps}
-use Rattle.model.specs.Outcome.{good, number, no_even_plan, is_lag}
+use Rattle.model.specs.Outcome.{good, number, is_lag}
+use Rattle.model.specs.declared.Cause.TheVariants.{NoEvenPlan as no_even_plan}
 use Rattle.model.specs.Scan.{Bound, cause}
 use Rattle.model.specs.Rule.{accepted}
 use Rattle.model.specs.Even.{even}

@@ -11,15 +11,15 @@ ghost use Rattle.forms.specs.declared.form.Form.TheVariants as forms;
 ghost use Rattle.forms.specs.Read.{read_text};
 ghost use Rattle.forms.specs.Write.{write_text};
 
-use bound::StepBound;
 use lists::Answer;
+use lists::refusal::Refusal;
 
 // Reads a network text into a list of numbers, one for each line.
 pub fn read_network(text: &[u8], out: &mut [u64]) -> Answer
     ensures value { result ≡ done (with_room (length out.old) (read_text forms.Network text.now)) }
     ensures out_after { out.new ≡ lent (with_room (length out.old) (read_text forms.Network text.now)) out.old }
 {
-    readers::read::read_network(text, out)
+    Answer::done(readers::read::read_network(text, out))
 }
 
 // Reads a plan text into a list of numbers, one for each line.
@@ -27,7 +27,7 @@ pub fn read_plan(text: &[u8], out: &mut [u64]) -> Answer
     ensures value { result ≡ done (with_room (length out.old) (read_text forms.Plan text.now)) }
     ensures out_after { out.new ≡ lent (with_room (length out.old) (read_text forms.Plan text.now)) out.old }
 {
-    readers::read::read_plan(text, out)
+    Answer::done(readers::read::read_plan(text, out))
 }
 
 // Writes the text of a network's list.
@@ -35,7 +35,7 @@ pub fn write_network(list: &[u64], out: &mut [u8]) -> Answer
     ensures value { result ≡ done (with_room (length out.old) (write_text forms.Network list.now)) }
     ensures out_after { out.new ≡ lent (with_room (length out.old) (write_text forms.Network list.now)) out.old }
 {
-    writers::write::write_network(list, out)
+    Answer::done(writers::write::write_network(list, out))
 }
 
 // Writes the text of a plan's list.
@@ -43,7 +43,7 @@ pub fn write_plan(list: &[u64], out: &mut [u8]) -> Answer
     ensures value { result ≡ done (with_room (length out.old) (write_text forms.Plan list.now)) }
     ensures out_after { out.new ≡ lent (with_room (length out.old) (write_text forms.Plan list.now)) out.old }
 {
-    writers::write::write_plan(list, out)
+    Answer::done(writers::write::write_plan(list, out))
 }
 
 // Makes the even plan of fewest steps for a network's list, at a lag.
@@ -51,7 +51,7 @@ pub fn make_plan(lag: u64, network: &[u64], out: &mut [u64]) -> Answer
     ensures value { result ≡ answers.plan (with_room (length out.old) (planned lag network.now)) }
     ensures out_after { out.new ≡ lent (with_room (length out.old) (planned lag network.now)) out.old }
 {
-    planner::make_plan(lag, network, out)
+    Answer::plan(planner::make_plan(lag, network, out))
 }
 
 // Checks anybody's plan against a network, at a lag, and marks the tunnels that show an overload.
@@ -59,11 +59,11 @@ pub fn check_plan(lag: u64, network: &[u64], plan: &[u64], marks: &mut [u8]) -> 
     ensures value { result ≡ checked network.now (verdict lag network.now plan.now (length marks.old)) }
     ensures marks_after { marks.new ≡ marks_after lag network.now plan.now (verdict lag network.now plan.now (length marks.old)) marks.old }
 {
-    checker::check::check_plan(lag, network, plan, marks)
+    Answer::done(checker::check::check_plan(lag, network, plan, marks))
 }
 
 // The step bound of a network that keeps its scratch.
-pub fn step_bound(scratch: u64, overrun: u64) -> StepBound
+pub fn step_bound(scratch: u64, overrun: u64) -> Result<u64, Refusal>
     ensures { result ≡ told (bound_of scratch overrun) }
 {
     bound::step_bound(scratch, overrun)

@@ -1,95 +1,10 @@
 -- Laws of the line reader's steps, as the code's loops use them: what each is at the part of a list from an index on.
-use Rattle.std.proofs.Common.{◌≡◌, ℕ, suc, ◌+◌, ◌*◌, ◌<◌, ◌≤◌, Bool, true, false, cond, not, T, eqb, List, [], ◌∷◌, ◌++◌, length, get_or, take, drop, set, sym, refl, ap, ◌∙◌, add-zero, add_assoc, mul-le-mul_right, zero-add, add-one, arith, length-append, drop_of_length-le, length-take-le, eq-eqb, ne_eqb, eqb-true}
-use native.Mathlib.Decide.{dec_lt, ℕ_discrete}
-use lib.Seq.{paste-suc}
+use Rattle.std.proofs.Common.{◌≡◌, ℕ, suc, ◌+◌, ◌<◌, ◌≤◌, Bool, true, false, cond, not, T, eqb, List, [], ◌∷◌, ◌++◌, length, take, drop, refl, ap, ap₂, ◌∙◌, arith, length-append, length-take-le, eq-eqb, eqb-true}
 use Rattle.forms.specs.Line.{lines, on_first, value_part, before_feed}
 use Rattle.model.proofs.Searches.{both}
 use Rattle.forms.specs.Turns.{no_feeds}
 use Rattle.forms.proofs.Lines.{part-line}
-use Rattle.forms.proofs.Walks.{step}
-use Rattle.readers.specs.Line.{line_len, first_line, FourBytes, prefixed}
-
--- ---- the loops
-
--- a key and a text from i on: the text is too short, differs at i, or has the key's byte at i
-pub prefix-short : (p t : List ℕ) → length t < length p → prefixed p t ≡ false
-unfolding prefixed
-prefix-short [] t h = absurd (omega arith)
-prefix-short (k ∷ p) [] h = refl
-prefix-short (k ∷ p) (b ∷ t) h = go (eqb b k) (prefix-short p t (omega arith))
-  where
-    go : (e : Bool) → prefixed p t ≡ false → cond e (prefixed p t) false ≡ false
-    go true h = h
-    go false h = refl
-
-pub prefix-other : (p t : List ℕ) (i j : ℕ) → i < length p → j < length t → (get_or t j 0 ≡ get_or p i 0 → ⊥) → prefixed (drop i p) (drop j t) ≡ false
-unfolding prefixed
-prefix-other p t i j h k e = rw (step p i h, step t j k, ne_eqb (get_or t j 0) (get_or p i 0) e)
-
-pub prefix_same : (p t : List ℕ) (i j : ℕ) → i < length p → j < length t → get_or t j 0 ≡ get_or p i 0
-    → prefixed (drop i p) (drop j t) ≡ prefixed (drop (i + 1) p) (drop (j + 1) t)
-unfolding prefixed
-prefix_same p t i j h k e = rw (step p i h, step t j k, eq-eqb (get_or t j 0) (get_or p i 0) e)
-
--- two digits of a base are those of their number
-two-same : (base x y u v : ℕ) → x < base → u < base → x + y * base ≡ u + v * base → (x ≡ u) × (y ≡ v)
-two-same base x y u v h k e = go (dec_lt y v) (dec_lt v y)
-  where
-    go : Dec (y < v) → Dec (v < y) → (x ≡ u) × (y ≡ v)
-    go (yes a) b = absurd (omega (arith, mul-le-mul_right base a, e, h, k))
-    go (no a) (yes b) = absurd (omega (arith, mul-le-mul_right base b, e, h, k))
-    go (no a) (no b) = let same : y ≡ v = omega arith in (let f : x + v * base ≡ u + v * base = rw same at e in omega (arith, f), same)
-
--- four bytes of both at once
-module _ (p t : List ℕ) (j m n : ℕ) (i-in : 4 ≤ length p) (j-in : j + 4 ≤ length t) (text : FourBytes t j m) (key : FourBytes p 0 n) where
-  abbrev left : ℕ → Type 0
-  left k = prefixed p (drop j t) ≡ prefixed (drop k p) (drop (j + k) t)
-
-  on : (k : ℕ) → k < 4 → left k → get_or t (j + k) 0 ≡ get_or p k 0 → left (k + 1)
-  on k h e s = e ∙ rw (← add_assoc j k 1) (prefix_same p t k (j + k) (omega arith) (omega arith) s)
-
-  off : (k : ℕ) → k < 4 → left k → (get_or t (j + k) 0 ≡ get_or p k 0 → ⊥) → prefixed p (drop j t) ≡ false
-  off k h e s = e ∙ prefix-other p t k (j + k) (omega arith) (omega arith) s
-
-  from-0 : left 0
-  from-0 = rw add-zero
-
-  abbrev same : ℕ → Type 0
-  same k = get_or t (j + k) 0 ≡ get_or p k 0
-
-  pub four_same : m ≡ n → prefixed p (drop j t) ≡ prefixed (drop 4 p) (drop (j + 4) t)
-  four_same e =
-      let halves = two-same 65536 _ _ _ _ (omega (arith, text.low.0, text.low.1)) (omega (arith, key.low.0, key.low.1)) (sym text.number ∙ e ∙ key.number) in
-      let low = two-same 256 _ _ _ _ text.low.0 key.low.0 halves.0 in
-      let high = two-same 256 _ _ _ _ text.high.0 key.high.0 halves.1 in
-      on 3 (omega arith) (on 2 (omega arith) (on 1 (omega arith) (on 0 (omega arith) from-0 (rw (add-zero j) low.0)) low.1) high.0) high.1
-
-  pub four-other : (m ≡ n → ⊥) → prefixed p (drop j t) ≡ false
-  four-other e = at-0 (ℕ_discrete _ _)
-    where
-      at-3 : left 3 → same 0 → same 1 → same 2 → Dec (same 3) → prefixed p (drop j t) ≡ false
-      at-3 l a b c (no d) = off 3 (omega arith) l d
-      at-3 l a b c (yes d) = absurd (e (text.number ∙ rw (rw (add-zero j) at a, b, c, d) (sym key.number)))
-
-      at-2 : left 2 → same 0 → same 1 → Dec (same 2) → prefixed p (drop j t) ≡ false
-      at-2 l a b (no d) = off 2 (omega arith) l d
-      at-2 l a b (yes d) = at-3 (on 2 (omega arith) l d) a b d (ℕ_discrete _ _)
-
-      at_1 : left 1 → same 0 → Dec (same 1) → prefixed p (drop j t) ≡ false
-      at_1 l a (no d) = off 1 (omega arith) l d
-      at_1 l a (yes d) = at-2 (on 1 (omega arith) l d) a d (ℕ_discrete _ _)
-
-      at-0 : Dec (same 0) → prefixed p (drop j t) ≡ false
-      at-0 (no d) = off 0 (omega arith) from-0 d
-      at-0 (yes d) = at_1 (on 0 (omega arith) from-0 d) d (ℕ_discrete _ _)
-
-pub prefix-end : (p t : List ℕ) (i : ℕ) → length p ≤ i → prefixed (drop i p) t ≡ true
-unfolding prefixed
-prefix-end p t i h = rw (drop_of_length-le p h)
-
--- a turn of a loop that copies a list to the front of another
-pub copy_step : (s d : List ℕ) (i : ℕ) → i < length d → i < length s → set (take i s ++ drop i d) i (get_or s i 0) ≡ take (i + 1) s ++ drop (i + 1) d
-copy_step s d i hd hs = rw add-one (simp zero-add at (paste-suc d 0 s i 0 (simp zero-add hd) hs))
+use Rattle.readers.specs.Line.{line_len, first_line}
 
 -- ---- the first line
 
@@ -168,45 +83,33 @@ module _ (k : ℕ) (p : List ℕ) (b : ℕ) (t : List ℕ) (n : T (not (eqb k 10
   unfolding value_part
   value-off x = ap (λ (l : List ℕ). value_part (k ∷ p) l) (first_byte b t).1 ∙ rw x
 
-  on-other : (x : Bool) → eqb b k ≡ x → cond x (prefixed p t) false ≡ false → (prefixed p t ≡ false → value_part p (first_line t) ≡ [])
-      → value_part (k ∷ p) (first_line (b ∷ t)) ≡ []
-  on-other true x e f = value_on x ∙ f e
-  on-other false x e f = value-off x
-
-on-prefixed : (x y : Bool) → cond x y false ≡ true → (x ≡ true) × (y ≡ true)
-on-prefixed true y e = (refl, e)
-on-prefixed false y e = let z : ◌≡◌ {A = ℕ} 0 1 = cc in absurd (omega arith)
-
--- where the key stands first, it fits, and the value is what stands after it before the line feed
-pub record AfterKey (p t : List ℕ) : Type 0 where
-  pub fits : length p ≤ length t
-  pub value : value_part p (first_line t) ≡ before_feed (first_line (drop (length p) t))
-
-pub after-key : (p t : List ℕ) → T (no_feeds p) → prefixed p t ≡ true → AfterKey p t
-unfolding prefixed value_part
-after-key [] t n e = record { fits = omega arith; value = refl }
-after-key (k ∷ p) [] n e = let z : ◌≡◌ {A = ℕ} 0 1 = cc in absurd (omega arith)
-after-key (k ∷ p) (b ∷ t) n e =
+-- where the key stands first, the value is what stands after it before the line feed
+after-key : (p r : List ℕ) → T (no_feeds p) → value_part p (first_line (p ++ r)) ≡ before_feed (first_line r)
+unfolding value_part
+after-key [] r n = refl
+after-key (k ∷ p) r n =
     let m = both (not (eqb k 10)) (no_feeds p) n in
-    let x = on-prefixed (eqb b k) (prefixed p t) e in
-    let r = after-key p t m.1 x.1 in
-    record {
-      fits = omega (arith, r.fits);
-      value = value_on k p b t m.0 x.0 ∙ r.value;
-    }
+    value_on k p k (p ++ r) m.0 (eq-eqb k k refl) ∙ after-key p r m.1
+
+pub key-value : (p t r : List ℕ) → T (no_feeds p) → t ≡ p ++ r → value_part p (first_line t) ≡ before_feed (first_line r)
+key-value p t r n e = rw e (after-key p r n)
 
 value_none : (k : ℕ) (p : List ℕ) → value_part (k ∷ p) (first_line []) ≡ []
 unfolding value_part line_len
 value_none k p = refl
 
 -- and where it does not, there is no value
-pub value-other : (p t : List ℕ) → T (no_feeds p) → prefixed p t ≡ false → value_part p (first_line t) ≡ []
-unfolding prefixed
-value-other [] t n e = let z : ◌≡◌ {A = ℕ} 0 1 = cc in absurd (omega arith)
+pub value-other : (p t : List ℕ) → T (no_feeds p) → ((r : List ℕ) → t ≡ p ++ r → ⊥) → value_part p (first_line t) ≡ []
+value-other [] t n e = absurd (e t refl)
 value-other (k ∷ p) [] n e = value_none k p
-value-other (k ∷ p) (b ∷ t) n e =
-    let m = both (not (eqb k 10)) (no_feeds p) n in
-    on-other k p b t m.0 (eqb b k) refl e (value-other p t m.1)
+value-other (k ∷ p) (b ∷ t) n e = go (eqb b k) refl (value-other p t (both (not (eqb k 10)) (no_feeds p) n).1)
+  where
+    feed : T (not (eqb k 10))
+    feed = (both (not (eqb k 10)) (no_feeds p) n).0
+
+    go : (x : Bool) → eqb b k ≡ x → (((r : List ℕ) → t ≡ p ++ r → ⊥) → value_part p (first_line t) ≡ []) → value_part (k ∷ p) (first_line (b ∷ t)) ≡ []
+    go true x f = value_on k p b t feed x ∙ f (λ r q. e r (ap₂ (λ (c : ℕ) (l : List ℕ). c ∷ l) (eqb-true b k x) q))
+    go false x f = value-off k p b t feed x
 
 -- a line whose value has digits is as long as the key, the digits and the line feed
 pub line-length : (p t : List ℕ) → 1 ≤ length (value_part p (first_line t)) → line_len t ≡ length p + length (value_part p (first_line t)) + 1

@@ -1,78 +1,92 @@
--- Laws of reading: what is taken from a text in each case, the walk's next turn by what was taken, and how a list is handed over.
-use Rattle.std.proofs.Common.{◌≡◌, ℕ, ◌+◌, ◌-◌, ◌<◌, ◌≤◌, Bool, true, false, cond, ◌&&◌, T, eqb, ltb, List, [], ◌∷◌, ◌++◌, length, take, drop, sym, refl, ap, ◌∙◌, true≢false, arith, length-append, length-drop, length-take, drop-drop, ltb-false, ltb-true, le-ltb, eq-eqb, ne_eqb}
+-- Laws of reading: what is taken from the rest of a text in each case, the walk's next turn by what was taken, and how a list is handed over.
+use Rattle.std.proofs.Common.{◌≡◌, ℕ, ◌+◌, ◌-◌, ◌<◌, ◌≤◌, Bool, true, false, cond, ◌&&◌, T, eqb, ltb, List, [], ◌∷◌, ◌++◌, length, take, drop, sym, refl, ap, ◌∙◌, true≢false, arith, length-append, length-drop, length-take, length-take-le, take_all, drop-drop, ltb-false, ltb-true, le-ltb, eq-eqb, ne_eqb}
 use mathlib.Core.Option.{Option, none, some, Option-elim}
 use native.Mathlib.Decide.{ℕ_discrete}
-use lib.Seq.{drop-length, take-append_seam}
-use Rattle.model.specs.Outcome.{Outcome, good, refused, number, missing, malformed, out_of_range}
+use lib.Seq.{take-append_seam}
+use Rattle.std.specs.declared.option.Option.TheVariants.{None, Some}
+use Rattle.std.specs.declared.result.Result.TheVariants.{Ok, Err}
+use Rattle.model.specs.Outcome.{Outcome, good, refused}
+use Rattle.model.specs.declared.Cause.TheVariants.{Missing as missing, Malformed as malformed, OutOfRange as out_of_range}
 use Rattle.model.proofs.Searches.{not-true}
 use Rattle.lists.specs.Lists.{at, network_sizes}
 use Rattle.lists.proofs.Positions.{head-low}
-use Rattle.lists.specs.Answers.{done}
-use Rattle.lists.specs.declared.Answer.TheVariants.{Done, Refused}
-use Rattle.forms.specs.Line.{lines, is_remark, fits, most_remarks, is_passed, line_value}
-use Rattle.forms.specs.Form.{network_lines, field_of, admits_of, allows, second_of}
+use Rattle.lists.specs.Refusals.{counted}
+use Rattle.lists.specs.declared.refusal.Refusal.{Refusal}
+use Rattle.model.specs.declared.Cause.{Cause}
+use Rattle.model.specs.declared.Cause.TheVariants.{Malformed, OutOfRange, Missing}
+use Rattle.forms.specs.Keys.{prefix_of}
+use Rattle.forms.specs.Line.{value_part, lines, is_remark, fits, most_remarks, is_passed, line_value}
+use Rattle.forms.specs.Form.{Field, is_hex, network_lines, field_of, admits_of, allows, second_of}
 use Rattle.forms.proofs.Forms.{lines-in-head, edition-kept, sizes-kept}
 use Rattle.forms.specs.Turns.{walk_lines, at_end, at_item}
 use Rattle.forms.specs.declared.form.Form.{Form}
+use Rattle.forms.specs.declared.form.Line.{Line}
 use Rattle.forms.specs.declared.form.Range.{Range}
-use Rattle.forms.specs.declared.form.Field.{Field}
-use Rattle.forms.specs.declared.form.Field.TheVariants.{Line, End}
+use Rattle.forms.proofs.Numbers.{some-digits}
 use Rattle.forms.proofs.Values.{value-real-line}
-use Rattle.readers.specs.Line.{line_len, first_line, after_remark}
-use Rattle.readers.specs.declared.line.Remark.TheVariants.{Ends, OutOfOrder}
-use Rattle.readers.specs.Read.{taken_of, next_of, answer_of, NoNumber, in_head, body_of, Fits, head_read, field_by, onward, Holds}
-use Rattle.readers.specs.declared.read.Body.{Body}
-use Rattle.readers.specs.declared.read.Body.TheVariants.{Unknown, Known}
+use Rattle.readers.specs.Line.{line_len, first_line, remark_len, Parsed}
+use Rattle.readers.specs.declared.line.Value.{Value}
+use Rattle.readers.specs.Read.{taken_of, next_of, NoNumber, in_head, Body, body_of, Fits, head_read, field_by, onward, Holds}
 use Rattle.readers.specs.declared.read.Taken.{Taken}
 use Rattle.readers.specs.declared.read.Taken.TheVariants.{Number, Stop, Ended}
-use Rattle.readers.proofs.Lines.{lines-some, line-some, line-within}
+use Rattle.readers.proofs.Lines.{line-length, lines-some, line-some, line-within}
+
+-- the rest of a text
+pub rest-is : (text : List ℕ) (at : ℕ) → take (length text - at) (drop at text) ≡ drop at text
+rest-is text at = take_all (length text - at) (drop at text) (omega (arith, length-drop at text))
 
 -- ---- what is taken
 
-module _ (k : ℕ) (r : Range) (text : List ℕ) (at : ℕ) where
-  pub taken-missing : at ≡ length text → taken_of k r text at ≡ Stop 3
+module _ (l : Line) (text : List ℕ) where
+  pub taken-missing : length text ≡ 0 → taken_of l text ≡ Stop Missing
   unfolding taken_of
-  taken-missing e = rw (eq-eqb at (length text) e)
+  taken-missing e = rw (eq-eqb (length text) 0 e)
 
-  module _ (more : at ≡ length text → ⊥) where
-    pub taken-malformed : line_value k r (first_line (drop at text)) ≡ none → taken_of k r text at ≡ Stop 1
+  module _ (more : length text ≡ 0 → ⊥) where
+    pub taken-malformed : line_value l.key l.range (first_line text) ≡ none → taken_of l text ≡ Stop Malformed
     unfolding taken_of Option-elim
-    taken-malformed m = rw (ne_eqb at (length text) more, m)
+    taken-malformed m = rw (ne_eqb (length text) 0 more, m)
 
-    pub taken-number : (v : ℕ) → line_value k r (first_line (drop at text)) ≡ some v → admits_of r v ≡ true → taken_of k r text at ≡ Number v (at + line_len (drop at text))
+    pub taken-number : (v : ℕ) → line_value l.key l.range (first_line text) ≡ some v → admits_of l.range v ≡ true → taken_of l text ≡ Number v (line_len text)
     unfolding taken_of Option-elim
-    taken-number v m a = rw (ne_eqb at (length text) more, m, a)
+    taken-number v m a = rw (ne_eqb (length text) 0 more, m, a)
 
-    pub taken-outside : (v : ℕ) → line_value k r (first_line (drop at text)) ≡ some v → admits_of r v ≡ false → taken_of k r text at ≡ Stop 2
+    pub taken-outside : (v : ℕ) → line_value l.key l.range (first_line text) ≡ some v → admits_of l.range v ≡ false → taken_of l text ≡ Stop OutOfRange
     unfolding taken_of Option-elim
-    taken-outside v m a = rw (ne_eqb at (length text) more, m, a)
+    taken-outside v m a = rw (ne_eqb (length text) 0 more, m, a)
 
--- where the form ends
-module _ (d : Field) (text : List ℕ) (at : ℕ) (f : d ≡ End) where
-  pub next-ended : at ≡ length text → next_of d text at ≡ Ended
-  next-ended e = rw (f, eq-eqb at (length text) e)
+-- what the line reader hands back of a line, by the line's key and range
+pub record Read (l : Line) (text key : List ℕ) (d : Value) : Type 0 where
+  pub value : line_value l.key l.range (first_line text) ≡ some d.number
+  pub bytes : length key + length d.digits.now + 1 ≡ line_len text
 
-  pub next-many : (at ≡ length text → ⊥) → next_of d text at ≡ Stop 3
-  next-many e = rw (f, ne_eqb at (length text) e)
+module _ (l : Line) (text key : List ℕ) (named : key ≡ prefix_of l.key) (hex : Bool) (is : hex ≡ is_hex l.range) where
+  pub none-read : (length text ≡ 0 → ⊥) → Parsed hex (value_part key (first_line text)) None → taken_of l text ≡ Stop Malformed
+  none-read more p = taken-malformed l text more (rw (named, is) at p)
+
+  pub some-read : (d : Value) → Parsed hex (value_part key (first_line text)) (Some d) → Read l text key d
+  some-read d p =
+      let q = rw (named, is) at p in
+      let some' : 1 ≤ length (value_part (prefix_of l.key) (first_line text)) = some-digits (is_hex l.range) _ d.number q.0 in
+      record { value = q.0; bytes = omega (arith, line-length (prefix_of l.key) text some', ap length q.1, ap length named) }
 
 -- the line at `at` ends within the text
-pub line-ends : (text : List ℕ) (at : ℕ) → at < length text → (at < at + line_len (drop at text)) × (at + line_len (drop at text) ≤ length text)
+pub line-ends : (text : List ℕ) (at : ℕ) → at < length text → (0 < line_len (drop at text)) × (at + line_len (drop at text) ≤ length text)
 line-ends text at h =
-    let some : 0 < line_len (drop at text) = line-some (drop at text) (simp length-drop (omega arith)) in
     let fits : line_len (drop at text) ≤ length text - at = simp length-drop at (line-within (drop at text)) in
-    (omega arith, omega arith)
+    (line-some (drop at text) (simp length-drop (omega arith)), omega arith)
 
 -- a remark that is in order is passed over to where its line ends
-module _ (text : List ℕ) (at c next : ℕ) (is : after_remark text at c ≡ Ends next) where
-  passes : (is_passed c (first_line (drop at text)) ≡ true) × (at + line_len (drop at text) ≡ next)
-  unfolding after_remark
+module _ (text : List ℕ) (at c n : ℕ) (is : remark_len (drop at text) c ≡ Some n) where
+  passes : (is_passed c (first_line (drop at text)) ≡ true) × (line_len (drop at text) ≡ n)
+  unfolding remark_len
   passes = go (is_passed c (first_line (drop at text))) is
     where
-      go : (b : Bool) → cond b (Ends (at + line_len (drop at text))) OutOfOrder ≡ Ends next → (b ≡ true) × (at + line_len (drop at text) ≡ next)
+      go : (b : Bool) → cond b (Some (line_len (drop at text))) None ≡ Some n → (b ≡ true) × (line_len (drop at text) ≡ n)
       go true e = (refl, cc)
       go false e = let z : ◌≡◌ {A = ℕ} 0 1 = cc in absurd (omega arith)
 
-  pub past-facts : at < length text → (at < next) × ((next ≤ length text) × (c < most_remarks))
+  pub past-facts : at < length text → (0 < n) × ((at + n ≤ length text) × (c < most_remarks))
   past-facts h =
       let p = line-ends text at h in
       (omega (arith, p.0, passes.1), (omega (arith, p.1, passes.1), few (ltb c most_remarks) refl passes.0))
@@ -83,9 +97,10 @@ module _ (text : List ℕ) (at c next : ℕ) (is : after_remark text at c ≡ En
 
 -- ---- the walk, where no lines are left
 
-walk_none : (form : Form) (n c : ℕ) (done' text : List ℕ) (at : ℕ) → at ≡ length text → walk_lines form n c done' (lines (drop at text)) ≡ at_end form n done'
+walk_none : (form : Form) (n c : ℕ) (done' text : List ℕ) → length text ≡ 0 → walk_lines form n c done' (lines text) ≡ at_end form n done'
 unfolding walk_lines lines
-walk_none form n c done' text at e = rw (e, drop-length text)
+walk_none form n c done' [] e = refl
+walk_none form n c done' (b ∷ t) e = absurd (omega arith)
 
 -- ---- and where the next line is a remark, or a real line
 
@@ -103,65 +118,71 @@ module _ (form : Form) (n c : ℕ) (done' text : List ℕ) (at : ℕ) (h : at < 
   -- a remark that is not in order, and one that is
   module _ (remark : is_remark form (first_line (drop at text)) ≡ true) where
     abbrev after : ℕ
-    after = at + line_len (drop at text)
+    after = line_len (drop at text)
 
-    pub walk-disorder : after_remark text at c ≡ OutOfOrder → walk_lines form n c done' (lines (drop at text)) ≡ refused malformed n (second_of form)
-    unfolding after_remark
+    pub walk-disorder : remark_len (drop at text) c ≡ None → walk_lines form n c done' (lines (drop at text)) ≡ refused malformed n (second_of form)
+    unfolding remark_len
     walk-disorder e = walk_first true remark ∙ go (is_passed c (first_line (drop at text))) e
       where
-        go : (b : Bool) → cond b (Ends after) OutOfOrder ≡ OutOfOrder
-            → cond b (walk_lines form (n + 1) (c + 1) done' (lines (drop after text))) (refused malformed n (second_of form)) ≡ refused malformed n (second_of form)
+        go : (b : Bool) → cond b (Some after) None ≡ None
+            → cond b (walk_lines form (n + 1) (c + 1) done' (lines (drop (at + after) text))) (refused malformed n (second_of form)) ≡ refused malformed n (second_of form)
         go true e = let z : ◌≡◌ {A = ℕ} 0 1 = cc in absurd (omega arith)
         go false e = refl
 
-    pub walk-past : (next : ℕ) → after_remark text at c ≡ Ends next → walk_lines form n c done' (lines (drop at text)) ≡ walk_lines form (n + 1) (c + 1) done' (lines (drop next text))
-    walk-past next is = let p = passes text at c next is in walk_first true remark ∙ rw (p.0, p.1)
+    pub walk-past : (m : ℕ) → remark_len (drop at text) c ≡ Some m → walk_lines form n c done' (lines (drop at text)) ≡ walk_lines form (n + 1) (c + 1) done' (lines (drop (at + m) text))
+    walk-past m is = let p = passes text at c m is in walk_first true remark ∙ rw (p.0, p.1)
 
 -- after a remark that is passed over the reading goes on
-pub onward-past : (form : Form) (text vals : List ℕ) (i at remarks next : ℕ) → at < length text → is_remark form (first_line (drop at text)) ≡ true → after_remark text at remarks ≡ Ends next
-    → onward form text vals i at remarks ≡ onward form text vals i next (remarks + 1)
-onward-past form text vals i at remarks next h remark is =
+pub onward-past : (form : Form) (text vals : List ℕ) (i at remarks m : ℕ) → at < length text → is_remark form (first_line (drop at text)) ≡ true → remark_len (drop at text) remarks ≡ Some m
+    → onward form text vals i at remarks ≡ onward form text vals i (at + m) (remarks + 1)
+onward-past form text vals i at remarks m h remark is =
     let n : i + remarks + 1 + 1 ≡ i + (remarks + 1) + 1 = omega arith in
-    rw (← n) (walk-past form (i + remarks + 1) remarks (take i vals) text at h remark next is)
+    rw (← n) (walk-past form (i + remarks + 1) remarks (take i vals) text at h remark m is)
 
 -- ---- the walk, by what the next line gives
 
-module _ (form : Form) (n c : ℕ) (done' text : List ℕ) where
+abbrev pub refusal_of : Cause → ℕ → ℕ → Refusal
+refusal_of cause n second = record { cause = cause; place = n; second = second }
+
+module _ (form : Form) (n c : ℕ) (done' text : List ℕ) (at : ℕ) where
   -- what the walk comes to
-  abbrev go_on : Taken → Outcome (List ℕ) → Type 0
-  go_on (Number v next) o = o ≡ walk_lines form (n + 1) c (done' ++ (v ∷ [])) (lines (drop next text))
-  go_on (Stop m) o = done o ≡ Refused m n (second_of form)
+  abbrev pub go_on : Taken → Outcome (List ℕ) → Type 0
+  go_on (Number v m) o = o ≡ walk_lines form (n + 1) c (done' ++ (v ∷ [])) (lines (drop (at + m) text))
+  go_on (Stop cause) o = counted o ≡ Err (refusal_of cause n (second_of form))
   go_on Ended o = o ≡ good done'
 
-  by-range : (next v : ℕ) (b : Bool)
-      → go_on (cond b (Number v next) (Stop 2)) (cond b (walk_lines form (n + 1) c (done' ++ (v ∷ [])) (lines (drop next text))) (refused out_of_range n (second_of form)))
-  by-range next v true = refl
-  by-range next v false = refl
+  by-range : (m v : ℕ) (b : Bool)
+      → go_on (cond b (Number v m) (Stop OutOfRange)) (cond b (walk_lines form (n + 1) c (done' ++ (v ∷ [])) (lines (drop (at + m) text))) (refused out_of_range n (second_of form)))
+  by-range m v true = refl
+  by-range m v false = refl
 
-  by_value : (next : ℕ) (r : Range) (x : Option ℕ)
-      → go_on (Option-elim x (Stop 1) (λ v. cond (admits_of r v) (Number v next) (Stop 2)))
-      (Option-elim x (refused malformed n (second_of form)) (λ v. cond (admits_of r v) (walk_lines form (n + 1) c (done' ++ (v ∷ [])) (lines (drop next text))) (refused out_of_range n (second_of form))))
+  by_value : (m : ℕ) (r : Range) (x : Option ℕ)
+      → go_on (Option-elim x (Stop Malformed) (λ v. cond (admits_of r v) (Number v m) (Stop OutOfRange)))
+      (Option-elim x (refused malformed n (second_of form)) (λ v. cond (admits_of r v) (walk_lines form (n + 1) c (done' ++ (v ∷ [])) (lines (drop (at + m) text))) (refused out_of_range n (second_of form))))
   unfolding Option-elim
-  by_value next r none = refl
-  by_value next r (some v) = by-range next v (admits_of r v)
+  by_value m r none = refl
+  by_value m r (some v) = by-range m v (admits_of r v)
 
   -- a real line, or the text's end
-  module _ (at : ℕ) (h : at ≤ length text) (real : is_remark form (first_line (drop at text)) ≡ false) where
-    walk-next : (d : Field) → field_of form done' ≡ d → go_on (next_of d text at) (walk_lines form n c done' (lines (drop at text)))
+  module _ (real : is_remark form (first_line (drop at text)) ≡ false) where
+    pub walk-next : (d : Field) → field_of form done' ≡ d → go_on (next_of d (drop at text)) (walk_lines form n c done' (lines (drop at text)))
     unfolding taken_of
-    walk-next d f = go (ℕ_discrete at (length text)) d f
+    walk-next d f = go (ℕ_discrete (length (drop at text)) 0) d f
       where
-        go : Dec (at ≡ length text) → (d : Field) → field_of form done' ≡ d → go_on (next_of d text at) (walk_lines form n c done' (lines (drop at text)))
-        go (yes e) End f = rw (eq-eqb at (length text) e) (walk_none form n c done' text at e ∙ rw f)
-        go (yes e) (Line k r) f =
-            let w : walk_lines form n c done' (lines (drop at text)) ≡ refused missing n (second_of form) = walk_none form n c done' text at e ∙ rw f in
-            rw (eq-eqb at (length text) e) (ap done w)
-        go (no e) End f =
-            let w : walk_lines form n c done' (lines (drop at text)) ≡ refused missing n (second_of form) = walk_first form n c done' text at (omega arith) false real ∙ rw f in
-            rw (ne_eqb at (length text) e) (ap done w)
-        go (no e) (Line k r) f =
-            rw (ne_eqb at (length text) e, walk_first form n c done' text at (omega arith) false real, f)
-            (by_value (at + line_len (drop at text)) r (line_value k r (first_line (drop at text))))
+        go : Dec (length (drop at text) ≡ 0) → (d : Field) → field_of form done' ≡ d → go_on (next_of d (drop at text)) (walk_lines form n c done' (lines (drop at text)))
+        go (yes e) None f = rw (eq-eqb (length (drop at text)) 0 e) (walk_none form n c done' (drop at text) e ∙ rw f)
+        go (yes e) (Some l) f =
+            let w : walk_lines form n c done' (lines (drop at text)) ≡ refused missing n (second_of form) = walk_none form n c done' (drop at text) e ∙ rw f in
+            rw (eq-eqb (length (drop at text)) 0 e) (ap counted w)
+        go (no e) None f =
+            let w : walk_lines form n c done' (lines (drop at text)) ≡ refused missing n (second_of form) = walk_first form n c done' text at (omega (arith, length-drop at text)) false real ∙ rw f in
+            rw (ne_eqb (length (drop at text)) 0 e) (ap counted w)
+        go (no e) (Some l) f =
+            rw (ne_eqb (length (drop at text)) 0 e, walk_first form n c done' text at (omega (arith, length-drop at text)) false real, f)
+            (by_value (line_len (drop at text)) l.range (line_value l.key l.range (first_line (drop at text))))
+
+    pub walk-taken : (t : Taken) → next_of (field_of form done') (drop at text) ≡ t → go_on t (walk_lines form n c done' (lines (drop at text)))
+    walk-taken t e = rw e at (walk-next (field_of form done') refl)
 
 -- ---- the head of a network, then its body
 
@@ -180,118 +201,94 @@ more-sizes l v e =
     )
 
 pub fits_more : (form : Form) (b : Body) (l : List ℕ) (v : ℕ) → Fits form b l → Fits form b (l ++ (v ∷ []))
-fits_more Form.Network Unknown l v f = tt
-fits_more Form.Network (Known n) l v f = let m = more-sizes l v f.0 in (m.0, f.1 ∙ m.1)
+fits_more Form.Network None l v f = tt
+fits_more Form.Network (Some n) l v f = let m = more-sizes l v f.0 in (m.0, f.1 ∙ m.1)
 fits_more Form.Plan b l v f = tt
 fits_more Form.Rules b l v f = tt
 
-pub fits-own : (form : Form) (b : Body) (l : List ℕ) → b ≡ body_of form l → Fits form b l
-fits-own Form.Network b l e = rw e (go (in_head l) refl)
-  where
-    go : (h : Bool) → in_head l ≡ h → Fits Form.Network (cond h Unknown (Known (network_sizes l))) l
-    go true k = tt
-    go false k = (k, refl)
-fits-own Form.Plan b l e = tt
-fits-own Form.Rules b l e = tt
-
--- a head that has been read since has more numbers than there were
-pub read_more : (form : Form) (b : Body) (l m : List ℕ) → b ≡ body_of form l → head_read form b m ≡ true → l ≡ m → ⊥
-read_more Form.Network b l m e h k = go (in_head l) refl (rw e at h)
-  where
-    go : (x : Bool) → in_head l ≡ x → head_read Form.Network (cond x Unknown (Known (network_sizes l))) m ≡ true → ⊥
-    go true y r = true≢false (sym y ∙ ap in_head k ∙ not-true (in_head m) r)
-    go false y r = true≢false (sym r)
-read_more Form.Plan b l m e h k = true≢false (sym h)
-read_more Form.Rules b l m e h k = true≢false (sym h)
-
 -- where a number is given, the field is the form's
-pub number-field : (form : Form) (b : Body) (l text : List ℕ) (at v next : ℕ) → next_of (field_by form b l) text at ≡ Number v next → field_by form b l ≡ field_of form l
-number-field form b l text at v next e = go (head_read form b l) refl e
+pub number-field : (form : Form) (b : Body) (l text : List ℕ) (v m : ℕ) → next_of (field_by form b l) text ≡ Number v m → field_by form b l ≡ field_of form l
+number-field form b l text v m e = go (head_read form b l) refl e
   where
-    none : (x : Bool) → cond x Ended (Stop (number missing)) ≡ Number v next → ⊥
+    none : (x : Bool) → cond x Ended (Stop Missing) ≡ Number v m → ⊥
     none true z = let y : ◌≡◌ {A = ℕ} 0 1 = cc in omega arith
     none false z = let y : ◌≡◌ {A = ℕ} 0 1 = cc in omega arith
 
-    go : (h : Bool) → head_read form b l ≡ h → next_of (cond h End (field_of form l)) text at ≡ Number v next → cond (head_read form b l) End (field_of form l) ≡ field_of form l
-    go true k z = absurd (none (eqb at (length text)) z)
+    go : (h : Bool) → head_read form b l ≡ h → next_of (cond h None (field_of form l)) text ≡ Number v m → cond (head_read form b l) None (field_of form l) ≡ field_of form l
+    go true k z = absurd (none (eqb (length text) 0) z)
     go false k z = rw k refl
 
 -- ---- what is known of a number that a line gives
 
-pub record Given (d : Field) (text : List ℕ) (at v next : ℕ) : Type 0 where
-  pub later : at < next
-  pub within : next ≤ length text
+pub record Given (d : Field) (text : List ℕ) (at v m : ℕ) : Type 0 where
+  pub later : 0 < m
+  pub within : at + m ≤ length text
   pub allowed : T (allows d v)
   -- the line is no remark
   pub real : (form : Form) → is_remark form (first_line (drop at text)) ≡ false
 
 abbrev Facts : Field → List ℕ → ℕ → Taken → Type 0
-Facts d text at (Number v next) = Given d text at v next
-Facts d text at (Stop m) = Unit {0}
+Facts d text at (Number v m) = Given d text at v m
+Facts d text at (Stop cause) = Unit {0}
 Facts d text at Ended = Unit {0}
 
-line-facts : (k : ℕ) (r : Range) (text : List ℕ) (at : ℕ) → at < length text → (x : Option ℕ) → line_value k r (first_line (drop at text)) ≡ x
-    → Facts (Line k r) text at (Option-elim x (Stop 1) (λ v. cond (admits_of r v) (Number v (at + line_len (drop at text))) (Stop 2)))
+line-facts : (l : Line) (text : List ℕ) (at : ℕ) → at < length text → (x : Option ℕ) → line_value l.key l.range (first_line (drop at text)) ≡ x
+    → Facts (Some l) text at (Option-elim x (Stop Malformed) (λ v. cond (admits_of l.range v) (Number v (line_len (drop at text))) (Stop OutOfRange)))
 unfolding Option-elim
-line-facts k r text at h none x = tt
-line-facts k r text at h (some v) x = go (admits_of r v) refl
+line-facts l text at h none x = tt
+line-facts l text at h (some v) x = go (admits_of l.range v) refl
   where
-    go : (b : Bool) → admits_of r v ≡ b → Facts (Line k r) text at (cond b (Number v (at + line_len (drop at text))) (Stop 2))
+    go : (b : Bool) → admits_of l.range v ≡ b → Facts (Some l) text at (cond b (Number v (line_len (drop at text))) (Stop OutOfRange))
     go true a =
         let p = line-ends text at h in
-        record { later = p.0; within = p.1; allowed = rw a tt; real = λ form. value-real-line form k r (first_line (drop at text)) v x }
+        record { later = p.0; within = p.1; allowed = rw a tt; real = λ form. value-real-line form l.key l.range (first_line (drop at text)) v x }
     go false a = tt
 
-facts : (d : Field) (text : List ℕ) (at : ℕ) → at ≤ length text → Facts d text at (next_of d text at)
+facts : (d : Field) (text : List ℕ) (at : ℕ) → Facts d text at (next_of d (drop at text))
 unfolding taken_of
-facts d text at h = go (ℕ_discrete at (length text)) d
+facts d text at = go (ℕ_discrete (length (drop at text)) 0) d
   where
-    go : Dec (at ≡ length text) → (d : Field) → Facts d text at (next_of d text at)
-    go (yes e) End = rw (eq-eqb at (length text) e) tt
-    go (yes e) (Line k r) = rw (eq-eqb at (length text) e) tt
-    go (no e) End = rw (ne_eqb at (length text) e) tt
-    go (no e) (Line k r) = rw (ne_eqb at (length text) e) (line-facts k r text at (omega arith) (line_value k r (first_line (drop at text))) refl)
+    go : Dec (length (drop at text) ≡ 0) → (d : Field) → Facts d text at (next_of d (drop at text))
+    go (yes e) None = rw (eq-eqb (length (drop at text)) 0 e) tt
+    go (yes e) (Some l) = rw (eq-eqb (length (drop at text)) 0 e) tt
+    go (no e) None = rw (ne_eqb (length (drop at text)) 0 e) tt
+    go (no e) (Some l) =
+        rw (ne_eqb (length (drop at text)) 0 e) (line-facts l text at (omega (arith, length-drop at text)) (line_value l.key l.range (first_line (drop at text))) refl)
 
-pub given : (d : Field) (text : List ℕ) (at v next : ℕ) → at ≤ length text → next_of d text at ≡ Number v next → Given d text at v next
-given d text at v next h e = rw e at (facts d text at h)
+pub given : (d : Field) (text : List ℕ) (at v m : ℕ) → next_of d (drop at text) ≡ Number v m → Given d text at v m
+given d text at v m e = rw e at (facts d text at)
 
 -- the reading goes on with it
-pub onward-number : (form : Form) (text vals after : List ℕ) (i at v next remarks : ℕ) → at ≤ length text → next_of (field_of form (take i vals)) text at ≡ Number v next
-    → take (i + 1) after ≡ take i vals ++ (v ∷ []) → onward form text vals i at remarks ≡ onward form text after (i + 1) next remarks
-onward-number form text vals after i at v next remarks h e more =
+pub onward-number : (form : Form) (text vals after : List ℕ) (i at v m remarks : ℕ) → next_of (field_of form (take i vals)) (drop at text) ≡ Number v m
+    → take (i + 1) after ≡ take i vals ++ (v ∷ []) → onward form text vals i at remarks ≡ onward form text after (i + 1) (at + m) remarks
+onward-number form text vals after i at v m remarks e more =
     let n : i + remarks + 1 + 1 ≡ i + 1 + remarks + 1 = omega arith in
-    let real = (given (field_of form (take i vals)) text at v next h e).real form in
-    let w : onward form text vals i at remarks ≡ walk_lines form (i + remarks + 1 + 1) remarks (take i vals ++ (v ∷ [])) (lines (drop next text))
-    = rw e at (walk-next form (i + remarks + 1) remarks (take i vals) text at h real (field_of form (take i vals)) refl) in
+    let real = (given (field_of form (take i vals)) text at v m e).real form in
+    let w : onward form text vals i at remarks ≡ walk_lines form (i + remarks + 1 + 1) remarks (take i vals ++ (v ∷ [])) (lines (drop (at + m) text))
+    = rw e at (walk-next form (i + remarks + 1) remarks (take i vals) text at real (field_of form (take i vals)) refl) in
     rw (more, ← n) w
 
--- ---- the answer where none is given
+-- ---- what is given where no number is
 
 -- where a text is refused, the list may have anything
-pub holds-refused : (o : Outcome (List ℕ)) (m place second : ℕ) (vals : List ℕ) → done o ≡ Refused m place second → Holds o vals
-holds-refused (good l) m place second vals e = let z : ◌≡◌ {A = ℕ} 0 1 = cc in absurd (omega arith)
-holds-refused (refused c a b) m place second vals e = tt
+pub holds-refused : (o : Outcome (List ℕ)) (e : Refusal) (vals : List ℕ) → counted o ≡ Err e → Holds o vals
+holds-refused (good l) e vals q = let z : ◌≡◌ {A = ℕ} 0 1 = cc in absurd (omega arith)
+holds-refused (refused c a b) e vals q = tt
 
--- what the `else` of `let Taken::Number(v, next) = t else { .. }` knows
-pub no_number : (t : Taken) → ((v next : ℕ) → t ≡ Number v next → ⊥) → NoNumber t
-no_number (Number v next) k = absurd (k v next refl)
-no_number (Stop m) k = tt
-no_number Ended k = tt
+-- what the `else` of `let Taken::Stop(cause) = t else { .. }` knows
+pub ended : (t : Taken) → NoNumber t → ((cause : Cause) → t ≡ Stop cause → ⊥) → t ≡ Ended
+ended (Number v m) k s = absurd k
+ended (Stop cause) k s = absurd (s cause refl)
+ended Ended k s = refl
 
-answered : (form : Form) (n c : ℕ) (text vals : List ℕ) (i : ℕ) → length (take i vals) ≡ i → (t : Taken) → NoNumber t → (o : Outcome (List ℕ))
-    → go_on form n c (take i vals) text t o → (answer_of t i n (second_of form) ≡ done o) × Holds o vals
-answered form n c text vals i size (Number v next) k o g = absurd k
-answered form n c text vals i size (Stop m) k o g = (sym g, holds-refused o m n (second_of form) vals g)
-answered form n c text vals i size Ended k o g = (sym (ap done g ∙ ap Done size), rw g (ap (λ (m : ℕ). take m vals) size))
-
-pub walk-answer : (form : Form) (n c : ℕ) (text vals : List ℕ) (at i : ℕ) → length (take i vals) ≡ i → at ≤ length text → is_remark form (first_line (drop at text)) ≡ false
-    → (t : Taken) → next_of (field_of form (take i vals)) text at ≡ t → NoNumber t
-    → (answer_of t i n (second_of form) ≡ done (walk_lines form n c (take i vals) (lines (drop at text)))) × Holds (walk_lines form n c (take i vals) (lines (drop at text))) vals
-walk-answer form n c text vals at i size h real t e k =
-    answered form n c text vals i size t k _ (rw e at (walk-next form n c (take i vals) text at h real (field_of form (take i vals)) refl))
+-- at the end of the text all numbers are read
+pub all-read : (o : Outcome (List ℕ)) (vals : List ℕ) (i : ℕ) → i ≤ length vals → o ≡ good (take i vals) → (counted o ≡ Ok i) × Holds o vals
+all-read o vals i h e =
+    let size : length (take i vals) ≡ i = length-take-le i vals h in
+    (ap counted e ∙ ap Ok size, rw e (ap (λ (m : ℕ). take m vals) size))
 
 -- the numbers that were read
-pub lines-read : (o : Outcome (List ℕ)) (vals : List ℕ) (n : ℕ) → done o ≡ Done n → Holds o vals → (o ≡ good (take n vals)) × (n ≤ length vals)
+pub lines-read : (o : Outcome (List ℕ)) (vals : List ℕ) (n : ℕ) → counted o ≡ Ok n → Holds o vals → (o ≡ good (take n vals)) × (n ≤ length vals)
 lines-read (good l) vals n e h =
     let size : length l ≡ n = cc in
     let k : length (take (length l) vals) ≡ length l = ap length h in

@@ -1,249 +1,151 @@
 // The line reader: the part of a line that is its value, and the number that the part is, in one pass over the digits; and
-// where a remark ends.
-ghost use Rattle.std.specs.Prelude.{◌≡◌, ◌+◌, ◌<◌, ◌≤◌, T, length, drop, slice_index};
-ghost use Rattle.forms.specs.Line.{is_remark, value_part, digit_of, decimal_of, hex_of};
+// where a remark ends. Each function is given what is left of the text.
+ghost use Rattle.std.specs.Prelude.{◌≡◌, T, true, false};
+ghost use Rattle.forms.specs.Line.{is_remark, value_part, digit_of};
 ghost use Rattle.forms.specs.Turns.{hashed, no_feeds};
-ghost use Rattle.readers.specs.Line.{FourBytes, prefixed, digit_table, first_line, value_at, number_of, value_of, Leading, Parsed, after_remark};
+ghost use Rattle.readers.specs.Line.{AfterKey, first_line, value_first, Leading, Parsed, remark_len};
 
-use forms::form;
 use forms::form::Form;
-use std::num;
 
 // The most remarks in a text, and the most bytes of one before its line feed.
 const REMARKS: usize = 32;
 
 const IN_REMARK: usize = 80;
 
-// What a value is: a number, with the place where its digits end.
+// A value: the digits as they stand in the text, and the number that they are.
 #[derive(Clone, Copy)]
-enum Value {
-    Is(u64, usize),
-    Malformed,
+pub(crate) struct Value<'a> {
+    pub(crate) digits: &'a [u8],
+    pub(crate) number: u64,
 }
 
-// Some digits: the number that they are, and where they end.
-#[derive(Clone, Copy)]
-struct Run {
-    number: u64,
-    to: usize,
-}
-
-// The byte at `at`.
-fn byte(bytes: &[u8], at: usize) -> u64
-    requires { at < length bytes.now }
-    ensures { (result ≡ slice_index bytes.now at) × (result < 256) }
+// What stands after a key that stands first. A loop of the readers' own, which the compiler puts into theirs: `strip_prefix` would
+// stay a call for each line.
+fn after_key<'a>(text: &'a [u8], key: &[u8]) -> Option<&'a [u8]>
+    ensures { AfterKey key.now text.now result }
 {
-    bytes[at] as u64
-}
-
-// The four bytes that stand at `at` as one number, the first the lowest, which the compiler makes one load.
-fn four_bytes(bytes: &[u8], at: usize) -> u64
-    requires { at + 4 ≤ length bytes.now }
-    ensures { FourBytes bytes.now at result }
-{
-    let low = byte(bytes, at) + byte(bytes, at + 1) * 0x100;
-    let high = byte(bytes, at + 2) + byte(bytes, at + 3) * 0x100;
-    low + high * 0x10000
-}
-
-// Whether the bytes of a key from `from` on stand where they are to, if the key begins at `at`.
-fn goes_on(text: &[u8], at: usize, key: &[u8], from: usize) -> bool
-    requires { (at + length key.now ≤ length text.now) × (from ≤ length key.now) }
-    ensures { result ≡ prefixed (drop from key.now) (drop (at + from) text.now) }
-{
-    let mut i = from;
-    while i < key.len() {
-        if text[at + i] != key[i] {
-            return false;
+    if text.len() < key.len() {
+        return None;
+    }
+    for i in 0..key.len() {
+        if text[i] != key[i] {
+            return None;
         }
-        i += 1;
     }
-    true
+    Some(&text[key.len()..])
 }
 
-// Whether a key stands at `at`. All keys but one have four bytes or more, and these are compared at once.
-fn begins(text: &[u8], at: usize, key: &[u8]) -> bool
-    requires { at ≤ length text.now }
-    ensures { result ≡ prefixed key.now (drop at text.now) }
+// The decimal digits that stand first, at most 10. Loops over digits go by a count with a constant end, so that the compiler
+// unrolls them.
+fn leading_digits(text: &[u8]) -> Value<'_>
+    ensures { Leading text.now result.number result.digits.now }
 {
-    let n = key.len();
-    if text.len() - at < n {
-        return false;
-    }
-    if n < 4 {
-        return goes_on(text, at, key, 0);
-    }
-    if four_bytes(text, at) != four_bytes(key, 0) {
-        return false;
-    }
-    goes_on(text, at, key, 4)
-}
-
-// The decimal digits that stand from `from` on, at most 10. Loops over digits go by a count with a constant end, so that the
-// compiler unrolls them.
-fn leading_digits(text: &[u8], from: usize) -> Run
-    requires { from ≤ length text.now }
-    ensures { Leading text.now from result.number result.to }
-{
-    let mut v: u64 = 0;
-    let mut n: usize = 0;
-    while n < 10 {
-        let to = from + n;
-        if to == text.len() {
-            return Run { number: v, to };
+    let mut number: u64 = 0;
+    for i in 0..10 {
+        if i == text.len() || !text[i].is_ascii_digit() {
+            return Value {
+                digits: &text[..i],
+                number,
+            };
         }
-        let x = num::wrapping_sub_u8(text[to], 48);
-        if 10 <= x {
-            return Run { number: v, to };
-        }
-        v = v * 10 + x as u64;
-        n += 1;
+        number = number * 10 + (text[i] - b'0') as u64;
     }
-    let to = from + 10;
-    Run { number: v, to }
+    Value {
+        digits: &text[..10],
+        number,
+    }
 }
 
-fn decimal(text: &[u8], from: usize) -> Value
-    requires { from ≤ length text.now }
-    ensures { result ≡ value_of (decimal_of (value_at text.now from)) (from + length (value_at text.now from)) }
+fn decimal(text: &[u8]) -> Option<Value<'_>>
+    ensures { Parsed false (value_first text.now) result }
 {
-    let run = leading_digits(text, from);
-    let to = run.to;
-    if to == text.len() {
-        return Value::Malformed;
+    let run = leading_digits(text);
+    let n = run.digits.len();
+    if n == 0 || n == text.len() || text[n] != b'\n' {
+        return None;
     }
-    if text[to] != b'\n' {
-        return Value::Malformed;
+    if n != 1 && text[0] == b'0' {
+        return None;
     }
-    if to == from {
-        return Value::Malformed;
-    }
-    if to == from + 1 {
-        return Value::Is(run.number, to);
-    }
-    if text[from] == b'0' {
-        return Value::Malformed;
-    }
-    Value::Is(run.number, to)
+    Some(run)
 }
 
 // The values of the bytes from `0` to `f` as digits, in lower case; 16 for a byte that is none. A table, since tests would be
 // mispredicted on random digits.
-const DIGITS: [u8; 55] =
+static DIGITS: [u8; 55] =
     *b"\x00\x01\x02\x03\x04\x05\x06\x07\x08\x09\x10\x10\x10\x10\x10\x10\x10\x10\x10\x10\x10\x10\x10\x10\x10\x10\x10\x10\x10\x10\x10\x10\x10\x10\x10\x10\x10\x10\x10\x10\x10\x10\x10\x10\x10\x10\x10\x10\x10\x0a\x0b\x0c\x0d\x0e\x0f";
 
-// The value of a digit; 16 for a byte that is none. A constant is copied where it is used: the caller does that once a line.
-fn digit(table: &[u8], b: u8) -> u64
-    requires { table.now ≡ digit_table }
+// The value of a digit; 16 for a byte that is none.
+fn digit(b: u8) -> u64
     ensures { result ≡ digit_of b }
 {
-    let x = num::wrapping_sub_u8(b, 48) as usize;
-    if x < table.len() { table[x] as u64 } else { 16 }
+    let x = b.wrapping_sub(b'0') as usize;
+    if x < DIGITS.len() {
+        DIGITS[x] as u64
+    } else {
+        16
+    }
 }
 
-fn hexadecimal(text: &[u8], from: usize) -> Value
-    requires { from ≤ length text.now }
-    ensures { result ≡ value_of (hex_of (value_at text.now from)) (from + length (value_at text.now from)) }
+fn hexadecimal(text: &[u8]) -> Option<Value<'_>>
+    ensures { Parsed true (value_first text.now) result }
 {
-    if text.len() - from < 17 {
-        return Value::Malformed;
+    if text.len() < 17 {
+        return None;
     }
-    let table = DIGITS;
-    let mut v: u64 = 0;
-    let mut i: usize = 0;
-    while i < 16 {
-        let x = digit(&table, text[from + i]);
+    let mut number: u64 = 0;
+    for i in 0..16 {
+        let x = digit(text[i]);
         if 16 <= x {
-            return Value::Malformed;
+            return None;
         }
-        v = v * 16 + x;
-        i += 1;
+        number = number * 16 + x;
     }
-    let to = from + 16;
-    if text[to] != b'\n' {
-        return Value::Malformed;
+    if text[16] != b'\n' {
+        return None;
     }
-    Value::Is(v, to)
+    Some(Value {
+        digits: &text[..16],
+        number,
+    })
 }
 
-// The number that stands from `from` on, in hexadecimal or in decimal.
-fn parse(text: &[u8], from: usize, hex: bool) -> Value
-    requires { from ≤ length text.now }
-    ensures { result ≡ value_of (number_of hex (value_at text.now from)) (from + length (value_at text.now from)) }
+// The digits of the first line, which are what stands between the key and the line feed. None where the line is not in its
+// form, or the text stops inside it.
+pub(crate) fn digits<'a>(text: &'a [u8], key: &[u8], hex: bool) -> Option<Value<'a>>
+    requires { T (no_feeds key.now) }
+    ensures { Parsed hex (value_part key.now (first_line text.now)) result }
 {
+    let value = after_key(text, key)?;
     if hex {
-        hexadecimal(text, from)
+        hexadecimal(value)
     } else {
-        decimal(text, from)
+        decimal(value)
     }
 }
 
-// The digits of the line at `at`, as a part of the text: what stands between the key and the line feed. The number that they
-// are goes to `number`. Nothing where the line is not in its form, or the text stops inside it.
-pub(crate) fn digits<'a>(
-    text: &'a [u8],
-    at: usize,
-    key: &[u8],
-    hex: bool,
-    number: &mut u64,
-) -> &'a [u8]
-    requires at_in_bounds { at ≤ length text.now }
-    requires t { T (no_feeds key.now) }
-    ensures { Parsed hex (value_part key.now (first_line (drop at text.now))) result.now number.new }
+// Whether the first line is a remark, a comment line.
+pub(crate) fn is_remark(form: Form, text: &[u8]) -> bool
+    ensures { result ≡ is_remark form (first_line text.now) }
 {
-    if begins(text, at, key) {
-        let from = at + key.len();
-        let Value::Is(v, to) = parse(text, from, hex) else {
-            return &text[..0];
-        };
-        *number = v;
-        &text[from..to]
-    } else {
-        &text[..0]
-    }
+    form.has_remarks() && text.starts_with(b"#")
 }
 
-// Whether the line at `at` is a remark, a comment line.
-pub(crate) fn is_remark(form: Form, text: &[u8], at: usize) -> bool
-    ensures { result ≡ is_remark form (first_line (drop at text.now)) }
-{
-    if !form::has_remarks(form) {
-        return false;
-    }
-    if at < text.len() {
-        text[at] == b'#'
-    } else {
-        false
-    }
-}
-
-// What a remark comes to: the place where the line after it begins.
-#[derive(Clone, Copy)]
-pub(crate) enum Remark {
-    Ends(usize),
-    OutOfOrder,
-}
-
-// The remark at `at`, after `before` others. It is out of order where these are too many, it is too long, or the text stops
-// inside it.
-pub(crate) fn after_remark(text: &[u8], at: usize, before: usize) -> Remark
-    requires { T (hashed (first_line (drop at text.now))) }
-    ensures { result ≡ after_remark text.now at before }
+// How many bytes the remark has that stands first, with its line feed, after `before` others. None where these are too many, it is
+// too long, or the text stops inside it.
+pub(crate) fn remark_len(text: &[u8], before: usize) -> Option<usize>
+    requires { T (hashed (first_line text.now)) }
+    ensures { result ≡ remark_len text.now before }
 {
     if REMARKS <= before {
-        return Remark::OutOfOrder;
+        return None;
     }
-    let mut n: usize = 1;
-    while n <= IN_REMARK {
-        let to = at + n;
-        if to == text.len() {
-            return Remark::OutOfOrder;
+    for n in 1..IN_REMARK + 1 {
+        match text.get(n) {
+            None => return None,
+            Some(b'\n') => return Some(n + 1),
+            Some(_) => {}
         }
-        if text[to] == b'\n' {
-            let next = to + 1;
-            return Remark::Ends(next);
-        }
-        n += 1;
     }
-    Remark::OutOfOrder
+    None
 }

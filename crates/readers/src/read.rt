@@ -1,147 +1,105 @@
 // The readers: a text's lines, one after the other, each a remark or judged for 3, then 1, then 2; then, for a network, the sums.
-ghost use Rattle.std.specs.Prelude.{◌≡◌, ◌≤◌, ◌++◌, length, take, drop};
+ghost use Rattle.std.specs.Prelude.{◌≡◌, ◌≤◌, length, take};
 ghost use Rattle.model.specs.Outcome.{Outcome};
-ghost use Rattle.lists.specs.Answers.{done, with_room, lent};
-ghost use Rattle.forms.specs.Slots.{key_bytes};
+ghost use Rattle.lists.specs.Answers.{with_room, lent};
+ghost use Rattle.lists.specs.Refusals.{counted};
 ghost use Rattle.forms.specs.Form.{second_of, most_of, Sound};
-ghost use Rattle.forms.specs.Read.{read_lines};
-ghost use Rattle.readers.specs.Read.{taken_of, next_of, answer_of, body_of, head_read, field_by, Fits, Begun, ReadOn, Holds};
+ghost use Rattle.forms.specs.Read.{read_lines, read_text};
 ghost use Rattle.forms.specs.Named.{read_network, read_plan, read_rules};
+ghost use Rattle.readers.specs.Read.{taken_of, next_of, body_of, head_read, field_by, Fits, Begun, ReadOn, Holds};
 
 use crate::line;
-use crate::line::Remark;
 use forms::form;
-use forms::form::{Field, Form, Range};
+use forms::form::{Form, Line};
 use judges::sums;
-use lists::{Answer, Network, PlanSizes, RuleTables};
+use lists::refusal::{Cause, Refusal};
+use lists::{Network, PlanSizes, RuleTables};
 
-// What the next line gives: its number and where the line after it begins, or the number of its refusal; or the text ends
-// where the form does.
+// What the next line gives: its number and how many bytes it has, or the cause of its refusal; or the text ends where the form
+// does.
 #[derive(Clone, Copy)]
 pub(crate) enum Taken {
     Number(u64, usize),
-    Stop(u64),
+    Stop(Cause),
     Ended,
 }
 
-// The line at `at`: judged for 3, then 1, then 2.
-fn take_line(keys: &[u8], text: &[u8], at: usize, key: usize, range: Range) -> Taken
-    requires keys_value { keys.now ≡ key_bytes }
-    requires at_in_bounds { at ≤ length text.now }
-    ensures { result ≡ taken_of key range text.now at }
+// The first line of what is left of the text: judged for 3, then 1, then 2.
+fn take_line(text: &[u8], line: Line) -> Taken
+    ensures { result ≡ taken_of line text.now }
 {
-    if at == text.len() {
-        return Taken::Stop(3);
+    if text.is_empty() {
+        return Taken::Stop(Cause::Missing);
     }
-    let name = form::key_part(keys, key);
-    let mut v: u64 = 0;
-    let d = line::digits(text, at, name, form::is_hex(range), &mut v);
-    if d.len() == 0 {
-        return Taken::Stop(1);
-    }
-    if form::admits(range, v) {
-        let next = at + name.len() + d.len() + 1;
-        Taken::Number(v, next)
-    } else {
-        Taken::Stop(2)
-    }
-}
-
-// The line at `at`, by what the form has there.
-fn next_line(keys: &[u8], text: &[u8], at: usize, field: Field) -> Taken
-    requires keys_value { keys.now ≡ key_bytes }
-    requires at_in_bounds { at ≤ length text.now }
-    ensures { result ≡ next_of field text.now at }
-{
-    let Field::Line(key, range) = field else {
-        if at == text.len() {
-            return Taken::Ended;
-        }
-        return Taken::Stop(3);
+    let key = line.key.text();
+    let Some(value) = line::digits(text, key, line.range.is_hex()) else {
+        return Taken::Stop(Cause::Malformed);
     };
-    take_line(keys, text, at, key, range)
+    if line.range.admits(value.number) {
+        Taken::Number(value.number, key.len() + value.digits.len() + 1)
+    } else {
+        Taken::Stop(Cause::OutOfRange)
+    }
 }
 
-fn refusal(number: u64, line: u64, form: Form) -> Answer
-    ensures { result ≡ Answer.Refused number line (second_of form) }
+// The same by what the form has there.
+fn next_line(text: &[u8], field: Option<Line>) -> Taken
+    ensures { result ≡ next_of field text.now }
 {
-    Answer::Refused {
-        number,
+    match field {
+        Some(line) => take_line(text, line),
+        None if text.is_empty() => Taken::Ended,
+        None => Taken::Stop(Cause::Missing),
+    }
+}
+
+fn refusal(cause: Cause, line: u64, form: Form) -> Refusal
+    ensures { result ≡ record { cause = cause; place = line; second = second_of form } }
+{
+    Refusal {
+        cause,
         place: line,
-        second: form::second(form),
+        second: form.second(),
     }
 }
 
-// The answer where a line gives no number, after `count` numbers.
-fn answer(taken: Taken, count: usize, line: u64, form: Form) -> Answer
-    ensures { result ≡ answer_of taken count line (second_of form) }
-{
-    match taken {
-        Taken::Number(_, _) => Answer::Done(count),
-        Taken::Stop(number) => refusal(number, line, form),
-        Taken::Ended => Answer::Done(count),
-    }
-}
-
-// What is known of the lines after a network's head: nothing while the head is read, then the sizes, which are taken out of the list once.
-#[derive(Clone, Copy)]
-pub(crate) enum Body {
-    Unknown,
-    Known(Network),
-}
-
-// What is known of them after some numbers.
-fn body_after(form: Form, done: &[u64]) -> Body
+// What is known of the lines after a network's head, after some numbers: nothing while the head is read, then the sizes, which are taken
+// out of the list once.
+fn body_after(form: Form, done: &[u64]) -> Option<Network>
     requires { Sound form done.now }
     ensures { result ≡ body_of form done.now }
 {
     match form {
-        Form::Network => {
-            if form::in_network_head(done) {
-                Body::Unknown
-            } else {
-                Body::Known(Network::of(done))
-            }
-        }
-        Form::Plan => Body::Unknown,
-        Form::Rules => Body::Unknown,
+        Form::Network if !form::in_network_head(done) => Some(Network::of(done)),
+        _ => None,
     }
 }
 
 // Whether a network's head has been read since nothing was known of what comes after it.
-fn head_read(form: Form, body: Body, done: &[u64]) -> bool
+fn head_read(form: Form, body: Option<Network>, done: &[u64]) -> bool
     ensures { result ≡ head_read form body done.now }
 {
-    match form {
-        Form::Network => match body {
-            Body::Unknown => !form::in_network_head(done),
-            Body::Known(_) => false,
-        },
-        Form::Plan => false,
-        Form::Rules => false,
+    match (form, body) {
+        (Form::Network, None) => !form::in_network_head(done),
+        _ => false,
     }
 }
 
 // What a network has after some numbers, each of which its own field allows; nothing after its head as long as its body is not known.
-fn network_field(body: Body, done: &[u64]) -> Field
+fn network_field(body: Option<Network>, done: &[u64]) -> Option<Line>
     requires { Sound Form.Network done.now × Fits Form.Network body done.now }
     ensures { result ≡ field_by Form.Network body done.now }
 {
     match body {
-        Body::Unknown => {
-            if form::in_network_head(done) {
-                form::network_head_field(done)
-            } else {
-                Field::End
-            }
-        }
-        Body::Known(sizes) => form::network_body_field(sizes, done),
+        Some(sizes) => form::network_body_field(sizes, done),
+        None if form::in_network_head(done) => form::network_head_field(done),
+        None => None,
     }
 }
 
 // The same of any form. A function of the readers, which the compiler puts into their loop: one that is called elsewhere too would stay
 // a call for each line.
-fn field_after(form: Form, body: Body, done: &[u64]) -> Field
+fn field_after(form: Form, body: Option<Network>, done: &[u64]) -> Option<Line>
     requires { Sound form done.now × Fits form body done.now }
     ensures { result ≡ field_by form body done.now }
 {
@@ -164,14 +122,12 @@ struct Stopped {
 // network's head. A remark has no number, so that no other line is asked whether it is one.
 fn read_on(
     form: Form,
-    body: Body,
-    keys: &[u8],
+    body: Option<Network>,
     text: &[u8],
     count: usize,
     from: usize,
     vals: &mut [u64],
 ) -> Stopped
-    requires keys_value { keys.now ≡ key_bytes }
     requires vals_len { length vals.old ≡ most_of form }
     requires begun { Begun form text.now vals.old count from × Fits form body (take count vals.old) }
     ensures { ReadOn form body text.now vals.old count from vals.new result }
@@ -180,8 +136,8 @@ fn read_on(
     let mut i = count;
     loop {
         let field = field_after(form, body, &vals[..i]);
-        let taken = next_line(keys, text, at, field);
-        let Taken::Number(v, next) = taken else {
+        let taken = next_line(&text[at..], field);
+        let Taken::Number(v, length) = taken else {
             return Stopped {
                 count: i,
                 at,
@@ -190,15 +146,14 @@ fn read_on(
         };
         vals[i] = v;
         i += 1;
-        at = next;
+        at += length;
     }
 }
 
-// Reads the real lines of a text into a list, and passes over its remarks. Done carries how many numbers that is.
-fn read(form: Form, keys: &[u8], text: &[u8], vals: &mut [u64]) -> Answer
-    requires keys_value { keys.now ≡ key_bytes }
-    requires vals_len { length vals.old ≡ most_of form }
-    ensures value { result ≡ done (read_lines form text.now) }
+// Reads the real lines of a text into a list, and passes over its remarks. Gives how many numbers that is.
+fn read(form: Form, text: &[u8], vals: &mut [u64]) -> Result<usize, Refusal>
+    requires { length vals.old ≡ most_of form }
+    ensures value { result ≡ counted (read_lines form text.now) }
     ensures holds { Holds (read_lines form text.now) vals.new }
 {
     let mut remarks: usize = 0;
@@ -206,98 +161,78 @@ fn read(form: Form, keys: &[u8], text: &[u8], vals: &mut [u64]) -> Answer
     let mut count: usize = 0;
     loop {
         let body = body_after(form, &vals[..count]);
-        let stopped = read_on(form, body, keys, text, count, at, vals);
+        let stopped = read_on(form, body, text, count, at, vals);
         at = stopped.at;
         count = stopped.count;
         if head_read(form, body, &vals[..count]) {
             continue;
         }
-        let taken = stopped.taken;
         let line = (count + remarks + 1) as u64;
-        if line::is_remark(form, text, at) {
-            let Remark::Ends(past) = line::after_remark(text, at, remarks) else {
-                return refusal(1, line, form);
+        let rest = &text[at..];
+        if !line::is_remark(form, rest) {
+            let Taken::Stop(cause) = stopped.taken else {
+                return Ok(count);
             };
-            remarks += 1;
-            at = past;
-        } else {
-            return answer(taken, count, line, form);
+            return Err(refusal(cause, line, form));
         }
-    }
-}
-
-// Copies a list to the front of another.
-fn copy(src: &[u64], dst: &mut [u64])
-    requires { length src.now ≤ length dst.old }
-    ensures { dst.new ≡ src.now ++ drop (length src.now) dst.old }
-{
-    let mut i: usize = 0;
-    while i < src.len() {
-        dst[i] = src[i];
-        i += 1;
+        let Some(length) = line::remark_len(rest, remarks) else {
+            return Err(refusal(Cause::Malformed, line, form));
+        };
+        remarks += 1;
+        at += length;
     }
 }
 
 // Hands a list over to the caller's, where that has room for it.
-fn give(list: &[u64], out: &mut [u64]) -> Answer
-    ensures value { result ≡ done (with_room (length out.old) (Outcome.good list.now)) }
+fn give(list: &[u64], out: &mut [u64]) -> Result<usize, Refusal>
+    ensures value { result ≡ counted (with_room (length out.old) (Outcome.good list.now)) }
     ensures out_after { out.new ≡ lent (with_room (length out.old) (Outcome.good list.now)) out.old }
 {
     let n = list.len();
     if out.len() < n {
-        return Answer::Refused {
-            number: 10,
-            place: n as u64,
-            second: 0,
-        };
+        return Err(Refusal::no_room(n));
     }
-    copy(list, out);
-    Answer::Done(n)
+    out[..n].copy_from_slice(list);
+    Ok(n)
 }
 
-// Reads a network text into a list of numbers, one for each line.
-pub fn read_network(text: &[u8], out: &mut [u64]) -> Answer
-    ensures value { result ≡ done (with_room (length out.old) (read_network text.now)) }
-    ensures out_after { out.new ≡ lent (with_room (length out.old) (read_network text.now)) out.old }
+// Reads a text into a list of numbers, one for each line, and hands it over. The numbers are put into `vals` first.
+fn read_text(form: Form, text: &[u8], vals: &mut [u64], out: &mut [u64]) -> Result<usize, Refusal>
+    requires { length vals.old ≡ most_of form }
+    ensures value { result ≡ counted (with_room (length out.old) (read_text form text.now)) }
+    ensures out_after { out.new ≡ lent (with_room (length out.old) (read_text form text.now)) out.old }
 {
-    let keys = form::KEYS;
-    let mut vals = [0u64; Network::NUMBERS];
-    let lines = read(Form::Network, &keys, text, &mut vals);
-    let Answer::Done(n) = lines else {
-        return lines;
-    };
+    let n = read(form, text, vals)?;
     let list = &vals[..n];
-    let answer = sums::add_up(list, Network::of(list));
-    let Answer::Done(_) = answer else {
-        return answer;
-    };
+    if let Form::Network = form {
+        sums::add_up(list, Network::of(list))?;
+    }
     give(list, out)
 }
 
-// Reads a plan text into a list of numbers, one for each line.
-pub fn read_plan(text: &[u8], out: &mut [u64]) -> Answer
-    ensures value { result ≡ done (with_room (length out.old) (read_plan text.now)) }
-    ensures out_after { out.new ≡ lent (with_room (length out.old) (read_plan text.now)) out.old }
+// Reads a network text into a list of numbers, one for each line.
+pub fn read_network(text: &[u8], out: &mut [u64]) -> Result<usize, Refusal>
+    ensures value { result ≡ counted (with_room (length out.old) (read_network text.now)) }
+    ensures out_after { out.new ≡ lent (with_room (length out.old) (read_network text.now)) out.old }
 {
-    let keys = form::KEYS;
-    let mut vals = [0u64; PlanSizes::NUMBERS];
-    let lines = read(Form::Plan, &keys, text, &mut vals);
-    let Answer::Done(n) = lines else {
-        return lines;
-    };
-    give(&vals[..n], out)
+    let mut vals = [0u64; Network::NUMBERS];
+    read_text(Form::Network, text, &mut vals, out)
 }
 
-// Reads a text of rule tables into a list of numbers, one for each line.
-pub fn read_rules(text: &[u8], out: &mut [u64]) -> Answer
-    ensures value { result ≡ done (with_room (length out.old) (read_rules text.now)) }
+// The same for a plan text.
+pub fn read_plan(text: &[u8], out: &mut [u64]) -> Result<usize, Refusal>
+    ensures value { result ≡ counted (with_room (length out.old) (read_plan text.now)) }
+    ensures out_after { out.new ≡ lent (with_room (length out.old) (read_plan text.now)) out.old }
+{
+    let mut vals = [0u64; PlanSizes::NUMBERS];
+    read_text(Form::Plan, text, &mut vals, out)
+}
+
+// And for a text of rule tables.
+pub fn read_rules(text: &[u8], out: &mut [u64]) -> Result<usize, Refusal>
+    ensures value { result ≡ counted (with_room (length out.old) (read_rules text.now)) }
     ensures out_after { out.new ≡ lent (with_room (length out.old) (read_rules text.now)) out.old }
 {
-    let keys = form::KEYS;
     let mut vals = [0u64; RuleTables::NUMBERS];
-    let lines = read(Form::Rules, &keys, text, &mut vals);
-    let Answer::Done(n) = lines else {
-        return lines;
-    };
-    give(&vals[..n], out)
+    read_text(Form::Rules, text, &mut vals, out)
 }

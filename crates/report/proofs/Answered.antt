@@ -7,14 +7,15 @@ use lib.ListN.{length, take, drop, length-append}
 use lib.Seq.{take-append_seam, length-take-le}
 use Rattle.report.specs.Counts.{IsPrefixLen}
 use Rattle.model.specs.Outcome.{Outcome, good, refused, number}
-use Rattle.lists.specs.Answers.{done, lent}
+use Rattle.std.specs.declared.result.Result.TheVariants.{Err}
+use Rattle.lists.specs.Answers.{lent}
+use Rattle.lists.specs.Refusals.{refusal, counted, done_with}
 use Rattle.lists.specs.declared.Answer.{Answer}
-use Rattle.lists.specs.declared.Answer.TheVariants.{Done, Plan, Refused}
+use Rattle.lists.specs.declared.refusal.Refusal.{Refusal}
 use Rattle.forms.specs.Bytes.{bytes}
 use Rattle.lines.specs.Puts.{Puts}
 use Rattle.lines.proofs.Writing.{placed-front}
-use Rattle.report.specs.Printed.{printed_line, refusal_lines, printed_plan}
-use Rattle.report.proofs.Room.{given}
+use Rattle.report.specs.Printed.{printed_line, refusal_lines, printed_plan, on_read}
 use Rattle.report.proofs.Decimals.{line-most}
 
 -- bytes that are put at the front stand there
@@ -37,33 +38,18 @@ pub refusal-front : (m place second : ℕ) (out out' : List ℕ) (past : ℕ) �
     → IsPrefixLen past out' × (take past out' ≡ refusal_lines m place second)
 refusal-front m place second out out' past h p = puts-front (refusal_lines m place second) out out' past (omega (arith, h, refusal-most m place second)) p
 
--- ---- the planning program, by what the plan text comes to
+-- ---- what a refusal of the plan text is printed as, and what it leaves
 
-module _ (o : Outcome (List ℕ)) (a : Answer) (told : a ≡ done o) where
-  pub plan-done : (k : ℕ) (out s : List ℕ) → a ≡ Done k → s ≡ lent o out → IsPrefixLen k s × (take k s ≡ printed_plan o)
-  plan-done k out s e h = let g = given o a k out s told e h in ((g.within, sym (length-take-le k s g.within)), sym (ap printed_plan g.outcome))
+module _ (r : Refusal) where
+  pub err-lines : (o : Outcome (List ℕ)) → counted o ≡ Err r → printed_plan o ≡ refusal_lines (number r.cause) r.place r.second
+  err-lines (good l) e = let y : ◌≡◌ {A = ℕ} 0 1 = cc in absurd (omega arith)
+  err-lines (refused c place second) e = let z : refusal c place second ≡ r = cc in ap (λ (x : Refusal). refusal_lines (number x.cause) x.place x.second) z
 
-  pub plan-never : (k : ℕ) → a ≡ Plan k → ⊥
-  plan-never k e = go o (sym told ∙ e)
-    where
-      go : (w : Outcome (List ℕ)) → done w ≡ Plan k → ⊥
-      go (good l) z = let y : ◌≡◌ {A = ℕ} 0 1 = cc in omega arith
-      go (refused c i j) z = let y : ◌≡◌ {A = ℕ} 0 1 = cc in omega arith
+  pub err-left : (o : Outcome (List ℕ)) (out s : List ℕ) → counted o ≡ Err r → s ≡ lent o out → s ≡ out
+  err-left (good l) out s e h = let y : ◌≡◌ {A = ℕ} 0 1 = cc in absurd (omega arith)
+  err-left (refused c place second) out s e h = h
 
-  pub plan-refused : (m place second : ℕ) → a ≡ Refused m place second → printed_plan o ≡ refusal_lines m place second
-  plan-refused m place second e = go o (sym told ∙ e)
-    where
-      go : (w : Outcome (List ℕ)) → done w ≡ Refused m place second → printed_plan w ≡ refusal_lines m place second
-      go (good l) z = let y : ◌≡◌ {A = ℕ} 0 1 = cc in absurd (omega arith)
-      go (refused c i j) z =
-          let x : number c ≡ m = cc in
-          let y : i ≡ place = cc in
-          let w : j ≡ second = cc in
-          rw (x, y, w)
-
-  pub refused-left : (m place second : ℕ) (out s : List ℕ) → a ≡ Refused m place second → s ≡ lent o out → s ≡ out
-  refused-left m place second out s e h = go o (sym told ∙ e) h
-    where
-      go : (w : Outcome (List ℕ)) → done w ≡ Refused m place second → s ≡ lent w out → s ≡ out
-      go (good l) z h = let y : ◌≡◌ {A = ℕ} 0 1 = cc in absurd (omega arith)
-      go (refused c i j) z h = h
+  -- and a text that is refused is what the check comes to
+  pub err-read : (o : Outcome (List ℕ)) (next : List ℕ → Answer) → counted o ≡ Err r → done_with (Err r) ≡ on_read o next
+  err-read (good l) next e = let y : ◌≡◌ {A = ℕ} 0 1 = cc in absurd (omega arith)
+  err-read (refused c place second) next e = ap done_with (sym e)

@@ -5,15 +5,15 @@ use mathlib.Core.List.{List, ◌++◌}
 use native.Mathlib.Omega.{arith}
 use lib.ListN.{length, take, drop, length-append}
 use lib.Seq.{take-append_seam}
-use Rattle.model.specs.Outcome.{Outcome, good, refused, and_then}
+use Rattle.model.specs.Outcome.{Outcome, good, refused}
 use Rattle.lists.specs.Lists.{most_network, most_plan}
-use Rattle.lists.specs.Answers.{with_room, done, plan, lent}
-use Rattle.lists.specs.declared.Answer.{Answer}
-use Rattle.lists.specs.declared.Answer.TheVariants.{Done, Plan}
+use Rattle.std.specs.declared.result.Result.TheVariants.{Ok}
+use Rattle.lists.specs.Answers.{with_room, lent}
+use Rattle.lists.specs.Refusals.{counted}
+use Rattle.lists.proofs.Refusals.{counted-good}
 use Rattle.forms.specs.declared.form.Form.TheVariants as form
 use Rattle.lists.proofs.Positions.{short, short-plan}
 use Rattle.lists.proofs.Rooms.{good-room}
-use Rattle.forms.proofs.Answers.{done-good}
 use Rattle.forms.proofs.Good.{good-network, good-plan}
 use Rattle.forms.proofs.Round.{read-good}
 use Rattle.planner.specs.Planned.{planned}
@@ -38,7 +38,7 @@ plan-fits text = fits most_plan (read_plan text) (λ l e. plan-length l (read-go
 pub planned-fits : (network : List ℕ) → with_room most_plan (planned 1 network) ≡ planned 1 network
 planned-fits network = fits most_plan (planned 1 network) (λ l e. plan-length l (safe 1 network l e).judged)
 
--- ---- what an answer with a length tells: what was given stands at the front
+-- ---- what a length tells: what was given stands at the front
 
 pub record Given (o : Outcome (List ℕ)) (k : ℕ) (s : List ℕ) : Type 0 where
   pub outcome : o ≡ good (take k s)
@@ -50,26 +50,7 @@ at_front o l k out s e n h =
     let f : take k s ≡ l = rw (t, sym n) (take-append_seam l (drop (length l) out)) in
     record { outcome = e ∙ ap good (sym f); within = let z : length s ≡ length l + length (drop (length l) out) = rw t (length-append l (drop (length l) out)) in omega (arith, z, n) }
 
-pub given : (o : Outcome (List ℕ)) (a : Answer) (k : ℕ) (out s : List ℕ) → a ≡ done o → a ≡ Done k → s ≡ lent o out → Given o k s
-given o a k out s e d h = let g = done-good o k (sym e ∙ d) in at_front o g.0 k out s g.1 g.2 h
-
-pub given-done : (room : ℕ) (o : Outcome (List ℕ)) (a : Answer) (k : ℕ) (out s : List ℕ) → with_room room o ≡ o → a ≡ done (with_room room o) → a ≡ Done k
-    → s ≡ lent (with_room room o) out → Given o k s
-given-done room o a k out s f e d h = given o a k out s (e ∙ ap done f) d (h ∙ ap (λ (w : Outcome (List ℕ)). lent w out) f)
-
-plan-good : (o : Outcome (List ℕ)) (k : ℕ) → plan o ≡ Plan k → (l : List ℕ) × (o ≡ good l) × (length l ≡ k)
-plan-good (good l) k e = (l, refl, cc)
-plan-good (refused c place second) k e = let z : ◌≡◌ {A = ℕ} 0 1 = cc in absurd (omega arith)
-
-pub given-plan : (room : ℕ) (o : Outcome (List ℕ)) (a : Answer) (k : ℕ) (out s : List ℕ) → with_room room o ≡ o → a ≡ plan (with_room room o) → a ≡ Plan k
-    → s ≡ lent (with_room room o) out → Given o k s
-given-plan room o a k out s f e d h =
-    let g = plan-good o k (sym (e ∙ ap plan f) ∙ d) in
+pub given : (room : ℕ) (o : Outcome (List ℕ)) (k : ℕ) (out s : List ℕ) → with_room room o ≡ o → counted (with_room room o) ≡ Ok k → s ≡ lent (with_room room o) out → Given o k s
+given room o k out s f e h =
+    let g = counted-good o k (ap counted (sym f) ∙ e) in
     at_front o g.0 k out s g.1 g.2 (h ∙ ap (λ (w : Outcome (List ℕ)). lent w out) f)
-
--- ---- a refusal stands, whatever would come after
-
-pub plan-refused : (o : Outcome (List ℕ)) (next : List ℕ → Outcome (List ℕ)) (a : Answer) (out : List ℕ) → a ≡ plan o → ((k : ℕ) → a ≡ Plan k → ⊥)
-    → (a ≡ done (with_room (length out) (and_then o next))) × (out ≡ lent (with_room (length out) (and_then o next)) out)
-plan-refused (good l) next a out e not = absurd (not (length l) e)
-plan-refused (refused c place second) next a out e not = (e, refl)

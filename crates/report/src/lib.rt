@@ -4,7 +4,10 @@
 ghost use Rattle.std.specs.Prelude.{◌≡◌, ◌+◌, ◌≤◌, length};
 ghost use Rattle.forms.specs.Write.{width_from};
 ghost use Rattle.lines.specs.Puts.{Puts};
+ghost use Rattle.model.specs.Outcome.{number};
 ghost use Rattle.report.specs.Printed.{decimal, printed_line, refusal_lines};
+
+use lists::refusal::Refusal;
 
 mod input;
 
@@ -16,7 +19,7 @@ pub const LAG: u64 = 1;
 // The most bytes that the programs read of a text.
 pub const TEXT: usize = 65_536;
 
-// How many decimal digits a number has.
+// How many decimal digits a number has: of any 64-bit number, where that of `lines` is for 10 digits and fast.
 fn digit_count(v: u64) -> usize
     ensures value { result ≡ width_from 19 1 v }
     ensures most { result ≤ 20 }
@@ -37,9 +40,7 @@ fn put_decimal(out: &mut [u8], at: usize, v: u64) -> usize
 {
     let count = digit_count(v);
     let mut rest = v;
-    let mut i = count;
-    while i > 0 {
-        i -= 1;
+    for i in (0..count).rev() {
         out[at + i] = b'0' + (rest % 10) as u8;
         rest /= 10;
     }
@@ -58,11 +59,11 @@ fn put_line(out: &mut [u8], at: usize, key: &[u8], v: u64) -> usize
 }
 
 // Puts the lines of a refusal at the front. They have at most 84 bytes: the keys, three numbers of at most 20 digits and the line feeds.
-pub fn put_refusal(out: &mut [u8], number: u64, place: u64, second: u64) -> usize
+pub fn put_refusal(out: &mut [u8], refusal: Refusal) -> usize
     requires { 84 ≤ length out.old }
-    ensures { Puts (refusal_lines number place second) 0 out.old out.new result }
+    ensures { Puts (refusal_lines (number refusal.cause) refusal.place refusal.second) 0 out.old out.new result }
 {
-    let place_at = put_line(out, 0, b"refused=", number);
-    let second_at = put_line(out, place_at, b"place=", place);
-    put_line(out, second_at, b"second=", second)
+    let place_at = put_line(out, 0, b"refused=", refusal.cause.number());
+    let second_at = put_line(out, place_at, b"place=", refusal.place);
+    put_line(out, second_at, b"second=", refusal.second)
 }

@@ -6,7 +6,8 @@ use mathlib.Core.Option.{or_else}
 use lib.ListN.{length, get_or}
 use Rattle.model.specs.Even.{ceil_div}
 use Rattle.model.specs.Listed.{listed}
-use Rattle.model.specs.Outcome.{good, refused, unfit}
+use Rattle.model.specs.Outcome.{good, refused}
+use Rattle.model.specs.declared.Cause.TheVariants.{Unfit as unfit}
 use Rattle.model.specs.Search.{only_if, first}
 use Rattle.model.specs.Sum.{sum_over}
 use Rattle.rules.specs.Rules.{Rules, is_kind, rule, count, last_stage, usable, spare}

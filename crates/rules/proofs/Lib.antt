@@ -1,4 +1,4 @@
-pub mod Judged
+pub mod Good
 pub mod Longest
 pub mod Counts
 pub mod Passes
@@ -6,3 +6,4 @@ pub mod Bounds
 pub mod Finish
 pub mod Main
 pub mod Cases
+pub mod KindNumbers

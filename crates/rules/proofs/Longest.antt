@@ -9,13 +9,15 @@ use Rattle.model.specs.Limits.{most_tunnels, most_switches, most_room, least_sha
 use Rattle.model.specs.Outcome.{good}
 use Rattle.lists.specs.Lists.{at, table_sizes, room_at, rule_at}
 use Rattle.lists.specs.declared.RuleTables.{RuleTables}
-use Rattle.forms.specs.Keys.{keys, place_in, prefix_of}
-use Rattle.forms.specs.Form.{field_of, rules_lines, rules_body, Sound}
+use Rattle.forms.specs.Keys.{prefix_of}
+use Rattle.forms.specs.declared.form.Key.{Key}
+use Rattle.forms.specs.declared.form.Key.TheVariants as key
+use Rattle.std.specs.Prelude.{None}
+use Rattle.forms.specs.Form.{line, field_of, rules_lines, rules_body, Sound}
 use Rattle.forms.specs.Read.{read_text}
 use Rattle.forms.specs.Write.{render_from, render}
 use Rattle.forms.specs.declared.form.Form.TheVariants.{Rules}
 use Rattle.forms.specs.declared.form.Range.TheVariants.{Between, Set}
-use Rattle.forms.specs.declared.form.Field.TheVariants.{Line, End}
 use Rattle.forms.proofs.Forms.{between, sound-at, rules-head-field, rules-body-field, body-room, body-rule}
 use Rattle.forms.proofs.Numbers.{width-most}
 use Rattle.forms.proofs.Rendering.{render-end, line-length, line-then}
@@ -24,7 +26,7 @@ use Rattle.forms.proofs.Round.{read-good, rendered}
 use Rattle.forms.proofs.Walks.{judged-good}
 use Rattle.rules.specs.Lists.{GoodRules}
 use Rattle.rules.specs.Claim.{most_rule_bytes}
-use Rattle.rules.proofs.Judged.{good-rules}
+use Rattle.rules.proofs.Good.{good-rules}
 
 module _ (l : List ℕ) (g : GoodRules l) (s : Sound Rules l) where
   -- how many bytes the lines from i on have
@@ -32,14 +34,14 @@ module _ (l : List ℕ) (g : GoodRules l) (s : Sound Rules l) where
   from i = length (render_from Rules (take i l) (drop i l))
 
   -- a line whose number has at most d digits, and a line of a set
-  number-then : (k low high d i : ℕ) → field_of Rules (take i l) ≡ Line k (Between low high) → 1 ≤ d → d ≤ 10 → high < 10 ^ d → i < length l
+  number-then : (k : Key) (low high d i : ℕ) → field_of Rules (take i l) ≡ line k (Between low high) → 1 ≤ d → d ≤ 10 → high < 10 ^ d → i < length l
       → from i ≤ length (prefix_of k) + d + 1 + from (i + 1)
   number-then k low high d i e one ten small h =
       let v : at l i ≤ high = (between low high (at l i) (rw e at (sound-at Rules l i h s))).1 in
       line-then Rules l i (length (prefix_of k) + d + 1) h
       (rw e (omega (arith, line-length k (Between low high) (at l i), width-most (at l i) d one ten (omega (arith, v, small)))))
 
-  set_then : (k n i : ℕ) → field_of Rules (take i l) ≡ Line k (Set n) → i < length l → from i ≤ length (prefix_of k) + 17 + from (i + 1)
+  set_then : (k : Key) (n i : ℕ) → field_of Rules (take i l) ≡ line k (Set n) → i < length l → from i ≤ length (prefix_of k) + 17 + from (i + 1)
   set_then k n i e h = line-then Rules l i (length (prefix_of k) + 17) h (rw e (omega (arith, line-length k (Set n) (at l i))))
 
   abbrev sizes : RuleTables
@@ -53,13 +55,13 @@ module _ (l : List ℕ) (g : GoodRules l) (s : Sound Rules l) where
       let h : rule_at sizes t + 1 < length l = omega (arith, g.size) in
       let in-t : t < sizes.tunnels = omega arith in
       let first : rule_at sizes t ≡ rule_at sizes t + 0 = omega arith in
-      let via : field_of Rules (take (rule_at sizes t) l) ≡ Line (place_in keys "via=") (Set sizes.switches)
+      let via : field_of Rules (take (rule_at sizes t) l) ≡ line key.Via (Set sizes.switches)
       = rules-body-field l i (omega arith) (omega arith) ∙ ap (rules_body sizes) first ∙ body-rule sizes t 0 in-t (omega arith) in
-      let kind : field_of Rules (take (rule_at sizes t + 1) l) ≡ Line (place_in keys "kind=") (Between 1 3)
+      let kind : field_of Rules (take (rule_at sizes t + 1) l) ≡ line key.Kind (Between 1 3)
       = rules-body-field l (i + 1) (omega arith) (omega arith) ∙ body-rule sizes t 1 in-t (omega arith) in
       let n : rule_at sizes t + 1 + 1 ≡ rule_at sizes (t + 1) = omega arith in
       let rest : from (rule_at sizes t + 1 + 1) ≤ k * 28 = rw n (tunnels-then k (t + 1) (omega arith)) in
-      omega (arith, set_then (place_in keys "via=") sizes.switches (rule_at sizes t) via (omega arith), number-then (place_in keys "kind=") 1 3 1 (rule_at sizes t + 1) kind (omega arith) (omega arith) (omega arith) h)
+      omega (arith, set_then key.Via sizes.switches (rule_at sizes t) via (omega arith), number-then key.Kind 1 3 1 (rule_at sizes t + 1) kind (omega arith) (omega arith) (omega arith) h)
 
   switches-then : (k s : ℕ) → s + k ≡ sizes.switches → from (room_at sizes s) ≤ k * 11 + sizes.tunnels * 28
   switches-then zero s e =
@@ -68,20 +70,20 @@ module _ (l : List ℕ) (g : GoodRules l) (s : Sound Rules l) where
   switches-then (suc k) s e =
       let h : room_at sizes s < length l = omega (arith, g.size) in
       let in-s : s < sizes.switches = omega arith in
-      let field : field_of Rules (take (room_at sizes s) l) ≡ Line (place_in keys "room=") (Between 0 most_room)
+      let field : field_of Rules (take (room_at sizes s) l) ≡ line key.Room (Between 0 most_room)
       = rules-body-field l (room_at sizes s) (le_of_lt h) (omega arith) ∙ body-room sizes s in-s in
       let n : room_at sizes s + 1 ≡ room_at sizes (s + 1) = omega arith in
       let rest : from (room_at sizes s + 1) ≤ k * 11 + sizes.tunnels * 28 = rw n (switches-then k (s + 1) (omega arith)) in
-      omega (arith, number-then (place_in keys "room=") 0 most_room 5 (room_at sizes s) field (omega arith) (omega arith) (omega arith) h)
+      omega (arith, number-then key.Room 0 most_room 5 (room_at sizes s) field (omega arith) (omega arith) (omega arith) h)
 
   head-then : from 0 ≤ 41 + from 4
   head-then =
       let four : 4 ≤ length l = omega (arith, g.size) in
-      let field : (i : ℕ) → i < 4 → field_of Rules (take i l) ≡ get_or rules_lines i End = λ i h. rules-head-field l i (omega arith) h in
-      let one = number-then (place_in keys "rules=") 1 1 1 0 (field 0 (omega arith)) (omega arith) (omega arith) (omega arith) (omega arith) in
-      let two = number-then (place_in keys "slack=") least_share most_share 3 1 (field 1 (omega arith)) (omega arith) (omega arith) (omega arith) (omega arith) in
-      let three = number-then (place_in keys "switches=") 1 most_switches 2 2 (field 2 (omega arith)) (omega arith) (omega arith) (omega arith) (omega arith) in
-      omega (arith, one, two, three, number-then (place_in keys "tunnels=") 0 most_tunnels 2 3 (field 3 (omega arith)) (omega arith) (omega arith) (omega arith) (omega arith))
+      let field : (i : ℕ) → i < 4 → field_of Rules (take i l) ≡ get_or rules_lines i None = λ i h. rules-head-field l i (omega arith) h in
+      let one = number-then key.Rules 1 1 1 0 (field 0 (omega arith)) (omega arith) (omega arith) (omega arith) (omega arith) in
+      let two = number-then key.Slack least_share most_share 3 1 (field 1 (omega arith)) (omega arith) (omega arith) (omega arith) (omega arith) in
+      let three = number-then key.Switches 1 most_switches 2 2 (field 2 (omega arith)) (omega arith) (omega arith) (omega arith) (omega arith) in
+      omega (arith, one, two, three, number-then key.Tunnels 0 most_tunnels 2 3 (field 3 (omega arith)) (omega arith) (omega arith) (omega arith) (omega arith))
 
   most : length (render Rules l) ≤ most_rule_bytes
   unfolding render

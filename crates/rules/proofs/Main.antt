@@ -12,7 +12,8 @@ use lib.ListN.{length}
 use borrow.Author.Tests.{leb-true, leb-false, ltb-true, ltb-false, le-leb, lt-leb, eqb-true, eqb-false}
 use Rattle.model.specs.Search.{only_if}
 use Rattle.model.specs.Listed.{listed}
-use Rattle.model.specs.Outcome.{good, unless, unfit, Place}
+use Rattle.model.specs.Outcome.{good, unless, Place}
+use Rattle.model.specs.declared.Cause.TheVariants.{Unfit as unfit}
 use Rattle.model.proofs.Searches.{bool_cases, not-true, first-none, none_first, or-none, only_none}
 use Rattle.model.proofs.Listed.{listed-length, listed_at}
 use Rattle.lists.specs.Lists.{at}
@@ -23,7 +24,7 @@ use Rattle.rules.specs.Rules.{Rules, keep, add, remove, is_kind, count, last_sta
 use Rattle.rules.specs.Stage.{adds, removes, Stages, moved, waits, stages, too_many, unfit_at, lowest_unfit, staged}
 use Rattle.rules.specs.Lists.{rules_of, staged_list, GoodRules}
 use Rattle.rules.specs.Claim.{is_done, holds, whole, sofar, Safe, Fit, Claim}
-use Rattle.rules.proofs.Judged.{good-rules}
+use Rattle.rules.proofs.Good.{good-rules}
 use Rattle.rules.proofs.Longest.{longest}
 use Rattle.rules.proofs.Counts.{count-three}
 use Rattle.rules.proofs.Passes.{kind-is, is-kind, not-kind, is-not-kind, is-waiting, is-moved, stages-le, stages-kept, given-early, given-late}

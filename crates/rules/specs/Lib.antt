@@ -2,3 +2,5 @@ pub mod Rules
 pub mod Stage
 pub mod Lists
 pub mod Claim
+pub mod Kinds
+pub mod Judged

@@ -4,7 +4,8 @@ use Rattle.std.proofs.Math.Option.{Option, or_else}
 use Rattle.model.specs.Sets.{in_set}
 use Rattle.model.specs.Search.{only_if, first}
 use Rattle.model.specs.Listed.{listed}
-use Rattle.model.specs.Outcome.{Outcome, good, Place, unless, unfit}
+use Rattle.model.specs.Outcome.{Outcome, good, Place, unless}
+use Rattle.model.specs.declared.Cause.TheVariants.{Unfit as unfit}
 use Rattle.rules.specs.Rules.{Rules, keep, add, remove, is_kind, count, last_stage, usable, spare}
 
 -- "each tunnel to add", "each to remove"

@@ -1,2 +1,5 @@
-//! The rule tables of switches, as mathematics: definitions in specs/, the proofs of their laws and of the claim in proofs/. There is no code here.
+//! The rule tables of switches: definitions in specs/, the proofs of their laws and of the claim in proofs/, and the type of
+//! those that are judged good.
 #![tactic(auto)]
+
+pub mod judged;

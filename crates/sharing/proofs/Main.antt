@@ -14,7 +14,7 @@ use Rattle.sharing.specs.Share.{total, up_to, level, above, share_at, shares}
 use Rattle.sharing.specs.Claim.{Claim, Fair, IsLevel}
 use Rattle.sharing.proofs.Levels.{is-level, up-to-exact}
 use Rattle.sharing.proofs.Shares.{share-bounds, share-first, shares-all, shares-met, shares_cut, shares-length, shares-total}
-use Rattle.sharing.proofs.Answers.{shared-good}
+use Rattle.sharing.proofs.Outcomes.{shared-good}
 use Rattle.sharing.proofs.Only.{only}
 
 -- the shares are those at some level, with some units left

@@ -1,3 +1,4 @@
 pub mod Share
 pub mod Claim
 pub mod Inner
+pub mod Demands

@@ -6,7 +6,8 @@ use Rattle.model.specs.Limits.{most_amount}
 use Rattle.model.specs.Sum.{sum_over}
 use Rattle.model.specs.Search.{only_if, first}
 use Rattle.model.specs.Listed.{listed}
-use Rattle.model.specs.Outcome.{Outcome, good, Place, unless, unshareable}
+use Rattle.model.specs.Outcome.{Outcome, good, Place, unless}
+use Rattle.model.specs.declared.Cause.TheVariants.{Unshareable as unshareable}
 use Rattle.lists.specs.Lists.{at}
 
 abbrev pub most_services : ℕ

@@ -2,7 +2,9 @@
 ghost use Rattle.std.specs.Prelude.{◌≡◌, cond, ◌-◌, ◌≤◌, ◌<◌, leb, ltb, length};
 ghost use Rattle.model.specs.Limits.{most_amount};
 ghost use Rattle.sharing.specs.Share as share;
-ghost use Rattle.sharing.specs.Inner.{InRange, met_by};
+ghost use Rattle.sharing.specs.Inner.{met_by};
+
+use crate::demands::Demands;
 
 // A level, and the units left over at it.
 #[derive(Clone, Copy)]
@@ -35,18 +37,14 @@ pub(crate) fn is_above(demand: u64, level: u64) -> u64
 }
 
 // What a level makes of the demands, in one pass.
-fn split(demands: &[u64], level: u64) -> Parts
-    requires { InRange demands.now }
+fn split(demands: &Demands<'_>, level: u64) -> Parts
     ensures { (result.met ≡ met_by demands.now level (length demands.now)) × (result.above ≡ share.above demands.now level (length demands.now)) }
 {
     let mut sum: u64 = 0;
     let mut above: u64 = 0;
-    let mut i: usize = 0;
-    while i < demands.len() {
-        let demand = demands[i];
+    for &demand in demands.list() {
         sum += met(demand, level);
         above += is_above(demand, level);
-        i += 1;
     }
     Parts { met: sum, above }
 }
@@ -54,12 +52,12 @@ fn split(demands: &[u64], level: u64) -> Parts
 // The largest level that the rate reaches. What the met demands leave of the rate, divided among the others, is a level that it reaches. If it
 // meets no other demand, no higher level is reached; if it does, these go to the met ones. So each round but the last meets one more: there
 // are at most 16.
-pub(crate) fn find(rate: u64, demands: &[u64]) -> Level
-    requires { InRange demands.now × (rate ≤ most_amount) × (rate < share.total demands.now) }
+pub(crate) fn find(rate: u64, demands: &Demands<'_>) -> Level
+    requires { (rate ≤ most_amount) × (rate < share.total demands.now) }
     ensures { (result.at ≡ share.level rate demands.now) × (result.left ≡ rate - share.up_to demands.now result.at) }
 {
     let mut met: u64 = 0;
-    let mut above = demands.len() as u64;
+    let mut above = demands.list().len() as u64;
     loop {
         let free = rate - met;
         let at = free / above;

@@ -2,21 +2,26 @@
 #![tactic(auto)]
 
 ghost use Rattle.std.specs.Prelude.{◌≡◌, length};
+ghost use Rattle.model.specs.declared.Cause.TheVariants.{Unshareable as unshareable};
 ghost use Rattle.lists.specs.Answers.{with_room, done, lent};
+ghost use Rattle.lists.specs.Refusals.{refusal, counted};
 ghost use Rattle.sharing.specs.Share.{shared};
 
+use demands::Demands;
+use lists::refusal::{Cause, Refusal};
 use lists::{Answer, Network};
 
+mod demands;
 mod divide;
 mod level;
 
 pub const SERVICES: usize = 16;
 
-fn refusal(number: u64, place: u64, second: u64) -> Answer
-    ensures { result ≡ Answer.Refused number place second }
+fn unshareable(place: u64, second: u64) -> Refusal
+    ensures { result ≡ refusal unshareable place second }
 {
-    Answer::Refused {
-        number,
+    Refusal {
+        cause: Cause::Unshareable,
         place,
         second,
     }
@@ -28,22 +33,24 @@ pub fn share(rate: u64, demands: &[u64], out: &mut [u64]) -> Answer
     ensures value { result ≡ done (with_room (length out.old) (shared rate demands.now)) }
     ensures out_after { out.new ≡ lent (with_room (length out.old) (shared rate demands.now)) out.old }
 {
+    Answer::done(divided(rate, demands, out))
+}
+
+fn divided(rate: u64, demands: &[u64], out: &mut [u64]) -> Result<usize, Refusal>
+    ensures value { result ≡ counted (with_room (length out.old) (shared rate demands.now)) }
+    ensures out_after { out.new ≡ lent (with_room (length out.old) (shared rate demands.now)) out.old }
+{
     let count = demands.len();
     if count == 0 || SERVICES < count {
-        return refusal(21, 0, 0);
+        return Err(unshareable(0, 0));
     }
-    let judged = divide::judge(demands);
-    let bad = judged.bad;
-    let service = (bad + 1) as u64;
     if Network::AMOUNT < rate {
-        return refusal(21, 0, 1);
+        return Err(unshareable(0, 1));
     }
-    if bad < count {
-        return refusal(21, service, 0);
-    }
+    let demands = Demands::judge(demands)?;
     if out.len() < count {
-        return refusal(10, count as u64, 0);
+        return Err(Refusal::no_room(count));
     }
-    divide::give(rate, demands, judged.sum, out);
-    Answer::Done(count)
+    divide::give(rate, &demands, out);
+    Ok(count)
 }

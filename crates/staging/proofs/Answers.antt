@@ -3,19 +3,23 @@ use Prim.Native.Nat.{ℕ, zero, suc, ◌≤◌, ◌<◌}
 use mathlib.Core.Path.{◌≡◌, refl, sym, ap, fun_ext, ◌∙◌}
 use mathlib.Core.Logic.{⊎_elim}
 use mathlib.Core.Option.{Option, none, some}
-use mathlib.Core.List.{List, ◌++◌}
+use mathlib.Core.List.{List, [], ◌∷◌, ◌++◌}
+use native.Mathlib.Numerals.{add-one}
+use Rattle.std.proofs.lemmas.List.{take_more}
+use Rattle.lists.proofs.Rooms.{good-room}
 use native.Mathlib.Omega.{arith}
-use lib.ListN.{length, drop, replicate, length-replicate}
+use lib.ListN.{length, take, drop, replicate, length-replicate}
 use Rattle.model.specs.Limits.{most_tunnels, most_switches}
 use Rattle.model.specs.Listed.{listed}
-use Rattle.model.specs.Outcome.{good, Place, unless, unfit}
+use Rattle.model.specs.Outcome.{Outcome, good, Place, unless}
+use Rattle.model.specs.declared.Cause.TheVariants.{Unfit as unfit, NoRoom as no_room}
 use Rattle.model.proofs.Listed.{listed-length}
 use Rattle.lists.specs.Lists.{at, table_sizes}
-use Rattle.lists.specs.Answers.{done, with_room, lent}
-use Rattle.lists.specs.declared.Answer.{Answer}
-use Rattle.lists.specs.declared.Answer.TheVariants.{Done, Refused}
-use Rattle.lists.proofs.Rooms.{give-none, give_all}
-use Rattle.forms.proofs.Answers.{NotDone}
+use Rattle.std.specs.Prelude.{Result, Ok, Err, ⊤}
+use borrow.Author.Tests.{lt-leb}
+use Rattle.lists.specs.Answers.{with_room, lent}
+use Rattle.lists.specs.Refusals.{refusal, counted}
+use Rattle.lists.specs.declared.refusal.Refusal.{Refusal}
 use Rattle.rules.specs.Rules.{Rules, remove, count, last_stage}
 use Rattle.rules.specs.Stage.{Move, adds, removes, moved, stages, lowest_unfit, staged}
 use Rattle.rules.specs.Lists.{rules_of}
@@ -54,36 +58,33 @@ module _ (l r a o : List ℕ) (ea : a ≡ replicate most_switches 0) (eo : o ≡
     stages = fun_ext none_yet;
   }
 
--- ---- what is answered, and what is left in the output
+-- ---- what it comes to, and what is left in the output
 
-told_none : (o : Option Place) (a : Answer) (n : ℕ) → a ≡ told o → a ≡ Done n → o ≡ none
-told_none none a n e d = refl
-told_none (some p) a n e d = let z : ◌≡◌ {A = ℕ} 0 1 = cc in absurd (omega arith)
-
-module _ (l out : List ℕ) (a : Answer) (x : List ℕ) (J : Judged l a x) where
+module _ (l out : List ℕ) (a : Result ⊤ Refusal) (x : List ℕ) (J : Judged l a x) where
   abbrev bad : Option Place
   bad = lowest_unfit (rules_of l)
 
   abbrev all : List ℕ
   all = listed (rules_of l).tunnels (stages (rules_of l) (last_stage (rules_of l)))
 
-  abbrev answer : Answer
-  answer = done (with_room (length out) (staged (rules_of l)))
+  abbrev outcome : Outcome (List ℕ)
+  outcome = with_room (length out) (staged (rules_of l))
 
-  abbrev after : List ℕ
-  after = lent (with_room (length out) (staged (rules_of l))) out
-
-  pub stage-refused : NotDone a → (a ≡ answer) × (out ≡ after)
+  pub stage-refused : (e : Refusal) → a ≡ Err e → (Err e ≡ counted outcome) × (out ≡ lent outcome out)
   unfolding staged
-  stage-refused t = go bad J.answer
+  stage-refused e is = go bad (sym is ∙ J.answer)
     where
-      go : (o : Option Place) → a ≡ told o → (a ≡ done (with_room (length out) (unless unfit o (good all)))) × (out ≡ lent (with_room (length out) (unless unfit o (good all))) out)
-      go none e = absurd (t _ e)
-      go (some p) e = (e, refl)
+      go : (o : Option Place) → Err e ≡ told o → (Err e ≡ counted (with_room (length out) (unless unfit o (good all)))) × (out ≡ lent (with_room (length out) (unless unfit o (good all))) out)
+      go none q = let z : ◌≡◌ {A = ℕ} 0 1 = cc in absurd (omega arith)
+      go (some p) q = (cc, refl)
 
-  module _ (n : ℕ) (d : a ≡ Done n) where
+  module _ (d : a ≡ Ok tt) where
     fit : bad ≡ none
-    fit = told_none bad a n J.answer d
+    fit = go bad (sym d ∙ J.answer)
+      where
+        go : (o : Option Place) → Ok tt ≡ told o → o ≡ none
+        go none q = refl
+        go (some p) q = let z : ◌≡◌ {A = ℕ} 0 1 = cc in absurd (omega arith)
 
     pub stage-spares : Spares (rules_of l) x
     stage-spares = J.spares fit
@@ -92,14 +93,22 @@ module _ (l out : List ℕ) (a : Answer) (x : List ℕ) (J : Judged l a x) where
     unfolding rules_of
     all-length = listed-length (table_sizes l).tunnels _
 
-    pub stage-none : length out < (table_sizes l).tunnels → (Refused 10 (table_sizes l).tunnels 0 ≡ answer) × (out ≡ after)
+    pub stage-none : length out < (table_sizes l).tunnels → (Err (refusal no_room (table_sizes l).tunnels 0) ≡ counted outcome) × (out ≡ lent outcome out)
     unfolding staged
-    stage-none h =
-        let g = give-none all out (rw all-length h) in
-        rw fit (ap (λ (n : ℕ). Refused 10 n 0) (sym all-length) ∙ sym g.0, sym g.1)
+    stage-none h = rw (fit, all-length, lt-leb (table_sizes l).tunnels (length out) h) (refl, refl)
 
-    pub stage-all : (table_sizes l).tunnels ≤ length out → (Done (table_sizes l).tunnels ≡ answer) × (listed (table_sizes l).tunnels (stages (rules_of l) (last_stage (rules_of l))) ++ drop (table_sizes l).tunnels out ≡ after)
+    pub stage-all : (table_sizes l).tunnels ≤ length out → (Ok (table_sizes l).tunnels ≡ counted outcome) × (listed (table_sizes l).tunnels (stages (rules_of l) (last_stage (rules_of l))) ++ drop (table_sizes l).tunnels out ≡ lent outcome out)
     unfolding staged rules_of
     stage-all h =
-        let g = give_all all out (rw all-length h) in
-        rw fit (ap Done (sym all-length) ∙ sym g.0, ap (λ (n : ℕ). all ++ drop n out) (sym all-length) ∙ sym g.1)
+        let e : outcome ≡ good all = ap (λ (o : Option Place). with_room (length out) (unless unfit o (good all))) fit ∙ good-room (length out) all (rw all-length h) in
+        (ap Ok (sym all-length) ∙ ap counted (sym e), ap (λ (n : ℕ). all ++ drop n out) (sym all-length) ∙ ap (λ (o : Outcome (List ℕ)). lent o out) (sym e))
+
+-- ---- the stages are copied
+
+pub front : (n : ℕ) (xs : List ℕ) → n ≤ length xs → take n xs ≡ listed n (at xs)
+unfolding listed
+front zero xs h = refl
+front (suc n) xs h =
+    ap (λ (k : ℕ). take k xs) (sym (add-one n))
+    ∙ take_more xs n 0 (omega (arith, h))
+    ∙ ap (λ (l : List ℕ). l ++ at xs n ∷ []) (front n xs (omega (arith, h)))

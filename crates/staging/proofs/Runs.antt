@@ -2,14 +2,11 @@
 use Prim.Native.Nat.{ℕ, ◌+◌, ◌-◌, ◌*◌, ◌<◌}
 use mathlib.Core.Path.{◌≡◌, refl, sym, ap, subst, ◌∙◌}
 use mathlib.Core.Logic.{◌≢◌}
-use mathlib.Core.Bool.{true}
 use mathlib.Core.List.{List}
 use native.Mathlib.Numerals.{add-one}
 use native.Mathlib.Omega.{arith}
-use borrow.Author.Tests.{le-leb}
-use Rattle.model.specs.Limits.{least_share, most_share}
+use Rattle.model.specs.Even.{ceil_div}
 use Rattle.lists.specs.Lists.{at}
-use Rattle.bound.specs.Bound.{is_share}
 use Rattle.rules.specs.Rules.{Rules, add, remove, count, last_stage}
 use Rattle.rules.specs.Stage.{Move, adds, removes, kind_of, Stages, pass, stage, stages}
 use Rattle.rules.specs.Lists.{rules_of, GoodRules}
@@ -17,9 +14,10 @@ use Rattle.switches.specs.Inner.{Counted, Spares}
 use Rattle.staging.specs.Inner.{move_of, counts, times_of, Ready, Reached, StagedTo}
 use Rattle.rules.proofs.Passes.{other-moved, other-waits}
 
--- the slack of a good list is a share
-pub good-share : (l : List ℕ) → GoodRules l → is_share (at l 1) ≡ true
-good-share l g = rw (le-leb least_share (at l 1) g.slack.0, le-leb (at l 1) most_share g.slack.1)
+-- the last stage of rule tables, by their slack
+pub last-is : (R : Rules) (slack last : ℕ) → slack ≡ R.slack → last ≡ ceil_div 1000 slack - 1 → last ≡ last_stage R
+unfolding last_stage
+last-is R slack last e h = h ∙ ap (λ (n : ℕ). ceil_div 1000 n - 1) e
 
 -- what a pass leaves of the other move's counts
 counted-other : (R : Rules) (o m : Move) (i : ℕ) (f g : Stages) (c : List ℕ) → kind_of o ≢ kind_of m → g ≡ pass R m i f R.tunnels

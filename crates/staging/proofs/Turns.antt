@@ -15,7 +15,7 @@ use Rattle.model.specs.Sets.{in_set}
 use Rattle.model.proofs.Bounded.{ceil-most}
 use Rattle.model.proofs.Sets.{set-within}
 use Rattle.model.proofs.Searches.{bool_cases}
-use Rattle.lists.specs.Lists.{at, rule_at, table_sizes}
+use Rattle.lists.specs.Lists.{at, table_sizes}
 use Rattle.rules.specs.Rules.{Rules, add, remove, is_kind, rule, count, last_stage, spare}
 use Rattle.rules.specs.Stage.{Move, adds, removes, kind_of, Stages, moved, waits, within, goes, given, turn, pass}
 use Rattle.rules.specs.Lists.{rules_of}
@@ -149,14 +149,14 @@ module _ (l x : List ℕ) (kind stage times unit : ℕ) (c o : List ℕ) (r : Re
   unfolding rules_of
   table = counted-table R R.tunnels (counts R m f) c r.counted r.good.tunnels
 
-  -- the turn of tunnel t, whose numbers stand from i on
-  module _ (t : ℕ) (h : t < (table_sizes l).tunnels) (i : ℕ) (here : i ≡ rule_at (table_sizes l) t) where
+  -- the turn of tunnel t, whose switches are v
+  module _ (t : ℕ) (h : t < (table_sizes l).tunnels) where
     stays : (waits R m f t && goes R m stage f t) ≡ false → Reached l m (turn R m stage f t) c o
     stays e = record { counted = r.counted; size = r.size; stages = sym (turn-stays R m stage f t e) }
 
-    pub turn-other : at l (i + 1) ≢ kind → Reached l m (turn R m stage f t) c o
-    unfolding rules_of waits
-    turn-other n = stays (rw (not-kind R (kind_of m) t (λ e. n (rw here (e ∙ sym r.pass.moves)))))
+    pub turn-other : R.kind t ≢ kind → Reached l m (turn R m stage f t) c o
+    unfolding waits
+    turn-other n = stays (rw (not-kind R (kind_of m) t (λ e. n (e ∙ sym r.pass.moves))))
 
     pub turn-has : at o t ≢ 0 → Reached l m (turn R m stage f t) c o
     unfolding waits
@@ -166,45 +166,45 @@ module _ (l x : List ℕ) (kind stage times unit : ℕ) (c o : List ℕ) (r : Re
         none true = refl
         none false = refl
 
-    told : (b : Bool) → b ≡ fits_all (at l i) unit (remove - kind) times c x → goes_by kind b ≡ goes R m stage f t
-    unfolding rules_of
-    told b e =
-        ap (goes_by kind) (rw here at e)
-        ∙ (goes-told R f t stage kind times unit c x r.good.switches.1 (r.good.via t h).1 r.pass.scale r.spares m r.pass.moves r.pass.bound r.counted)
-
-    pub turn-not : (b : Bool) → b ≡ fits_all (at l i) unit (remove - kind) times c x → goes_by kind b ≡ false → Reached l m (turn R m stage f t) c o
-    turn-not b q e = stays (rw (sym (told b q) ∙ e) (and_none (waits R m f t)))
-
-    module _ (k : at l (i + 1) ≡ kind) (z : at o t ≡ 0) where
-      waiting : waits R m f t ≡ true
+    module _ (v more less : ℕ) (here : v ≡ R.via t) (more-is : more ≡ remove - kind) (less-is : less ≡ kind - add) where
+      told : (b : Bool) → b ≡ fits_all v unit more times c x → goes_by kind b ≡ goes R m stage f t
       unfolding rules_of
-      waiting = is-waiting R m f t (rw here at (k ∙ r.pass.moves)) z
+      told b e =
+          ap (goes_by kind) (rw (here, more-is) at e)
+          ∙ (goes-told R f t stage kind times unit c x r.good.switches.1 (r.good.via t h).1 r.pass.scale r.spares m r.pass.moves r.pass.bound r.counted)
 
-      pub turn-shift : Shiftable (at l i) (remove - kind) (kind - add) c
-      unfolding rules_of
-      turn-shift = rw here (goes-shift R f t stage kind c h m r.pass.moves waiting r.counted table)
+      pub turn-not : (b : Bool) → b ≡ fits_all v unit more times c x → goes_by kind b ≡ false → Reached l m (turn R m stage f t) c o
+      turn-not b q e = stays (rw (sym (told b q) ∙ e) (and_none (waits R m f t)))
 
-      stored : at (set o t stage) ≡ given true t stage f
-      unfolding given
-      stored =
-          fun_ext
-          (λ u.
-          ⊎_elim
-          (λ (e : eqb u t ≡ true). let q : u ≡ t = eqb-true u t e in rw e (rw q (get_or-set_same o t stage 0 (omega (arith, h, r.size, r.good.tunnels)))))
-          (λ (e : eqb u t ≡ false). rw e (get_or-set_other o t u stage 0 (eqb-false u t e)))
-          (bool_cases (eqb u t)))
+      module _ (k : R.kind t ≡ kind) (z : at o t ≡ 0) where
+        waiting : waits R m f t ≡ true
+        waiting = is-waiting R m f t (k ∙ r.pass.moves) z
 
-      pub turn_on : (c' : List ℕ) (b : Bool) → b ≡ fits_all (at l i) unit (remove - kind) times c x → goes_by kind b ≡ true → Shifted (at l i) (remove - kind) (kind - add) c c'
-          → Reached l m (turn R m stage f t) c' (set o t stage)
-      unfolding rules_of
-      turn_on c' b q e S =
-          let j : ℕ = stage - 1 in
-          let back : suc j ≡ stage = omega (arith, r.pass.inside.0) in
-          record {
-            counted = rw stored (rw back at (goes-counted R f t j kind c h m c' r.pass.moves waiting r.counted (rw here at S)));
-            size = length-set o t stage ∙ r.size;
-            stages = stored ∙ sym (turn-goes R m stage f t waiting (sym (told b q) ∙ e));
-          }
+        pub turn-shift : Shiftable v more less c
+        unfolding rules_of
+        turn-shift = rw (here, more-is, less-is) (goes-shift R f t stage kind c h m r.pass.moves waiting r.counted table)
+
+        stored : at (set o t stage) ≡ given true t stage f
+        unfolding given
+        stored =
+            fun_ext
+            (λ u.
+            ⊎_elim
+            (λ (e : eqb u t ≡ true). let q : u ≡ t = eqb-true u t e in rw e (rw q (get_or-set_same o t stage 0 (omega (arith, h, r.size, r.good.tunnels)))))
+            (λ (e : eqb u t ≡ false). rw e (get_or-set_other o t u stage 0 (eqb-false u t e)))
+            (bool_cases (eqb u t)))
+
+        pub turn_on : (c' : List ℕ) (b : Bool) → b ≡ fits_all v unit more times c x → goes_by kind b ≡ true → Shifted v more less c c'
+            → Reached l m (turn R m stage f t) c' (set o t stage)
+        unfolding rules_of
+        turn_on c' b q e S =
+            let j : ℕ = stage - 1 in
+            let back : suc j ≡ stage = omega (arith, r.pass.inside.0) in
+            record {
+              counted = rw stored (rw back at (goes-counted R f t j kind c h m c' r.pass.moves waiting r.counted (rw (here, more-is, less-is) at S)));
+              size = length-set o t stage ∙ r.size;
+              stages = stored ∙ sym (turn-goes R m stage f t waiting (sym (told b q) ∙ e));
+            }
 
 -- ---- the turns of a pass
 

@@ -64,20 +64,21 @@ module _ (n p : List ℕ) (k : Checkable n p) (i l : ℕ) (hi : i < (plan_sizes 
   unfolding plan_of larger_row
   tunnel-worst one t v e = e ∙ sym (worst-tunnel N one P i l t hi)
 
-  module _ (whole : by_flow N ≡ true) (befores afters : List ℕ) (b : Gathered N (across N l (row N P i)) (network_sizes n).tunnels befores)
-      (a : Gathered N (across N l (row N P (i + 1))) (network_sizes n).tunnels afters) (f v : ℕ) (hf : f < most_flows) (e : v ≡ max (get_or befores f 0) (get_or afters f 0)) where
+  module _ (whole : by_flow N ≡ true) (befores afters : List ℕ) (b : Gathered N (across N l (row N P i)) (network_of n).tunnels befores)
+      (a : Gathered N (across N l (row N P (i + 1))) (network_of n).tunnels afters) (f v : ℕ) (hf : f < most_flows) (e : v ≡ max (get_or befores f 0) (get_or afters f 0)) where
     pub flow-worst : v ≡ worst 1 N P i l f
-    unfolding network_of plan_of
+    unfolding plan_of
     flow-worst =
         e
         ∙ ap₂ max (gathered-all N _ befores f b hf) (gathered-all N _ afters f a hf ∙ ap (λ (r : ℕ). flow_sum N (across N l (row N P r)) f) (add-one i))
         ∙ sym (worst-flow N whole P i l f hi)
 
     pub flow-small : v ≤ most_tunnels * (most_amount * most_steps)
+    unfolding network_of
     flow-small =
         rw e (max-le (sum_low i befores b (omega (arith, hi))) (sum_low (i + 1) afters a (omega (arith, hi))))
       where
-        sum_low : (r : ℕ) (s : List ℕ) → Gathered N (across N l (row N P r)) (network_sizes n).tunnels s → r ≤ (plan_sizes p).steps → get_or s f 0 ≤ most_tunnels * (most_amount * most_steps)
+        sum_low : (r : ℕ) (s : List ℕ) → Gathered N (across N l (row N P r)) N.tunnels s → r ≤ (plan_sizes p).steps → get_or s f 0 ≤ most_tunnels * (most_amount * most_steps)
         sum_low r s g h =
             let m = sum_bound (network_sizes n).tunnels (λ t. eqb (N.flow t) f) (across N l (row N P r)) (most_amount * most_steps) (λ t ht. across-small n p k r l t h ht) in
             omega (arith, g.sums f hf, m, k.network.ranges.sized.counts)

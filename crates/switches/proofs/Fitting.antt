@@ -14,9 +14,12 @@ use borrow.Author.Tests.{ltb-false, eqb-true, eqb-false}
 use Rattle.model.specs.Limits.{most_tunnels, most_switches, most_room}
 use Rattle.model.specs.Search.{only_if, first}
 use Rattle.model.specs.Outcome.{Place}
+use Rattle.model.specs.declared.Cause.TheVariants.{Unfit as unfit}
 use Rattle.model.proofs.Searches.{bool_cases, first-zero, first_on, first-at}
-use Rattle.lists.specs.Lists.{at, room_at, table_sizes}
-use Rattle.lists.specs.declared.Answer.TheVariants.{Done, Refused}
+use Rattle.lists.specs.Lists.{at, table_sizes}
+use Rattle.std.specs.Prelude.{Ok, Err, Some, None}
+use Rattle.std.specs.declared.option.Option as code
+use Rattle.lists.specs.Refusals.{refusal}
 use Rattle.rules.specs.Rules.{Rules, keep, add, remove, is_kind, count, usable, spare}
 use Rattle.rules.specs.Stage.{too_many, unfit_at, lowest_unfit}
 use Rattle.rules.specs.Lists.{rules_of, GoodRules}
@@ -38,7 +41,7 @@ judging-start R x e = record {
   each = λ s h. absurd (omega (arith, h));
 }
 
-pub judging-end : (l x : List ℕ) (n : ℕ) → Judging (rules_of l) n x → n ≡ (table_sizes l).switches → Judged l (Done 0) x
+pub judging-end : (l x : List ℕ) (n : ℕ) → Judging (rules_of l) n x → n ≡ (table_sizes l).switches → Judged l (Ok tt) x
 unfolding rules_of
 judging-end l x n J e =
     let fit : lowest_unfit (rules_of l) ≡ none = rw e at J.fits in
@@ -49,18 +52,24 @@ judging-end l x n J e =
 abbrev spot : ℕ → ℕ → Place
 spot s n = record { place = s; second = n }
 
-pick : (a b : Bool) (s n : ℕ) → n ≡ cond a 0 (cond b 1 2) → n < 2 → or_else (only_if a (spot s 0)) (only_if b (spot s 1)) ≡ some (spot s n)
+abbrev which : Bool → Bool → code.Option ℕ
+which a b = cond a (Some 0) (cond b (Some 1) None)
+
+some-none : (n : ℕ) → Some n ≡ None → ⊥
+some-none n e = let z : ◌≡◌ {A = ℕ} 0 1 = cc in omega (arith, z)
+
+pick : (a b : Bool) (s n : ℕ) → Some n ≡ which a b → or_else (only_if a (spot s 0)) (only_if b (spot s 1)) ≡ some (spot s n)
 unfolding only_if or_else
-pick true b s n e h = rw e refl
-pick false true s n e h = rw e refl
-pick false false s n e h = absurd (omega (arith, e, h))
+pick true b s n e = let z : n ≡ 0 = cc in rw z refl
+pick false true s n e = let z : n ≡ 1 = cc in rw z refl
+pick false false s n e = absurd (some-none n e)
 
-pick-none : (a b : Bool) (n : ℕ) → n ≡ cond a 0 (cond b 1 2) → 2 ≤ n → (a ≡ false) × (b ≡ false)
-pick-none true b n e h = absurd (omega (arith, e, h))
-pick-none false true n e h = absurd (omega (arith, e, h))
-pick-none false false n e h = (refl, refl)
+pick-none : (a b : Bool) → None ≡ which a b → (a ≡ false) × (b ≡ false)
+pick-none true b e = absurd (some-none 0 (sym e))
+pick-none false true e = absurd (some-none 1 (sym e))
+pick-none false false e = (refl, refl)
 
-module _ (l kept adding removing : List ℕ) (g : GoodRules l) (K : Kinds l kept adding removing) (s : ℕ) (h : s < (table_sizes l).switches) (i : ℕ) (here : i ≡ room_at (table_sizes l) s) where
+module _ (l kept adding removing : List ℕ) (g : GoodRules l) (K : Kinds l kept adding removing) (s : ℕ) (h : s < (table_sizes l).switches) where
   abbrev R : Rules
   R = rules_of l
 
@@ -74,60 +83,68 @@ module _ (l kept adding removing : List ℕ) (g : GoodRules l) (K : Kinds l kept
   pub counts-most : (at kept s ≤ most_tunnels) × (at adding s ≤ most_tunnels) × (at removing s ≤ most_tunnels)
   counts-most = ((counted _ kept K.keeps).1, (counted _ adding K.enters).1, (counted _ removing K.leaves).1)
 
-  abbrev most : ℕ
-  most = (1000 - at l 1) * at l i
+  -- the table of spares has room for this switch
+  pub in-table : (x : List ℕ) → Judging R s x → s < length x
+  in-table x J = omega (arith, low, J.table.size)
 
-  most-is : most ≡ usable R s
-  unfolding usable rules_of
-  most-is = ap (λ (j : ℕ). (1000 - at l 1) * at l j) here
+  pub in-counts : (s < length kept) × (s < length adding) × (s < length removing)
+  in-counts = (omega (arith, low, K.keeps.size), omega (arith, low, K.enters.size), omega (arith, low, K.leaves.size))
 
-  pub usable-most : (1000 - at l 1) * at l i ≤ 1000 * most_room
-  usable-most = let part : 1000 - at l 1 ≤ 1000 = omega arith in rw here (mul-le-mul part (g.room s h))
+  module _ (slack room : ℕ) (slack-is : slack ≡ R.slack) (room-is : room ≡ R.room s) where
+    abbrev most : ℕ
+    most = (1000 - slack) * room
 
-  -- the test of a set is by its counts
-  test-same : (other : ℕ) (c : List ℕ) → Counted R R.tunnels (is_kind R other) c → too_many R other s ≡ ltb most (1000 * (at kept s + at c s))
-  unfolding too_many
-  test-same other c C = rw (most-is, (counted _ kept K.keeps).0, (counted _ c C).0) refl
+    most-is : most ≡ usable R s
+    unfolding usable
+    most-is = ap₂ (λ (a b : ℕ). (1000 - a) * b) slack-is room-is
 
-  module _ (second : ℕ) (e : second ≡ unfit_by ((1000 - at l 1) * at l i) (at kept s) (at removing s) (at adding s)) (x : List ℕ) (J : Judging R s x) where
-    pub judging-not : second < 2 → Judged l (Refused 18 s second) x
-    unfolding rules_of unfit_at unfit_by
-    judging-not b =
-        let found : lowest_unfit R ≡ some (spot s second) = first-at (unfit_at R) s R.switches _ J.fits not-here h in
-        record { answer = rw found; spares = λ z. absurd (some-ne-none (spot s second) (sym found ∙ z)) }
-      where
-        not-here : unfit_at R s ≡ some (spot s second)
-        not-here = rw (test-same remove removing K.leaves, test-same add adding K.enters) (pick _ _ s second e b)
+    pub usable-most : room ≤ most_room → (1000 - slack) * room ≤ 1000 * most_room
+    usable-most r = let part : 1000 - slack ≤ 1000 = omega arith in mul-le-mul part r
 
-    module _ (n : 2 ≤ second) where
-      fit : (ltb most (1000 * (at kept s + at removing s)) ≡ false) × (ltb most (1000 * (at kept s + at adding s)) ≡ false)
-      unfolding unfit_by
-      fit = pick-none _ _ second e n
+    -- the test of a set is by its counts
+    test-same : (other : ℕ) (c : List ℕ) → Counted R R.tunnels (is_kind R other) c → too_many R other s ≡ ltb most (1000 * (at kept s + at c s))
+    unfolding too_many
+    test-same other c C = rw (most-is, (counted _ kept K.keeps).0, (counted _ c C).0) refl
 
-      pub kept-most : 1000 * at kept s ≤ (1000 - at l 1) * at l i
-      kept-most = omega (arith, ltb-false most (1000 * (at kept s + at removing s)) fit.0)
-
-      pub judging-on : Judging R (s + 1) (set x s ((1000 - at l 1) * at l i - 1000 * at kept s))
-      unfolding unfit_at only_if or_else spare usable rules_of
-      judging-on = record {
-        fits = first_on (unfit_at R) s J.fits (rw (test-same remove removing K.leaves, test-same add adding K.enters, fit.0, fit.1));
-        table = record { size = length-set x s _ ∙ J.table.size; most = small };
-        each = each;
-      }
+    module _ (x : List ℕ) (J : Judging R s x) where
+      pub judging-not : (second : ℕ) → Some second ≡ unfit_by ((1000 - slack) * room) (at kept s) (at removing s) (at adding s) → Judged l (Err (refusal unfit s second)) x
+      unfolding rules_of unfit_at unfit_by
+      judging-not second e =
+          let found : lowest_unfit R ≡ some (spot s second) = first-at (unfit_at R) s R.switches _ J.fits not-here h in
+          record { answer = rw found; spares = λ z. absurd (some-ne-none (spot s second) (sym found ∙ z)) }
         where
-          stored : at (set x s (most - 1000 * at kept s)) s ≡ most - 1000 * at kept s
-          stored = get_or-set_same x s (most - 1000 * at kept s) 0 (omega (arith, low, J.table.size))
+          not-here : unfit_at R s ≡ some (spot s second)
+          not-here = rw (test-same remove removing K.leaves, test-same add adding K.enters) (pick _ _ s second e)
 
-          small : (u : ℕ) → u < most_switches → at (set x s (most - 1000 * at kept s)) u ≤ 1000 * most_room
-          small u k =
-              ⊎_elim
-              (λ e. let q : u ≡ s = eqb-true u s e in rw q (omega (arith, stored, usable-most)))
-              (λ e. omega (arith, get_or-set_other x s u (most - 1000 * at kept s) 0 (eqb-false u s e), J.table.most u k))
-              (bool_cases (eqb u s))
+      module _ (n : None ≡ unfit_by ((1000 - slack) * room) (at kept s) (at removing s) (at adding s)) where
+        fit : (ltb most (1000 * (at kept s + at removing s)) ≡ false) × (ltb most (1000 * (at kept s + at adding s)) ≡ false)
+        unfolding unfit_by
+        fit = pick-none _ _ n
 
-          each : (u : ℕ) → u < s + 1 → at (set x s (most - 1000 * at kept s)) u ≡ usable R u - 1000 * count R (is_kind R keep) u
-          each u k =
-              ⊎_elim
-              (λ e. let q : u ≡ s = eqb-true u s e in rw q (stored ∙ ap₂ (λ (m n : ℕ). m - 1000 * n) most-is (counted _ kept K.keeps).0))
-              (λ e. get_or-set_other x s u (most - 1000 * at kept s) 0 (eqb-false u s e) ∙ J.each u (omega (arith, k, eqb-false u s e)))
-              (bool_cases (eqb u s))
+        pub kept-most : 1000 * at kept s ≤ (1000 - slack) * room
+        kept-most = omega (arith, ltb-false most (1000 * (at kept s + at removing s)) fit.0)
+
+        pub judging-on : room ≤ most_room → Judging R (s + 1) (set x s ((1000 - slack) * room - 1000 * at kept s))
+        unfolding unfit_at only_if or_else spare
+        judging-on r = record {
+          fits = first_on (unfit_at R) s J.fits (rw (test-same remove removing K.leaves, test-same add adding K.enters, fit.0, fit.1));
+          table = record { size = length-set x s _ ∙ J.table.size; most = small };
+          each = each;
+        }
+          where
+            stored : at (set x s (most - 1000 * at kept s)) s ≡ most - 1000 * at kept s
+            stored = get_or-set_same x s (most - 1000 * at kept s) 0 (omega (arith, low, J.table.size))
+
+            small : (u : ℕ) → u < most_switches → at (set x s (most - 1000 * at kept s)) u ≤ 1000 * most_room
+            small u k =
+                ⊎_elim
+                (λ e. let q : u ≡ s = eqb-true u s e in rw q (omega (arith, stored, usable-most r)))
+                (λ e. omega (arith, get_or-set_other x s u (most - 1000 * at kept s) 0 (eqb-false u s e), J.table.most u k))
+                (bool_cases (eqb u s))
+
+            each : (u : ℕ) → u < s + 1 → at (set x s (most - 1000 * at kept s)) u ≡ usable R u - 1000 * count R (is_kind R keep) u
+            each u k =
+                ⊎_elim
+                (λ e. let q : u ≡ s = eqb-true u s e in rw q (stored ∙ ap₂ (λ (m n : ℕ). m - 1000 * n) most-is (counted _ kept K.keeps).0))
+                (λ e. get_or-set_other x s u (most - 1000 * at kept s) 0 (eqb-false u s e) ∙ J.each u (omega (arith, k, eqb-false u s e)))
+                (bool_cases (eqb u s))

@@ -10,9 +10,8 @@ use borrow.Author.Tests.{eq-eqb, ne_eqb}
 use Rattle.model.specs.Limits.{most_tunnels, most_switches}
 use Rattle.model.specs.Sets.{in_set}
 use Rattle.model.proofs.Sums.{sum-zero, sum-take, sum-skip, sum_bound}
-use Rattle.lists.specs.Lists.{at, rule_at, table_sizes}
+use Rattle.lists.specs.Lists.{at}
 use Rattle.rules.specs.Rules.{Rules, is_kind, rule}
-use Rattle.rules.specs.Lists.{rules_of}
 use Rattle.switches.specs.Inner.{Table, Counted, Shifted, Shiftable}
 
 pub cond-zero : (b : Bool) → ◌≡◌ {A = ℕ} (cond b 0 0) 0
@@ -55,13 +54,13 @@ module _ (R : Rules) (n : ℕ) (p : ℕ → Bool) (c : List ℕ) where
 pub one_more : (via : ℕ) (c : List ℕ) → Table most_tunnels c → Shiftable via 1 0 c
 one_more via c T = record { table = T; small = omega arith; enough = λ s h e. omega arith }
 
--- ---- the tunnels of a kind, in a list: t is the next, and its lines begin at i
+-- ---- the tunnels of a kind: t is the next
 
-module _ (l : List ℕ) (kind t i : ℕ) (c : List ℕ) (here : i ≡ rule_at (table_sizes l) t) (C : Counted (rules_of l) t (is_kind (rules_of l) kind) c) where
-  pub kind-take : (c' : List ℕ) → at l (i + 1) ≡ kind → Shifted (at l i) 1 0 c c' → Counted (rules_of l) (t + 1) (is_kind (rules_of l) kind) c'
-  unfolding rules_of is_kind
-  kind-take c' e S = counted-take (rules_of l) t (is_kind (rules_of l) kind) c c' C (eq-eqb _ kind (rw here at e)) (rw here at S)
+module _ (R : Rules) (kind t : ℕ) (c : List ℕ) (C : Counted R t (is_kind R kind) c) where
+  pub kind-take : (c' : List ℕ) → R.kind t ≡ kind → Shifted (R.via t) 1 0 c c' → Counted R (t + 1) (is_kind R kind) c'
+  unfolding is_kind
+  kind-take c' e S = counted-take R t (is_kind R kind) c c' C (eq-eqb _ kind e) S
 
-  pub kind-skip : at l (i + 1) ≢ kind → Counted (rules_of l) (t + 1) (is_kind (rules_of l) kind) c
-  unfolding rules_of is_kind
-  kind-skip e = counted_skip (rules_of l) t (is_kind (rules_of l) kind) c C (ne_eqb _ kind (rw here at e))
+  pub kind-skip : R.kind t ≢ kind → Counted R (t + 1) (is_kind R kind) c
+  unfolding is_kind
+  kind-skip e = counted_skip R t (is_kind R kind) c C (ne_eqb _ kind e)

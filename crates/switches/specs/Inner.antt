@@ -1,13 +1,15 @@
 -- What the inner functions of the code ask for and give.
-use Rattle.std.specs.Prelude.{ℕ, ◌+◌, ◌*◌, ◌≤◌, ◌<◌, ◌≡◌, Bool, true, cond, not, ◌||◌, List, leb, ltb, length}
+use Rattle.std.specs.Prelude.{ℕ, ◌+◌, ◌*◌, ◌≤◌, ◌<◌, ◌≡◌, Bool, true, cond, not, ◌||◌, List, leb, ltb, length, Result, Ok, Err, Some, None, ⊤}
+use Rattle.std.specs.declared.option.Option as code
 use Rattle.std.proofs.Math.Option.{Option, none, some}
 use Rattle.model.specs.Limits.{most_tunnels, most_switches, most_room}
 use Rattle.model.specs.Sum.{sum_over}
 use Rattle.model.specs.Sets.{in_set}
-use Rattle.model.specs.Outcome.{Place, number, unfit}
+use Rattle.model.specs.Outcome.{Place}
+use Rattle.model.specs.declared.Cause.TheVariants.{Unfit as unfit}
 use Rattle.lists.specs.Lists.{at}
-use Rattle.lists.specs.declared.Answer.{Answer}
-use Rattle.lists.specs.declared.Answer.TheVariants.{Done, Refused}
+use Rattle.lists.specs.declared.refusal.Refusal.{Refusal}
+use Rattle.lists.specs.Refusals.{refusal}
 use Rattle.rules.specs.Rules.{Rules, keep, add, remove, is_kind, rule, spare}
 use Rattle.rules.specs.Stage.{every, lowest_unfit}
 use Rattle.rules.specs.Lists.{rules_of}
@@ -54,15 +56,15 @@ fits_all via unit more times c x = every most_switches (λ s. not (in_set via s)
 
 -- ---- refusal 18
 
--- the second of the refusal at a switch, 2 where there is none
-unfoldable pub unfit_by : ℕ → ℕ → ℕ → ℕ → ℕ
-unfit_by usable kept removing adding = cond (ltb usable (1000 * (kept + removing))) 0 (cond (ltb usable (1000 * (kept + adding))) 1 2)
+-- the second of the refusal at a switch, if there is one
+unfoldable pub unfit_by : ℕ → ℕ → ℕ → ℕ → code.Option ℕ
+unfit_by usable kept removing adding = cond (ltb usable (1000 * (kept + removing))) (Some 0) (cond (ltb usable (1000 * (kept + adding))) (Some 1) None)
 
-abbrev pub told : Option Place → Answer
-told none = Done 0
-told (some p) = Refused (number unfit) p.place p.second
+abbrev pub told : Option Place → Result ⊤ Refusal
+told none = Ok tt
+told (some p) = Err (refusal unfit p.place p.second)
 
 -- a is the refusal that is due, or the spares are there
-pub record Judged (l : List ℕ) (a : Answer) (x : List ℕ) : Type 0 where
+pub record Judged (l : List ℕ) (a : Result ⊤ Refusal) (x : List ℕ) : Type 0 where
   pub answer : a ≡ told (lowest_unfit (rules_of l))
   pub spares : lowest_unfit (rules_of l) ≡ none → Spares (rules_of l) x

@@ -1,69 +1,70 @@
 // Do the old and the new set fit, and what is spare beside the kept tunnels?
 ghost use Rattle.std.specs.Prelude.{◌≡◌, ◌≤◌, replicate};
 ghost use Rattle.rules.specs.Rules.{remove};
-ghost use Rattle.rules.specs.Lists.{GoodRules};
 ghost use Rattle.model.specs.Limits.{most_tunnels, most_switches};
 ghost use Rattle.switches.specs.Inner.{OfKind, Kinds, unfit_by, Judged};
 
 use crate::tables;
 use crate::tables::SWITCHES;
-use lists::{Answer, RuleTables};
+use lists::refusal::{Cause, Refusal};
+use rules::judged::{Kind, RulesList};
 
-// Which set does not fit what may be used of a switch: 0 the old one, 1 the new one, 2 neither.
-fn unfit(usable: u64, kept: u64, removing: u64, adding: u64) -> u64
+// Which set does not fit what may be used of a switch, if one does not: 0 the old one, 1 the new one.
+fn unfit(usable: u64, kept: u64, removing: u64, adding: u64) -> Option<u64>
     requires { (kept ≤ most_tunnels) × (removing ≤ most_tunnels) × (adding ≤ most_tunnels) }
     ensures { result ≡ unfit_by usable kept removing adding }
 {
     if usable < 1000 * (kept + removing) {
-        return 0;
+        return Some(0);
     }
     if usable < 1000 * (kept + adding) {
-        return 1;
+        return Some(1);
     }
-    2
+    None
 }
 
-// Refusal 18 for the first switch that a set does not fit, the old one before the new; else done, with the spares in their table.
+// Refusal 18 for the first switch that a set does not fit, the old one before the new; else the spares are in their table.
 fn by_counts(
-    list: &[u64],
+    rules: &RulesList<'_>,
     kept: &[u64],
     adding: &[u64],
     removing: &[u64],
     spares: &mut [u64],
-) -> Answer
-    requires good_rules { GoodRules list.now × Kinds list.now kept.now adding.now removing.now }
+) -> Result<(), Refusal>
+    requires kinds { Kinds rules.now kept.now adding.now removing.now }
     requires spares_value { spares.old ≡ replicate most_switches 0 }
-    ensures { Judged list.now result spares.new }
+    ensures { Judged rules.now result spares.new }
 {
-    let free = 1000 - list[RuleTables::SLACK];
-    let sizes = RuleTables::of(list);
-    let mut s: usize = 0;
-    while s < sizes.switches {
-        let usable = free * list[sizes.room_at(s)];
+    let free = 1000 - rules.slack();
+    // An index, since the switch's number is its place in each table and is told in the refusal.
+    for s in 0..rules.switches() {
+        let usable = free * rules.room(s);
         let held = kept[s];
-        let second = unfit(usable, held, removing[s], adding[s]);
-        if second < 2 {
-            return Answer::Refused {
-                number: 18,
+        if let Some(second) = unfit(usable, held, removing[s], adding[s]) {
+            return Err(Refusal {
+                cause: Cause::Unfit,
                 place: s as u64,
                 second,
-            };
+            });
         }
         spares[s] = usable - 1000 * held;
-        s += 1;
     }
-    Answer::Done(0)
+    Ok(())
 }
 
 // The same, with the tunnels to remove counted: all of them remain at first.
-pub fn judge(list: &[u64], remaining: &mut [u64], spares: &mut [u64]) -> Answer
-    requires { GoodRules list.now × (remaining.old ≡ replicate most_switches 0) × (spares.old ≡ replicate most_switches 0) }
-    ensures { Judged list.now result spares.new × OfKind list.now remove remaining.new }
+pub fn judge(
+    rules: &RulesList<'_>,
+    remaining: &mut [u64],
+    spares: &mut [u64],
+) -> Result<(), Refusal>
+    requires { (remaining.old ≡ replicate most_switches 0) × (spares.old ≡ replicate most_switches 0) }
+    ensures { Judged rules.now result spares.new × OfKind rules.now remove remaining.new }
 {
     let mut kept = [0u64; SWITCHES];
     let mut adding = [0u64; SWITCHES];
-    tables::count(list, RuleTables::KEEP, &mut kept);
-    tables::count(list, RuleTables::ADD, &mut adding);
-    tables::count(list, RuleTables::REMOVE, remaining);
-    by_counts(list, &kept, &adding, remaining, spares)
+    tables::count(rules, Kind::Keep, &mut kept);
+    tables::count(rules, Kind::Add, &mut adding);
+    tables::count(rules, Kind::Remove, remaining);
+    by_counts(rules, &kept, &adding, remaining, spares)
 }

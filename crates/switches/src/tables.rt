@@ -1,10 +1,11 @@
 // Tables with a number for each switch that there can be.
 ghost use Rattle.std.specs.Prelude.{◌≡◌, ◌+◌, ◌*◌, ◌≤◌, replicate};
 ghost use Rattle.model.specs.Limits.{most_tunnels, most_steps, most_switches, most_room};
-ghost use Rattle.rules.specs.Lists.{GoodRules};
+ghost use Rattle.rules.specs.Kinds.{kind_number};
 ghost use Rattle.switches.specs.Inner.{Table, OfKind, Shiftable, Shifted, fits_all};
 
 use lists::RuleTables;
+use rules::judged::{Kind, RulesList};
 
 // How many numbers a table has.
 pub const SWITCHES: usize = RuleTables::SWITCHES as usize;
@@ -40,17 +41,13 @@ pub fn fits(counts: &[u64], spares: &[u64], via: u64, unit: u64, more: u64, time
 }
 
 // Counts the tunnels of a kind.
-pub fn count(list: &[u64], kind: u64, counts: &mut [u64])
-    requires { GoodRules list.now × (counts.old ≡ replicate most_switches 0) }
-    ensures { OfKind list.now kind counts.new }
+pub fn count(rules: &RulesList<'_>, kind: Kind, counts: &mut [u64])
+    requires { counts.old ≡ replicate most_switches 0 }
+    ensures { OfKind rules.now (kind_number kind) counts.new }
 {
-    let sizes = RuleTables::of(list);
-    let mut t: usize = 0;
-    while t < sizes.tunnels {
-        let at = sizes.rule_at(t);
-        if list[at + RuleTables::KIND] == kind {
-            shift(counts, list[at], 1, 0);
+    for t in 0..rules.tunnels() {
+        if rules.kind(t) == kind {
+            shift(counts, rules.via(t), 1, 0);
         }
-        t += 1;
     }
 }

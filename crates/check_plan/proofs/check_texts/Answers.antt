@@ -1,20 +1,17 @@
-use Rattle.std.proofs.Common.{ℕ, ◌≡◌, List, refl, sym, ap, ◌∙◌}
-use Rattle.model.specs.Outcome.{Outcome, good, refused}
+use Rattle.std.proofs.Common.{ℕ, ◌≡◌, List, take, sym, ap, ◌∙◌, rules}
+use Rattle.std.specs.declared.result.Result.TheVariants.{Err}
+use Rattle.model.specs.Outcome.{Outcome}
 use Rattle.model.specs.Limits.{most_tunnels}
-use Rattle.lists.specs.Lists.{link_at, flow_at, tunnel_at, most_network}
-use Rattle.lists.specs.Answers.{done}
+use Rattle.lists.specs.Lists.{link_at, flow_at, tunnel_at, most_network, most_plan}
+use Rattle.lists.specs.Refusals.{counted, done_with}
 use Rattle.lists.specs.declared.Answer.{Answer}
-use Rattle.lists.specs.declared.Answer.TheVariants.{Done}
 use Rattle.forms.specs.Named.{read_network, read_plan}
 use Rattle.checker.specs.Check.{verdict, checked}
-use Rattle.report.proofs.Room.{network-fits, plan-fits, given-done}
+use Rattle.checker.proofs.Checking.{checked-same}
+use Rattle.report.proofs.Room.{network-fits, plan-fits, given}
+use Rattle.report.proofs.Answered.{err-read}
 use Rattle.report.specs.Printed.{on_read}
 use Rattle.check_plan.proofs.check_texts.Goals as goal
-
--- a text that is refused is the answer
-refusal_stands : (o : Outcome (List ℕ)) (next : List ℕ → Answer) (a : Answer) → a ≡ done o → ((k : ℕ) → a ≡ Done k → ⊥) → a ≡ on_read o next
-refusal_stands (good l) next a e not = absurd (not _ e)
-refusal_stands (refused c place second) next a e not = e
 
 abbrev after_plan : List ℕ → List ℕ → Answer
 after_plan n p = checked n (verdict 1 n p most_tunnels)
@@ -23,18 +20,34 @@ abbrev after_network : List ℕ → List ℕ → Answer
 after_network plan n = on_read (read_plan plan) (after_plan n)
 
 -- the network is refused
-pub returns-in_default : goal.returns-in_default
+pub returns-in_err-length : goal.returns-in_err-length
 unfolding most_network link_at flow_at tunnel_at
-returns-in_default c =
+returns-in_err-length c =
     let text = c.args.network.now in
-    refusal_stands (read_network text) (after_network c.args.plan.now) _ (c.read_network-network_read.ensures.value ∙ ap done (network-fits text)) c.in_default.not-Done
+    let r = c.in_err-length.field-0.0 in
+    let e : c.from_residual.result ≡ Err r = search rules in
+    ap done_with e ∙ err-read r (read_network text) (after_network c.args.plan.now) (ap counted (sym (network-fits text)) ∙ sym c.read_network.ensures.value ∙ c.in_err-length.was)
 
 -- the network is read, and the plan is refused
-pub returns-in_default-plan_read : goal.returns-in_default-plan_read
+pub returns-in_err-size : goal.returns-in_err-size
 unfolding most_network link_at flow_at tunnel_at
-returns-in_default-plan_read c =
+returns-in_err-size c =
     let text = c.args.network.now in
     let plan = c.args.plan.now in
-    let read = given-done most_network (read_network text) _ _ _ _ (network-fits text) c.in-Done.ensures.value refl c.in-Done.ensures.out_after in
+    let r = c.in_err-size.field-0.0 in
+    let e : c.from_residual-in_err-size.result ≡ Err r = search rules in
+    let read = given most_network (read_network text) _ _ _ (network-fits text) (sym c.read_network.ensures.value ∙ c.in_ok-length.was) c.read_network.ensures.out_after in
     let then-plan = ap (λ (o : Outcome (List ℕ)). on_read o (after_network plan)) read.outcome in
-    refusal_stands (read_plan plan) (after_plan _) _ (c.read_plan-plan_read.ensures.value ∙ ap done (plan-fits plan)) c.in_default-plan_read.not-Done ∙ sym then-plan
+    ap done_with e ∙ err-read r (read_plan plan) (after_plan _) (ap counted (sym (plan-fits plan)) ∙ sym c.read_plan.ensures.value ∙ c.in_err-size.was) ∙ sym then-plan
+
+-- both are read
+pub returns : goal.returns
+unfolding most_network link_at flow_at tunnel_at
+returns c =
+    let text = c.args.network.now in
+    let plan = c.args.plan.now in
+    let read = given most_network (read_network text) _ _ _ (network-fits text) (sym c.read_network.ensures.value ∙ c.in_ok-length.was) c.read_network.ensures.out_after in
+    let then-plan = ap (λ (o : Outcome (List ℕ)). on_read o (after_network plan)) read.outcome in
+    let listed = given most_plan (read_plan plan) _ _ _ (plan-fits plan) (sym c.read_plan.ensures.value ∙ c.in_ok-size.was) c.read_plan.ensures.out_after in
+    let then-check = ap (λ (o : Outcome (List ℕ)). on_read o (after_plan (take c.in_ok-length.length c.read_network.new.out))) listed.outcome in
+    ap done_with c.check_plan.ensures.value ∙ checked-same _ _ ∙ sym then-check ∙ sym then-plan

@@ -1,20 +1,17 @@
 use Rattle.std.proofs.Common.{arith, ap, ◌∙◌}
+use Rattle.model.specs.Outcome.{number}
 use Rattle.forms.specs.Bytes.{bytes}
 use Rattle.report.specs.Printed.{printed_check}
 use Rattle.report.proofs.Answered.{puts-front, refusal-front}
 use Rattle.check_plan.proofs.put_answer.Goals as goal
 
-pub returns-in-Done-clause-out_after : goal.returns-in-Done-clause-out_after
-returns-in-Done-clause-out_after c =
+pub returns-in-Ok-clause-out_after : goal.returns-in-Ok-clause-out_after
+returns-in-Ok-clause-out_after c =
     let f = puts-front (bytes "accepted=1\n") _ _ _ (omega (arith, c.requires)) c.put.ensures in
-    f.1 ∙ ap printed_check c.in-Done.ensures
+    f.1 ∙ ap printed_check c.in-Ok.ensures
 
-pub returns-in-Refused-clause-prefix_len : goal.returns-in-Refused-clause-prefix_len
-returns-in-Refused-clause-prefix_len c =
-    let f = refusal-front c.in-Refused.number c.in-Refused.place c.in-Refused.second _ _ _ c.requires c.put_refusal.ensures in
-    f.0
-
-pub returns-in-Refused-clause-out_after : goal.returns-in-Refused-clause-out_after
-returns-in-Refused-clause-out_after c =
-    let f = refusal-front c.in-Refused.number c.in-Refused.place c.in-Refused.second _ _ _ c.requires c.put_refusal.ensures in
-    f.1 ∙ ap printed_check c.in-Refused.ensures
+pub returns-in-Err : goal.returns-in-Err
+returns-in-Err c =
+    let r = c.in-Err.refusal in
+    let f = refusal-front (number r.cause) r.place r.second _ _ _ c.requires c.put_refusal.ensures in
+    record { prefix_len = f.0; out_after = f.1 ∙ ap printed_check c.in-Err.ensures }

@@ -14,21 +14,21 @@ use Rattle.lengths.specs.Lines.{lines_from}
 use Rattle.lengths.proofs.Runs.{lines_none, all_lines, writable, length_more}
 use borrow.Author.Rules.{rules}
 use Rattle.lengths.proofs.rules_len.Goals as goal
-use Rattle.lengths.proofs.rules_len.Goals.{After-rules_field-field}
+use Rattle.lengths.proofs.rules_len.Goals.{After-rules_field-line}
 
 -- in a turn
-module _ (c : After-rules_field-field) where
+module _ (c : After-rules_field-line) where
   few : c.loop-i.i < most_numbers
-  few = at_most _ _ _ c.loop-i-test.true c.requires.whole.sound
+  few = at_most _ _ _ c.loop-i-test.true c.requires.sound
 
   abbrev line : ℕ
-  line = length (line_of c.rules_field-field.result (get_or c.args.list.now c.loop-i.i 0))
+  line = length (line_of c.rules_field-line.result (get_or c.args.list.now c.loop-i.i 0))
 
   short : line ≤ 27
-  short = line-short c.rules_field-field.result _
+  short = line-short c.rules_field-line.result _
 
   more : length (lines_from Rules c.args.list.now 0 (c.loop-i.i + 1)) ≡ length (lines_from Rules c.args.list.now 0 c.loop-i.i) + line
-  more = length_more _ _ _ c.loop-i-test.true c.requires.whole.sound _ c.rules_field-field.ensures
+  more = length_more _ _ _ c.loop-i-test.true c.requires.sound _ c.rules_field-line.ensures
 
 pub loop-i-init : goal.loop-i-init
 loop-i-init c = record { few = search rules; sum-is = sym (ap length (lines_none _ _ 0)); small = search rules }
@@ -36,8 +36,8 @@ loop-i-init c = record { few = search rules; sum-is = sym (ap length (lines_none
 pub slice_bounds-rules_field-end : goal.slice_bounds-rules_field-end
 slice_bounds-rules_field-end c = sym (length-take-le _ _ (le_of_lt c.loop-i-test.true))
 
-pub rules_field-field-requires : goal.rules_field-field-requires
-rules_field-field-requires c = sound-take Rules _ _ (le_of_lt c.loop-i-test.true) c.requires.whole.sound
+pub rules_field-line-requires : goal.rules_field-line-requires
+rules_field-line-requires c = sound-take Rules _ _ (le_of_lt c.loop-i-test.true) c.requires.sound
 
 pub offset_bounds-list-i : goal.offset_bounds-list-i
 offset_bounds-list-i c = omega (arith, few c)
@@ -45,28 +45,19 @@ offset_bounds-list-i c = omega (arith, few c)
 pub bounds-list-i : goal.bounds-list-i
 bounds-list-i c = c.loop-i-test.true
 
-pub field_len-sum-requires : goal.field_len-sum-requires
-field_len-sum-requires c = record {
-  keys_value = c.requires.keys_value;
-  writable = writable _ _ _ c.loop-i-test.true c.requires.whole.sound _ c.rules_field-field.ensures;
-}
+pub line_len-sum-requires : goal.line_len-sum-requires
+line_len-sum-requires c = writable _ _ _ c.loop-i-test.true c.requires.sound _ c.rules_field-line.ensures
 
 pub overflow_add-sum : goal.overflow_add-sum
-overflow_add-sum c = omega (arith, few ((goal.at.overflow_add-sum c).After-rules_field-field), c.loop-i.invariant.small, c.field_len-sum.ensures, short ((goal.at.overflow_add-sum c).After-rules_field-field))
-
-pub overflow_add-i : goal.overflow_add-i
-overflow_add-i c = omega (arith, few ((goal.at.overflow_add-i c).After-rules_field-field))
-
-pub loop-i-smaller : goal.loop-i-smaller
-loop-i-smaller c = omega (arith, c.loop-i-test.true)
+overflow_add-sum c = omega (arith, few ((goal.at.overflow_add-sum c).After-rules_field-line), c.loop-i.invariant.small, c.line_len-sum.ensures, short ((goal.at.overflow_add-sum c).After-rules_field-line))
 
 pub loop-i-preserved : goal.loop-i-preserved
 loop-i-preserved c =
     let v = c.loop-i.invariant in
     record {
       few = omega (arith, c.loop-i-test.true);
-      sum-is = omega (arith, v.sum-is, c.field_len-sum.ensures, more ((goal.at.loop-i-preserved c).After-rules_field-field));
-      small = omega (arith, v.small, c.field_len-sum.ensures, short ((goal.at.loop-i-preserved c).After-rules_field-field));
+      sum-is = omega (arith, v.sum-is, c.line_len-sum.ensures, more ((goal.at.loop-i-preserved c).After-rules_field-line));
+      small = omega (arith, v.small, c.line_len-sum.ensures, short ((goal.at.loop-i-preserved c).After-rules_field-line));
     }
 
 pub returns : goal.returns

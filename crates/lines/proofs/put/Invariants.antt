@@ -7,6 +7,3 @@ use Rattle.lines.proofs.put.Given as goal
 
 abbrev pub invariant-loop-i : goal.invariant-loop-i
 invariant-loop-i l = (l.i ≤ length l.s) × ((length l.out ≡ length l.initial.out) × (l.out ≡ paste l.initial.out l.at l.s l.i))
-
-abbrev pub decreases-loop-i : goal.decreases-loop-i
-decreases-loop-i l = length l.s - l.i

@@ -1,19 +1,15 @@
-use Rattle.std.proofs.Common.{length, arith, ap, sym, refl, ◌∙◌}
+use Rattle.std.proofs.Common.{length, arith, ap, sym, ◌∙◌}
+use Rattle.model.specs.Outcome.{number}
 use Rattle.lists.specs.Answers.{with_room}
 use Rattle.report.specs.Printed.{plan_text}
-use Rattle.report.proofs.Answered.{plan-refused, refusal-front, refused-left}
+use Rattle.report.proofs.Answered.{err-lines, err-left, refusal-front}
 use Rattle.make_plan.proofs.put_answer.Goals as goal
 
-pub returns-in-Refused-clause-prefix_len : goal.returns-in-Refused-clause-prefix_len
-returns-in-Refused-clause-prefix_len c =
+pub returns-in-Err : goal.returns-in-Err
+returns-in-Err c =
     let o = with_room (length c.args.out.now) (plan_text c.args.text.now) in
-    let left = refused-left o _ c.in-Refused.ensures.value _ _ _ _ _ refl c.in-Refused.ensures.out_after in
-    let f = refusal-front c.in-Refused.number c.in-Refused.place c.in-Refused.second _ _ _ (omega (arith, c.requires, ap length left)) c.put_refusal.ensures in
-    f.0
-
-pub returns-in-Refused-clause-out_after : goal.returns-in-Refused-clause-out_after
-returns-in-Refused-clause-out_after c =
-    let o = with_room (length c.args.out.now) (plan_text c.args.text.now) in
-    let left = refused-left o _ c.in-Refused.ensures.value _ _ _ _ _ refl c.in-Refused.ensures.out_after in
-    let f = refusal-front c.in-Refused.number c.in-Refused.place c.in-Refused.second _ _ _ (omega (arith, c.requires, ap length left)) c.put_refusal.ensures in
-    f.1 ∙ sym (plan-refused o _ c.in-Refused.ensures.value _ _ _ refl)
+    let r = c.in-Err.refusal in
+    let told = sym c.in-Err.ensures.value in
+    let left = err-left r o _ _ told c.in-Err.ensures.out_after in
+    let f = refusal-front (number r.cause) r.place r.second _ _ _ (omega (arith, c.requires, ap length left)) c.put_refusal.ensures in
+    record { prefix_len = f.0; out_after = f.1 ∙ sym (err-lines r o told) }

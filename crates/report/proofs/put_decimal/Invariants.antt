@@ -1,4 +1,4 @@
-use Rattle.std.proofs.Common.{◌≡◌, ◌+◌, ◌-◌, ◌/◌, ◌^◌, ◌≤◌}
+use Rattle.std.proofs.Common.{◌≡◌, ◌+◌, ◌-◌, ◌/◌, ◌^◌}
 use Rattle.forms.specs.Write.{digits_in}
 use Rattle.lines.specs.Puts.{placed}
 use Rattle.report.proofs.put_decimal.Given as goal
@@ -6,10 +6,6 @@ use Rattle.report.proofs.put_decimal.Given as goal
 -- the last count - i digits are put
 abbrev pub invariant-loop-i : goal.invariant-loop-i
 invariant-loop-i l = record {
-  within : l.i ≤ l.count;
   left : l.rest ≡ l.v / 10 ^ (l.count - l.i);
-  written : l.out ≡ placed l.fn.out (l.at + l.i) (digits_in 10 (l.count - l.i) l.v);
+  written : l.out ≡ placed l.initial.out (l.at + l.i) (digits_in 10 (l.count - l.i) l.v);
 }
-
-abbrev pub decreases-loop-i : goal.decreases-loop-i
-decreases-loop-i l = l.i

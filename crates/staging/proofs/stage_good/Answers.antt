@@ -1,40 +1,36 @@
 -- `staging::stage_good` meets its contract: each return is a case of the definition. Assumes nothing.
-use Prim.Native.Nat.{ℕ}
-use mathlib.Core.Path.{◌≡◌, ap, ◌∙◌}
-use Rattle.lists.specs.Lists.{table_sizes}
-use Rattle.lists.specs.declared.Answer.TheVariants.{Done, Refused}
-use Rattle.lists.specs.declared.RuleTables.{RuleTables}
-use Rattle.staging.proofs.Answers.{stage-refused, stage-spares, stage-none, stage-all}
+use mathlib.Core.Path.{ap, ◌∙◌}
 use native.Mathlib.Omega.{arith}
+use borrow.Author.Rules.{rules}
+use Rattle.std.specs.declared.result.Result.TheVariants.{Ok, Err}
+use Rattle.lists.specs.Refusals.{refusal}
+use Rattle.model.specs.declared.Cause.TheVariants.{NoRoom as no_room}
+use Rattle.staging.proofs.Answers.{stage-refused, stage-spares, stage-none, stage-all}
 use Rattle.staging.proofs.stage_good.Goals as goal
-use Rattle.staging.proofs.stage_good.Goals.{After-of-tunnels}
 
-tunnels : (c : After-of-tunnels) → c.of-tunnels.result.tunnels ≡ (table_sizes c.args.list.now).tunnels
-tunnels c = ap (λ (n : RuleTables). n.tunnels) c.of-tunnels.ensures
+pub returns-in_err-judge-clause-value : goal.returns-in_err-judge-clause-value
+returns-in_err-judge-clause-value c = let p = (stage-refused _ c.args.out.now _ _ c.judge.ensures.0 _ (c.in_err-judge.was)).0 in search (rules, p)
 
-pub returns-in_default : goal.returns-in_default
-returns-in_default c = record {
-  value = (stage-refused c.args.list.now c.args.out.now _ _ c.judge-judged.ensures.0 c.in_default.not-Done).0;
-  out_after = (stage-refused c.args.list.now c.args.out.now _ _ c.judge-judged.ensures.0 c.in_default.not-Done).1;
-}
+pub returns-in_err-judge-clause-out_after : goal.returns-in_err-judge-clause-out_after
+returns-in_err-judge-clause-out_after c = (stage-refused _ c.args.out.now _ _ c.judge.ensures.0 _ (c.in_err-judge.was)).1
 
-pub of-tunnels-requires : goal.of-tunnels-requires
-of-tunnels-requires c = omega (arith, c.requires.size)
+pub returns-then-out-tunnels-clause-value : goal.returns-then-out-tunnels-clause-value
+returns-then-out-tunnels-clause-value c =
+    let n = c.tunnels-tunnels.ensures.count in
+    ap Err c.no_room.ensures ∙ ap (λ k. Err (refusal no_room k 0)) n ∙ (stage-none _ c.args.out.now _ _ c.judge.ensures.0 (c.in_ok-judge.was) (omega (arith, n, c.if-out-tunnels.true))).0
 
-pub returns-then-out-tunnels : goal.returns-then-out-tunnels
-returns-then-out-tunnels c = let e = tunnels ((goal.at.returns-then-out-tunnels c).After-of-tunnels) in
-    let n = stage-none c.args.list.now c.args.out.now _ _ c.judge-judged.ensures.0 _ c.in-Done.is (omega (arith, e, c.if-out-tunnels.true)) in record {
-      value = ap (λ (k : ℕ). Refused 10 k 0) e ∙ n.0;
-      out_after = n.1;
-    }
+pub returns-then-out-tunnels-clause-out_after : goal.returns-then-out-tunnels-clause-out_after
+returns-then-out-tunnels-clause-out_after c =
+    (stage-none _ c.args.out.now _ _ c.judge.ensures.0 (c.in_ok-judge.was) (omega (arith, c.tunnels-tunnels.ensures.count, c.if-out-tunnels.true))).1
 
-pub give-requires : goal.give-requires
-give-requires c = let j = c.judge-judged.ensures in
-    (c.requires, stage-spares c.args.list.now c.args.out.now _ _ j.0 _ c.in-Done.is, j.1, omega (arith, tunnels ((goal.at.give-requires c).After-of-tunnels), c.if-out-tunnels.false))
+pub give-requires-clause-spares : goal.give-requires-clause-spares
+give-requires-clause-spares c = stage-spares _ c.args.out.now _ _ c.judge.ensures.0 (c.in_ok-judge.was)
 
-pub returns : goal.returns
-returns c = let e = tunnels ((goal.at.returns c).After-of-tunnels) in
-    let all = stage-all c.args.list.now c.args.out.now _ _ c.judge-judged.ensures.0 _ c.in-Done.is (omega (arith, e, c.if-out-tunnels.false)) in record {
-      value = ap Done e ∙ all.0;
-      out_after = c.give.ensures ∙ all.1;
-    }
+pub returns-clause-value : goal.returns-clause-value
+returns-clause-value c =
+    let n = c.tunnels-tunnels.ensures.count in
+    ap Ok n ∙ (stage-all _ c.args.out.now _ _ c.judge.ensures.0 (c.in_ok-judge.was) (omega (arith, n, c.if-out-tunnels.false))).0
+
+pub returns-clause-out_after : goal.returns-clause-out_after
+returns-clause-out_after c =
+    c.give.ensures ∙ (stage-all _ c.args.out.now _ _ c.judge.ensures.0 (c.in_ok-judge.was) (omega (arith, c.tunnels-tunnels.ensures.count, c.if-out-tunnels.false))).1

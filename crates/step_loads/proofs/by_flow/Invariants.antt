@@ -1,12 +1,9 @@
 -- `step_loads::by_flow` meets its contract: the flows are added up one by one.
-use Prim.Native.Nat.{◌*◌, ◌-◌, ◌≤◌}
+use Prim.Native.Nat.{◌*◌}
 use Rattle.model.specs.Limits.{most_amount, most_steps, most_tunnels}
 use Rattle.lists.specs.Lists.{network_of, plan_of}
 use Rattle.step_loads.specs.Inner.{Summed}
 use Rattle.step_loads.proofs.by_flow.Given as goal
 
 abbrev pub invariant-loop-f : goal.invariant-loop-f
-invariant-loop-f l = record { low : l.f ≤ l.flows; sums : Summed (network_of l.network) (plan_of l.plan) l.i l.l (most_tunnels * (most_amount * most_steps)) l.f l.protected l.all }
-
-abbrev pub decreases-loop-f : goal.decreases-loop-f
-decreases-loop-f l = l.flows - l.f
+invariant-loop-f l = Summed (network_of l.pair.network) (plan_of l.pair.plan) l.i l.l (most_tunnels * (most_amount * most_steps)) l.f l.protected l.all

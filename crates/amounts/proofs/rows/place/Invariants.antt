@@ -1,12 +1,6 @@
 -- `amounts::rows::place` meets its contract.
-use Prim.Native.Nat.{◌≤◌, ◌-◌}
-use Rattle.model.specs.Net.{row}
-use Rattle.lists.specs.Lists.{network_of, plan_of}
 use Rattle.amounts.specs.Rows.{Placed}
 use Rattle.amounts.proofs.rows.place.Given as goal
 
 abbrev pub invariant-loop-t : goal.invariant-loop-t
-invariant-loop-t l = record { low : l.t ≤ l.n; placed : Placed (row (network_of l.network) (plan_of l.plan) l.a) l.t l.k l.initial.amounts l.amounts }
-
-abbrev pub decreases-loop-t : goal.decreases-loop-t
-decreases-loop-t l = l.n - l.t
+invariant-loop-t g l = Placed (goal.F-post g l.amount) l.t l.k l.initial.amounts.numbers l.amounts.numbers

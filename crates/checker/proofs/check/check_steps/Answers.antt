@@ -1,41 +1,32 @@
 -- `checker::check::check_steps` meets its contract.
-use mathlib.Core.Path.{◌≡◌, sym, ap, ◌∙◌}
-use Rattle.model.specs.Rule.{step_count, first_overload}
-use Rattle.lists.specs.Lists.{network_of, plan_of}
-use Rattle.lists.specs.declared.Network as counts
-use Rattle.lists.proofs.Positions.{head_in}
-use Rattle.checker.proofs.Checking.{Named, none-gives, found_none, found_some, found_in, found-gives}
+use mathlib.Core.Path.{sym, ◌∙◌}
 use native.Mathlib.Omega.{arith}
+use Rattle.model.specs.Rule.{first_overload, step_count}
+use Rattle.lists.specs.Lists.{network_of, plan_of}
+use Rattle.checker.proofs.Checking.{Named, cleared, found_none, found_some, named-in, named-marks}
 use Rattle.checker.proofs.check.check_steps.Goals as goal
+use Rattle.checker.proofs.check.check_steps.Goals.{In-Some}
 
-pub of-n-requires : goal.of-n-requires
-of-n-requires c = head_in _ c.requires.0.network.ranges.sized.size
+-- the overload that is found
+named : (c : In-Some) → Named (first_overload c.args.lag (network_of c.args.pair.now.network) (plan_of c.args.pair.now.plan)) c.in-Some.overload.row c.in-Some.overload.link
+named c = found_some _ _ (sym c.first_overload.ensures ∙ c.in-Some.is)
 
-pub clear-requires : goal.clear-requires
+pub returns-in_default-clause-marks_after : goal.returns-in_default-clause-marks_after
+returns-in_default-clause-marks_after c =
+    let n = rw c.network.ensures.value at c.tunnels-n.ensures.value in
+    let m = rw c.network.ensures.value at c.tunnels-n.ensures.count in
+    cleared c.args.lag c.tunnels-n.result 0 c.args.pair.now.network c.args.pair.now.plan c.args.marks.now _ n (omega (arith, m, c.requires.2)) (c.fill.ensures.after (λ y e. e)) (found_none _ (sym c.first_overload.ensures ∙ c.in_default.is))
+
+pub invariant_of-window : goal.invariant_of-window
 unfolding network_of
-clear-requires c = let n : c.of-n.result.tunnels ≡ (network_of c.args.network.now).tunnels = ap (λ (m : counts.Network). m.tunnels) c.of-n.ensures in
-    omega (arith, n, c.requires.3)
-
-pub returns-in_default : goal.returns-in_default
-unfolding network_of
-returns-in_default c = let n : c.of-n.result.tunnels ≡ (network_of c.args.network.now).tunnels = ap (λ (m : counts.Network). m.tunnels) c.of-n.ensures in record {
-  value = rw n ((none-gives _ _ _ _ _ (found_none _ (sym c.in_default.is ∙ c.first_overload-found.ensures)) (rw n at c.clear.ensures)).0);
-  marks_after = ((none-gives _ _ _ _ _ (found_none _ (sym c.in_default.is ∙ c.first_overload-found.ensures)) (rw n at c.clear.ensures))).1;
-}
-
-pub mark-requires : goal.mark-requires
-unfolding network_of
-mark-requires c = let d : Named (first_overload c.args.lag (network_of c.args.network.now) (plan_of c.args.plan.now)) c.in-At.number c.in-At.i c.in-At.l = found_some _ _ _ _ (sym c.in-At.is ∙ c.first_overload-found.ensures) in
-    let s = found_in c.args.lag (network_of c.args.network.now) (plan_of c.args.plan.now) _ _ _ d in
-    record { pair = c.requires.0; lag = c.requires.2; step = s.0; link = s.1; room = c.requires.3 }
+invariant_of-window c =
+    let s = named-in _ _ _ _ _ (named ((goal.at.invariant_of-window c).In-Some)) in
+    record { there = record { steps = c.network.ensures.checkable.plan.steps.1; lag = c.requires.1; step = s.0; link = s.1 } }
 
 pub overflow_add-step : goal.overflow_add-step
 unfolding plan_of step_count
-overflow_add-step c = let d : Named (first_overload c.args.lag (network_of c.args.network.now) (plan_of c.args.plan.now)) c.in-At.number c.in-At.i c.in-At.l = found_some _ _ _ _ (sym c.in-At.is ∙ c.first_overload-found.ensures) in omega (arith, c.requires.0.plan.steps, (found_in c.args.lag (network_of c.args.network.now) (plan_of c.args.plan.now) _ _ _ d).0)
+overflow_add-step c = let s = named-in _ _ _ _ _ (named ((goal.at.overflow_add-step c).In-Some)) in omega (arith, s.0, c.network.ensures.checkable.plan.steps)
 
-pub returns : goal.returns
+pub returns-clause-marks_after : goal.returns-clause-marks_after
 unfolding network_of
-returns c = let d : Named (first_overload c.args.lag (network_of c.args.network.now) (plan_of c.args.plan.now)) c.in-At.number c.in-At.i c.in-At.l = found_some _ _ _ _ (sym c.in-At.is ∙ c.first_overload-found.ensures) in record {
-  value = (found-gives _ _ _ _ _ _ _ _ d c.mark.ensures).0;
-  marks_after = (found-gives _ _ _ _ _ _ _ _ d c.mark.ensures).1;
-}
+returns-clause-marks_after c = named-marks c.args.lag c.args.pair.now.network c.args.pair.now.plan _ _ _ _ (named ((goal.at.returns-clause-marks_after c).In-Some)) c.mark.ensures

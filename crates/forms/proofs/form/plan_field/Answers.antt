@@ -28,7 +28,7 @@ overflow_mul-high c = omega (arith, ap (λ (n : PlanSizes). n.parts) c.of-sizes.
 
 pub returns-then-i-row_at : goal.returns-then-i-row_at
 unfolding field_of
-returns-then-i-row_at c = rw (← ap (λ (n : PlanSizes). n.parts) c.of-sizes.ensures, le-ltb _ _ c.if-i-lt-HEAD.false, lt-ltb (length c.args.done.now) (plan_size (plan_sizes c.args.done.now)) (omega (arith, size ((goal.at.returns-then-i-row_at c).After-row_at), c.if-i-row_at.true)))
+returns-then-i-row_at c = rw (← ap (λ (n : PlanSizes). n.parts) c.of-sizes.ensures, le-ltb _ _ c.if-i-lt-HEAD.false, lt-ltb (length c.args.done.now) (plan_size (plan_sizes c.args.done.now)) (omega (arith, size ((goal.at.returns-then-i-row_at c).After-row_at), c.if-i-row_at.true))) c.line.ensures
 
 pub returns : goal.returns
 unfolding field_of

@@ -1,28 +1,26 @@
 -- `judges::judge::judge_network` meets its contract.
 use mathlib.Core.Path.{sym, ap, ◌∙◌}
-use Rattle.lists.specs.Answers.{done}
-use Rattle.lists.specs.Good.{NetworkRanges}
+use Rattle.lists.specs.Refusals.{judged}
 use Rattle.lists.proofs.Positions.{head_in}
-use Rattle.forms.specs.Read.{add_up}
+use Rattle.forms.specs.Form.{Whole}
 use Rattle.forms.specs.declared.form.Form.TheVariants.{Network}
-use Rattle.forms.proofs.Walks.{judged-whole, whole-judged, not-good-then}
 use Rattle.forms.proofs.Good.{network-ranges}
+use Rattle.judges.proofs.Results.{whole-counted, whole-sums}
 use Rattle.judges.proofs.judge.judge_network.Goals as goal
-use Rattle.judges.proofs.judge.judge_network.Goals.{Then-is_network}
+use Rattle.judges.proofs.judge.judge_network.Goals.{Joined-not-is_network, then-not-is_network+in_ok-judge_numbers, else-not-is_network}
 
--- where the list is in the form
-in-form : (c : Then-is_network) → NetworkRanges c.args.list.now
-in-form c = network-ranges _ (c.is_network.ensures.yes c.if-is_network.true)
+-- either way the list is whole
+whole : (c : Joined-not-is_network) → Whole Network c.args.list.now
+whole c = elim c.if-not-is_network.branch [
+  | then-not-is_network+in_ok-judge_numbers w ↦ whole-counted Network _ _ (sym w.judge_numbers.ensures ∙ w.in_ok-judge_numbers.was)
+  | else-not-is_network w ↦ c.is_network.ensures.yes w.if-not-is_network.false
+]
 
 pub of-requires : goal.of-requires
-of-requires c = head_in _ (in-form c).sized.size
+of-requires c = head_in _ (network-ranges _ (whole c)).sized.size
 
 pub add_up-requires : goal.add_up-requires
-add_up-requires c = (in-form ((goal.at.add_up-requires c).Then-is_network), c.of.ensures)
+add_up-requires c = (network-ranges _ (whole ((goal.at.add_up-requires c).Joined-not-is_network)), c.of.ensures)
 
-pub returns-then-is_network : goal.returns-then-is_network
-returns-then-is_network c = rw (whole-judged Network _ (c.is_network.ensures.yes c.if-is_network.true)) c.add_up.ensures
-
-pub returns-else-is_network : goal.returns-else-is_network
-returns-else-is_network c = let whole = c.is_network.ensures in
-    c.judge_numbers.ensures ∙ ap done (sym (not-good-then _ (add_up Network) (λ g e. whole.no c.if-is_network.false (judged-whole Network _ g e).1)))
+pub returns : goal.returns
+returns c = c.add_up.ensures ∙ sym (ap judged (whole-sums Network _ (whole ((goal.at.returns c).Joined-not-is_network))))

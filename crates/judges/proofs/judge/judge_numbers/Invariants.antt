@@ -8,13 +8,13 @@ use Rattle.forms.specs.Read.{walk, judge_numbers}
 use Rattle.forms.specs.Turns.{itself}
 use Rattle.judges.proofs.judge.judge_numbers.Given as goal
 
-abbrev pub invariant-loop-range : goal.invariant-loop-range
-invariant-loop-range l = record {
+abbrev pub invariant-loop-line : goal.invariant-loop-line
+invariant-loop-line l = record {
   within : l.i ≤ length l.list;
   few : l.i ≤ most_numbers;
   sound : Sound l.form (take l.i l.list);
   rest : judge_numbers l.form l.list ≡ walk itself l.form (l.i + 1) (take l.i l.list) (drop l.i l.list);
 }
 
-abbrev pub decreases-loop-range : goal.decreases-loop-range
-decreases-loop-range l = length l.list - l.i
+abbrev pub decreases-loop-line : goal.decreases-loop-line
+decreases-loop-line l = length l.list - l.i

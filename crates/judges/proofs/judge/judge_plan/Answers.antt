@@ -1,14 +1,24 @@
 -- `judges::judge::judge_plan` meets its contract.
-use mathlib.Core.Path.{refl, sym, ap, ◌∙◌}
-use Rattle.lists.specs.Answers.{done}
-use Rattle.forms.specs.Read.{add_up, judge_numbers}
+use mathlib.Core.Path.{sym, ap, ◌∙◌}
+use Rattle.lists.specs.Refusals.{judged}
+use Rattle.forms.specs.Form.{Whole}
+use Rattle.forms.specs.Read.{add_up}
 use Rattle.forms.specs.declared.form.Form.TheVariants.{Plan}
-use Rattle.forms.proofs.Walks.{good-judged, plan-no-sums}
+use Rattle.forms.proofs.Good.{plan-ranges}
+use Rattle.judges.proofs.Results.{whole-counted, whole-sums}
 use Rattle.judges.proofs.judge.judge_plan.Goals as goal
+use Rattle.judges.proofs.judge.judge_plan.Goals.{Joined-not-is_plan, then-not-is_plan+in_ok-judge_numbers, else-not-is_plan}
 
-pub returns-then-is_plan : goal.returns-then-is_plan
+-- either way the list is whole
+whole : (c : Joined-not-is_plan) → Whole Plan c.args.list.now
+whole c = elim c.if-not-is_plan.branch [
+  | then-not-is_plan+in_ok-judge_numbers w ↦ whole-counted Plan _ _ (sym w.judge_numbers.ensures ∙ w.in_ok-judge_numbers.was)
+  | else-not-is_plan w ↦ c.is_plan.ensures.yes w.if-not-is_plan.false
+]
+
+pub new-requires : goal.new-requires
+new-requires c = plan-ranges _ (whole c)
+
+pub returns : goal.returns
 unfolding add_up
-returns-then-is_plan c = sym (ap done (good-judged Plan _ (c.is_plan.ensures.yes c.if-is_plan.true) refl))
-
-pub returns-else-is_plan : goal.returns-else-is_plan
-returns-else-is_plan c = c.judge_numbers.ensures ∙ ap done (sym (plan-no-sums (judge_numbers Plan c.args.list.now)))
+returns c = rw c.new.ensures (sym (ap judged (whole-sums Plan _ (whole ((goal.at.returns c).Joined-not-is_plan)))))

@@ -5,7 +5,7 @@ use mathlib.Core.List.{List}
 use Rattle.lists.specs.Lists.{at, next_in, network_sizes, flow_at}
 use Rattle.lists.specs.declared.Network as counts
 use Rattle.lists.proofs.Positions.{FlowPlace, NextPlace, flow-place, next_place, limited}
-use Rattle.judges.proofs.InRange.{flows-none, flows-more, decides-yes, decides-no}
+use Rattle.judges.proofs.InRange.{flows-more, decides-yes, decides-no}
 use native.Mathlib.Omega.{arith}
 use Rattle.judges.proofs.ranges.flows_in.Goals as goal
 use Rattle.judges.proofs.ranges.flows_in.Goals.{After-flow_at-at}
@@ -35,9 +35,6 @@ module _ (c : After-flow_at-at) where
 
   next-at : at list (c.flow_at-at.result + c.next-next.result) ≡ at list (flow_at (network_sizes list) f + next_in (network_sizes list).edition)
   next-at = ap₂ (λ (i j : ℕ). at list (i + j)) place.here next-in
-
-pub loop-f-init : goal.loop-f-init
-loop-f-init c = (omega arith, flows-none _)
 
 pub flow_at-at-requires : goal.flow_at-at-requires
 flow_at-at-requires c = (limited _ c.requires.0 _ c.requires.1, omega (arith, c.loop-f-test.true))
@@ -76,10 +73,8 @@ pub returns-then-list-at-gt-AMOUNT-2 : goal.returns-then-list-at-gt-AMOUNT-2
 returns-then-list-at-gt-AMOUNT-2 c = decides-no (λ a. absurd (omega (arith, next-at ((goal.at.returns-then-list-at-gt-AMOUNT-2 c).After-flow_at-at), a.next _ c.loop-f-test.true, c.if-list-at-gt-AMOUNT-2.true)))
 
 pub loop-f-preserved : goal.loop-f-preserved
-loop-f-preserved c = (
-  omega (arith, c.loop-f-test.true),
-  flows-more _ _ c.loop-f.invariant.1 (omega (arith, class-at ((goal.at.loop-f-preserved c).After-flow_at-at), c.if-list-at-gt2.false)) (omega (arith, rate-at ((goal.at.loop-f-preserved c).After-flow_at-at), c.if-list-at-gt-AMOUNT.false)) (omega (arith, next-at ((goal.at.loop-f-preserved c).After-flow_at-at), c.if-list-at-gt-AMOUNT-2.false)),
-)
+loop-f-preserved c = (flows-more _ _ c.loop-f.invariant (omega (arith, class-at ((goal.at.loop-f-preserved c).After-flow_at-at), c.if-list-at-gt2.false)) (omega (arith, rate-at ((goal.at.loop-f-preserved c).After-flow_at-at), c.if-list-at-gt-AMOUNT.false)) (omega (arith, next-at ((goal.at.loop-f-preserved c).After-flow_at-at), c.if-list-at-gt-AMOUNT-2.false))
+    )
 
 pub returns : goal.returns
-returns c = let e : c.loop-f.f ≡ c.args.sizes.flows = omega (arith, c.loop-f.invariant.0) in decides-yes (rw (← e) c.loop-f.invariant.1)
+returns c = let e : c.loop-f.f ≡ c.args.sizes.flows = omega (arith, c.loop-f.auto.f-end) in decides-yes (rw (← e) c.loop-f.invariant)

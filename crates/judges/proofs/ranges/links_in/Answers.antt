@@ -6,7 +6,7 @@ use Rattle.lists.specs.Lists.{at, per_link, network_sizes, link_at}
 use Rattle.lists.specs.declared.Network.{Network}
 use Rattle.lists.proofs.Positions.{link-some, LinkPlace, link-place, limited}
 use Rattle.lists.proofs.Held.{last-held, held-last}
-use Rattle.judges.proofs.InRange.{links-none, links-more, decides-yes, decides-no}
+use Rattle.judges.proofs.InRange.{links-more, decides-yes, decides-no}
 use native.Mathlib.Omega.{arith}
 use Rattle.judges.proofs.ranges.links_in.Goals as goal
 use Rattle.judges.proofs.ranges.links_in.Goals.{After-link_at-at}
@@ -35,9 +35,6 @@ module _ (c : After-link_at-at) where
 
 pub overflow_sub-last : goal.overflow_sub-last
 overflow_sub-last c = omega (arith, c.per_link-last.ensures, link-some c.args.sizes.edition)
-
-pub loop-k-init : goal.loop-k-init
-loop-k-init c = (omega arith, links-none _)
 
 pub link_at-at-requires : goal.link_at-at-requires
 link_at-at-requires c = (limited _ c.requires.0 _ c.requires.1, omega (arith, c.loop-k-test.true))
@@ -70,7 +67,7 @@ pub returns-then-list-at : goal.returns-then-list-at
 returns-then-list-at c = decides-no (λ a. absurd (omega (arith, cap-at ((goal.at.returns-then-list-at c).After-link_at-at), last-at ((goal.at.returns-then-list-at c).After-link_at-at), last-held c.args.list.now c.loop-k.k (last ((goal.at.returns-then-list-at c).After-link_at-at)) (is_last ((goal.at.returns-then-list-at c).After-link_at-at)) (a.held _ c.loop-k-test.true), c.if-list-at.true)))
 
 pub loop-k-preserved : goal.loop-k-preserved
-loop-k-preserved c = (omega (arith, c.loop-k-test.true), links-more _ _ c.loop-k.invariant.1 (omega (arith, cap-at ((goal.at.loop-k-preserved c).After-link_at-at), c.if-list-at-gt-AMOUNT.false)) (held-last c.args.list.now c.loop-k.k (last ((goal.at.loop-k-preserved c).After-link_at-at)) (is_last ((goal.at.loop-k-preserved c).After-link_at-at)) (omega (arith, cap-at ((goal.at.loop-k-preserved c).After-link_at-at), last-at ((goal.at.loop-k-preserved c).After-link_at-at), c.if-list-at.false))))
+loop-k-preserved c = links-more _ _ c.loop-k.invariant (omega (arith, cap-at ((goal.at.loop-k-preserved c).After-link_at-at), c.if-list-at-gt-AMOUNT.false)) (held-last c.args.list.now c.loop-k.k (last ((goal.at.loop-k-preserved c).After-link_at-at)) (is_last ((goal.at.loop-k-preserved c).After-link_at-at)) (omega (arith, cap-at ((goal.at.loop-k-preserved c).After-link_at-at), last-at ((goal.at.loop-k-preserved c).After-link_at-at), c.if-list-at.false)))
 
 pub returns : goal.returns
-returns c = let e : c.loop-k.k ≡ c.args.sizes.links = omega (arith, c.loop-k.invariant.0) in decides-yes (rw (← e) c.loop-k.invariant.1)
+returns c = let e : c.loop-k.k ≡ c.args.sizes.links = omega (arith, c.loop-k.auto.k-end) in decides-yes (rw (← e) c.loop-k.invariant)

@@ -1,9 +1,9 @@
 -- `judges::sums::gather` meets its contract.
 use Prim.Native.Nat.{ℕ, ◌≤◌, ◌<◌, ◌+◌, ◌*◌, ◌^◌}
-use mathlib.Core.Path.{◌≡◌, sym, ap, ◌∙◌}
+use mathlib.Core.Path.{◌≡◌, ap}
 use mathlib.Core.List.{List}
 use native.Mathlib.Nat.{lt_of_lt_of_le}
-use lib.ListN.{length, get_or}
+use lib.ListN.{get_or}
 use Rattle.model.specs.Limits.{most_flows, most_amount}
 use Rattle.model.specs.Net.{Net}
 use Rattle.lists.specs.Lists.{at, network_sizes, network_of}
@@ -41,12 +41,6 @@ module _ (c : After-tunnel_at-at) where
   unfolding network_of
   flow-low = lt_of_lt_of_le (ranges.tunnels.flow t place.there) ranges.sized.counts.flows
 
-  old-low : get_or list (c.tunnel_at-at.result + 2) 0 ≤ most_amount
-  old-low = omega (arith, ap (λ (i : ℕ). at list (i + 2)) place.here, ranges.tunnels.old t place.there)
-
-  new-low : get_or list (c.tunnel_at-at.result + 3) 0 ≤ most_amount
-  new-low = omega (arith, ap (λ (i : ℕ). at list (i + 3)) place.here, ranges.tunnels.new t place.there)
-
   pair-at : get_or list (c.tunnel_at-at.result + 2) 0 + get_or list (c.tunnel_at-at.result + 3) 0 * 2 ^ 32 ≡ pair_of N t
   unfolding network_of pair_of
   pair-at = ap (λ (i : ℕ). at list (i + 2) + at list (i + 3) * 2 ^ 32) place.here
@@ -56,54 +50,30 @@ module _ (c : After-tunnel_at-at) where
   pair_small u k = omega (arith, ranges.tunnels.old u (omega (arith, place.there)), ranges.tunnels.new u (omega (arith, place.there)))
 
   sum_fits : get_or c.loop-t.sums (N.flow t) 0 + pair_of N t < 2 ^ 64
-  sum_fits = gathered-fits N (pair_of N) (most_amount + most_amount * 2 ^ 32) t _ _ (omega arith) c.loop-t.invariant.1 flow-low (omega (arith, place.there, ranges.sized.counts)) pair_small
+  sum_fits = gathered-fits N (pair_of N) (most_amount + most_amount * 2 ^ 32) t _ _ (omega arith) c.loop-t.invariant flow-low (omega (arith, place.there, ranges.sized.counts)) pair_small
+
+  fits : get_or c.loop-t.sums (get_or list c.tunnel_at-at.result 0) 0 + (get_or list (c.tunnel_at-at.result + 2) 0 + get_or list (c.tunnel_at-at.result + 3) 0 * 2 ^ 32) < 2 ^ 64
+  fits = rw (flow-at, pair-at) sum_fits
 
 pub loop-t-init : goal.loop-t-init
-loop-t-init c = (omega arith, gathered_none _ _ _ c.requires.2)
+loop-t-init c = (gathered_none _ _ _ c.requires.2)
 
 pub tunnel_at-at-requires : goal.tunnel_at-at-requires
 tunnel_at-at-requires c = (limited _ c.requires.0.sized _ c.requires.1, omega (arith, c.loop-t-test.true))
 
-pub offset_bounds-list-at : goal.offset_bounds-list-at
-offset_bounds-list-at c = omega (arith, (place c).few)
-
-pub bounds-list-at : goal.bounds-list-at
-bounds-list-at c = omega (arith, (place ((goal.at.bounds-list-at c).After-tunnel_at-at)).within)
-
-pub overflow_add-old : goal.overflow_add-old
-overflow_add-old c = omega (arith, (place ((goal.at.overflow_add-old c).After-tunnel_at-at)).few)
-
-pub offset_bounds-list-at-in-loop-t : goal.offset_bounds-list-at-in-loop-t
-offset_bounds-list-at-in-loop-t c = omega (arith, (place ((goal.at.offset_bounds-list-at-in-loop-t c).After-tunnel_at-at)).few)
-
 pub bounds-list-at-in-loop-t : goal.bounds-list-at-in-loop-t
 bounds-list-at-in-loop-t c = omega (arith, (place ((goal.at.bounds-list-at-in-loop-t c).After-tunnel_at-at)).within)
-
-pub overflow_add-new : goal.overflow_add-new
-overflow_add-new c = omega (arith, (place ((goal.at.overflow_add-new c).After-tunnel_at-at)).few)
-
-pub offset_bounds-list-at-in-loop-t-2 : goal.offset_bounds-list-at-in-loop-t-2
-offset_bounds-list-at-in-loop-t-2 c = omega (arith, (place ((goal.at.offset_bounds-list-at-in-loop-t-2 c).After-tunnel_at-at)).few)
 
 pub bounds-list-at-in-loop-t-2 : goal.bounds-list-at-in-loop-t-2
 bounds-list-at-in-loop-t-2 c = omega (arith, (place ((goal.at.bounds-list-at-in-loop-t-2 c).After-tunnel_at-at)).within)
 
-pub overflow_mul-new : goal.overflow_mul-new
-overflow_mul-new c = omega (arith, new-low ((goal.at.overflow_mul-new c).After-tunnel_at-at))
-
-pub overflow_add-old-in-loop-t : goal.overflow_add-old-in-loop-t
-overflow_add-old-in-loop-t c = omega (arith, old-low ((goal.at.overflow_add-old-in-loop-t c).After-tunnel_at-at), new-low ((goal.at.overflow_add-old-in-loop-t c).After-tunnel_at-at))
-
-pub add-requires : goal.add-requires
-add-requires c = rw (flow-at ((goal.at.add-requires c).After-tunnel_at-at), pair-at ((goal.at.add-requires c).After-tunnel_at-at)) (rw c.loop-t.invariant.1.size (flow-low ((goal.at.add-requires c).After-tunnel_at-at)), sum_fits ((goal.at.add-requires c).After-tunnel_at-at))
+pub overflow_add-sums-in-loop-t : goal.overflow_add-sums-in-loop-t
+overflow_add-sums-in-loop-t c = omega (arith, fits ((goal.at.overflow_add-sums-in-loop-t c).After-tunnel_at-at))
 
 pub loop-t-preserved : goal.loop-t-preserved
-loop-t-preserved c = (omega (arith, c.loop-t-test.true), rw (c.add.ensures, flow-at ((goal.at.loop-t-preserved c).After-tunnel_at-at), pair-at ((goal.at.loop-t-preserved c).After-tunnel_at-at)) (gathered-more _ _ c.loop-t.t _ (flow-low ((goal.at.loop-t-preserved c).After-tunnel_at-at)) c.loop-t.invariant.1))
-
-pub shape_of-sums : goal.shape_of-sums
-shape_of-sums c = c.loop-t.invariant.1.size ∙ sym (ap length c.requires.2)
+loop-t-preserved c = rw (flow-at ((goal.at.loop-t-preserved c).After-tunnel_at-at), pair-at ((goal.at.loop-t-preserved c).After-tunnel_at-at)) (gathered-more _ _ c.loop-t.t _ (flow-low ((goal.at.loop-t-preserved c).After-tunnel_at-at)) c.loop-t.invariant)
 
 pub returns : goal.returns
 unfolding network_of
-returns c = let e : c.loop-t.t ≡ (network_sizes c.args.list.now).tunnels = omega (arith, c.loop-t.invariant.0, c.loop-t-test.false, ap (λ (n : counts.Network). n.tunnels) c.requires.1) in
-    rw e at c.loop-t.invariant.1
+returns c = let e : c.loop-t.t ≡ (network_sizes c.args.list.now).tunnels = omega (arith, c.loop-t.auto.t-end, c.loop-t-test.false, ap (λ (n : counts.Network). n.tunnels) c.requires.1) in
+    rw e at c.loop-t.invariant

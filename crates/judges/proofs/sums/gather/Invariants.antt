@@ -1,11 +1,7 @@
 -- `judges::sums::gather` meets its contract.
-use Prim.Native.Nat.{◌≤◌, ◌-◌}
 use Rattle.lists.specs.Lists.{network_of}
 use Rattle.judges.specs.Sums.{Gathered, pair_of}
 use Rattle.judges.proofs.sums.gather.Given as goal
 
 abbrev pub invariant-loop-t : goal.invariant-loop-t
-invariant-loop-t l = (l.t ≤ l.sizes.tunnels) × Gathered (network_of l.list) (pair_of (network_of l.list)) l.t l.sums
-
-abbrev pub decreases-loop-t : goal.decreases-loop-t
-decreases-loop-t l = l.sizes.tunnels - l.t
+invariant-loop-t l = Gathered (network_of l.list) (pair_of (network_of l.list)) l.t l.sums

@@ -4,7 +4,7 @@ use Rattle.link_sums.specs.Tables.{FlowAdded}
 use Rattle.link_sums.proofs.by_flow.add_across.Given as goal
 
 abbrev pub invariant-loop-set : goal.invariant-loop-set
-invariant-loop-set l = Passing (λ c s. FlowAdded c l.amount l.initial.sums s) l.via l.set l.sums
+invariant-loop-set l = Passing (λ c s. FlowAdded c l.old l.new l.initial.sums s) l.via l.set l.sums
 
 abbrev pub decreases-loop-set : goal.decreases-loop-set
 decreases-loop-set l = l.set

@@ -4,7 +4,7 @@ use Rattle.link_sums.specs.Tables.{SumsAdded}
 use Rattle.link_sums.proofs.by_flow.add_sums.Given as goal
 
 abbrev pub invariant-loop-set : goal.invariant-loop-set
-invariant-loop-set l = Passing (λ c s. SumsAdded c l.olds l.news l.initial.table s) l.crossed l.set l.table
+invariant-loop-set l = Passing (λ c s. SumsAdded c l.sums l.initial.table s) l.crossed l.set l.table
 
 abbrev pub decreases-loop-set : goal.decreases-loop-set
 decreases-loop-set l = l.set

@@ -1,11 +1,6 @@
--- `link_sums::table::add_table` meets its contract: the numbers below i are joined, the others are as they were.
-use Prim.Native.Nat.{◌-◌, ◌≤◌}
-use Rattle.link_sums.specs.Tables.{table_size}
+-- `link_sums::table::add_table` meets its contract: the links passed are joined, the others are as they were.
 use Rattle.link_sums.proofs.Tables.{Joining}
 use Rattle.link_sums.proofs.table.add_table.Given as goal
 
-abbrev pub invariant-loop-i : goal.invariant-loop-i
-invariant-loop-i l = record { low : l.i ≤ table_size; joined : Joining l.i l.initial.table l.more l.table }
-
-abbrev pub decreases-loop-i : goal.decreases-loop-i
-decreases-loop-i l = table_size - l.i
+abbrev pub invariant-loop-link : goal.invariant-loop-link
+invariant-loop-link l = Joining l.link l.initial.table l.more l.table

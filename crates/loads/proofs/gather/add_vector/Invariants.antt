@@ -1,12 +1,8 @@
 -- `loads::gather::add_vector` meets its contract.
-use Prim.Native.Nat.{◌≤◌, ◌-◌}
 use Rattle.lists.specs.Lists.{at}
-use Rattle.loads.specs.Tables.{block_rows, number_at}
+use Rattle.loads.specs.Tables.{number_at}
 use Rattle.loads.proofs.Vectors.{Adding}
 use Rattle.loads.proofs.gather.add_vector.Given as goal
 
 abbrev pub invariant-loop-k : goal.invariant-loop-k
-invariant-loop-k l = record { low : l.k ≤ block_rows; added : Adding l.j l.k (λ b. at l.from (number_at l.i b)) l.initial.to l.to }
-
-abbrev pub decreases-loop-k : goal.decreases-loop-k
-decreases-loop-k l = block_rows - l.k
+invariant-loop-k l = Adding l.j l.k (λ b. at l.from (number_at l.i b)) l.initial.to l.to

@@ -24,7 +24,7 @@ put-tunnels-requires c = let s = c.requires in
 pub put_tunnels-requires : goal.put_tunnels-requires
 put_tunnels-requires c = let s = c.requires in
     let h = put_second _ _ s.0 _ s.1 s.2 (first ((goal.at.put_tunnels-requires c).After-put-links)) c.put_links-heading.ensures (second ((goal.at.put_tunnels-requires c).After-put-tunnels)) in
-    (s.0.both.network, omega (arith, h.same, h.place, s.2))
+    omega (arith, h.same, h.place, s.2)
 
 pub returns : goal.returns
 returns c = let s = c.requires in

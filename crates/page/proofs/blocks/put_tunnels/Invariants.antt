@@ -1,5 +1,5 @@
 -- `page::blocks::put_tunnels` meets its contract: each turn puts a line.
-use Prim.Native.Nat.{◌*◌, ◌-◌, ◌≤◌}
+use Prim.Native.Nat.{◌*◌}
 use Rattle.lists.specs.Lists.{network_of}
 use Rattle.fields.specs.Columns.{line_size}
 use Rattle.fields.proofs.Fields.{Put}
@@ -8,7 +8,4 @@ use Rattle.page.specs.Inner.{block}
 use Rattle.page.proofs.blocks.put_tunnels.Given as goal
 
 abbrev pub invariant-loop-t : goal.invariant-loop-t
-invariant-loop-t l = record { few : l.t ≤ l.tunnels; put : Put (block l.t (tunnel_fields (network_of l.network))) (line_size * l.t) l.from l.initial.out l.out l.at }
-
-abbrev pub decreases-loop-t : goal.decreases-loop-t
-decreases-loop-t l = l.tunnels - l.t
+invariant-loop-t l = Put (block l.t (tunnel_fields (network_of l.pair.network))) (line_size * l.t) l.from l.initial.out l.out l.at

@@ -7,11 +7,8 @@ use Rattle.pavuneshil.proofs.Parts.{in_parts}
 use Rattle.pavuneshil.proofs.desks_for_c.pavuneshil_hand_out.Goals as goal
 
 pub returns : goal.returns
-returns c = let m = c.hand_out-r in record {
-  answer_after = (in_parts handed_out (λ o. four_of_job (told_job o)) _ _ _ _ _ c.lent-s.ensures c.leave.ensures
-      (c.of_hand_out.ensures ∙ ap four_of_job m.ensures.answer_value) m.ensures.desks_value m.ensures.untouched).0;
-  last_after = (in_parts handed_out (λ o. four_of_job (told_job o)) _ _ _ _ _ c.lent-s.ensures c.leave.ensures
-      (c.of_hand_out.ensures ∙ ap four_of_job m.ensures.answer_value) m.ensures.desks_value m.ensures.untouched).1.0;
-  untouched = (in_parts handed_out (λ o. four_of_job (told_job o)) _ _ _ _ _ c.lent-s.ensures c.leave.ensures
-      (c.of_hand_out.ensures ∙ ap four_of_job m.ensures.answer_value) m.ensures.desks_value m.ensures.untouched).1.1;
-}
+returns c =
+    let a = c.args in
+    let m = c.hand_out-job in
+    let p = in_parts handed_out (λ o. four_of_job (told_job o)) _ _ _ _ _ c.lent-desks.ensures c.leave.ensures (c.of_hand_out.ensures ∙ ap four_of_job m.ensures.answer_value) m.ensures.desks_value m.ensures.untouched in
+    record { answer_after = p.0; last_after = p.1.0; untouched = p.1.1 }

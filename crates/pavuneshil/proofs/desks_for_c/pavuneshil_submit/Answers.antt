@@ -7,12 +7,8 @@ use Rattle.pavuneshil.proofs.Parts.{in_parts}
 use Rattle.pavuneshil.proofs.desks_for_c.pavuneshil_submit.Goals as goal
 
 pub returns : goal.returns
-returns c = let m = c.submit-r in
-    let a = c.args in record {
-      answer_after = (in_parts (submitted a.desk a.tag) (λ o. four_of_acceptance (told_acceptance o)) _ _ _ _ _ c.lent-s.ensures c.leave.ensures
-          (c.of_submission.ensures ∙ ap four_of_acceptance m.ensures.answer_value) m.ensures.desks_value m.ensures.untouched).0;
-      last_after = (in_parts (submitted a.desk a.tag) (λ o. four_of_acceptance (told_acceptance o)) _ _ _ _ _ c.lent-s.ensures c.leave.ensures
-          (c.of_submission.ensures ∙ ap four_of_acceptance m.ensures.answer_value) m.ensures.desks_value m.ensures.untouched).1.0;
-      untouched = (in_parts (submitted a.desk a.tag) (λ o. four_of_acceptance (told_acceptance o)) _ _ _ _ _ c.lent-s.ensures c.leave.ensures
-          (c.of_submission.ensures ∙ ap four_of_acceptance m.ensures.answer_value) m.ensures.desks_value m.ensures.untouched).1.1;
-    }
+returns c =
+    let a = c.args in
+    let m = c.submit-submission in
+    let p = in_parts (submitted a.desk a.tag) (λ o. four_of_acceptance (told_acceptance o)) _ _ _ _ _ c.lent-desks.ensures c.leave.ensures (c.of_submission.ensures ∙ ap four_of_acceptance m.ensures.answer_value) m.ensures.desks_value m.ensures.untouched in
+    record { answer_after = p.0; last_after = p.1.0; untouched = p.1.1 }

@@ -1,15 +1,11 @@
 -- `planner::rows::write_row` meets its contract: the row has the numbers of the tunnels passed, and then what it had.
-use Prim.Native.Nat.{◌-◌, ◌≤◌}
 use mathlib.Core.Path.{◌≡◌}
 use mathlib.Core.List.{◌++◌}
-use lib.ListN.{length, drop}
+use lib.ListN.{drop}
 use Rattle.model.specs.Even.{even_row}
 use Rattle.model.specs.Listed.{listed}
 use Rattle.lists.specs.Lists.{network_of}
 use Rattle.planner.proofs.rows.write_row.Given as goal
 
 abbrev pub invariant-loop-t : goal.invariant-loop-t
-invariant-loop-t l = record { size : length l.row ≡ length l.initial.row; low : l.t ≤ length l.initial.row; done : l.row ≡ listed l.t (even_row (network_of l.network) l.q l.a) ++ drop l.t l.initial.row }
-
-abbrev pub decreases-loop-t : goal.decreases-loop-t
-decreases-loop-t l = length l.initial.row - l.t
+invariant-loop-t l = l.row ≡ listed l.t (even_row (network_of l.network) l.q l.a) ++ drop l.t l.initial.row

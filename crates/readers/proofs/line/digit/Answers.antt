@@ -1,29 +1,31 @@
--- `readers::line::digit` meets its contract: the table's rule is a test at each of its entries, which antt computes.
-use Rattle.std.proofs.Common.{◌≡◌, ℕ, ◌+◌, ◌<◌, length, get_or, sym, ap, ◌∙◌, arith}
+-- `readers::line::digit` meets its contract.
+use Rattle.std.proofs.Common.{◌⊎◌, inl, inr, ◌%◌, ◌≤◌, ◌≡◌, ℕ, ◌+◌, ◌<◌, List, [], ◌∷◌, ◌++◌, get_or, ap, sym, ◌∙◌, arith, replicate}
+use native.Mathlib.Decide.{dec_lt}
 use Rattle.forms.specs.Line.{digit_of}
 use Rattle.model.proofs.Table.{value}
-use Rattle.readers.specs.Line.{digit_table}
 use Rattle.readers.proofs.Digits.{digit-outside}
 use Rattle.readers.proofs.line.digit.Goals as goal
-use Rattle.readers.proofs.line.digit.Goals.{After-wrapping_sub_u8-x}
 
-entry : (k : ℕ) → k < 55 → get_or digit_table k 0 ≡ digit_of (k + 48)
+-- the table's rule is a test at each of its entries, which antt computes
+abbrev table : List ℕ
+table = 0 ∷ 1 ∷ 2 ∷ 3 ∷ 4 ∷ 5 ∷ 6 ∷ 7 ∷ 8 ∷ 9 ∷ (replicate 39 16 ++ (10 ∷ 11 ∷ 12 ∷ 13 ∷ 14 ∷ 15 ∷ []))
+
+entry : (k : ℕ) → k < 55 → get_or table k 0 ≡ digit_of (k + 48)
 unfolding digit_of
-entry k h = value (λ i. digit_of (i + 48)) digit_table tt k h
+entry k h = value (λ i. digit_of (i + 48)) table tt k h
 
-size : (c : After-wrapping_sub_u8-x) → length c.args.table.now ≡ 55
-size c = ap length c.requires
+-- how far a byte is above `0`
+outside : (b : ℕ) → b < 256 → 55 ≤ (b + 208) % 256 → (b < 48) ⊎ (102 < b)
+outside b fits h = go (dec_lt b 48)
+  where
+    go : Dec (b < 48) → (b < 48) ⊎ (102 < b)
+    go (yes k) = inl k
+    go (no k) = inr (omega arith)
 
-pub overflow_cast-result : goal.overflow_cast-result
-overflow_cast-result c = omega (arith, c.shared_slice_known-then-x-table-1.given c.wrapping_sub_u8-x.result)
+pub returns-then-x-lt55 : goal.returns-then-x-lt55
+returns-then-x-lt55 c =
+    let e : (c.args.b + 208) % 256 + 48 ≡ c.args.b = omega arith in
+    entry ((c.args.b + 208) % 256) c.if-x-lt55.true ∙ ap digit_of e
 
-pub returns-then-x-table : goal.returns-then-x-table
-returns-then-x-table c =
-    let x = c.wrapping_sub_u8-x.result in
-    let less : x < 55 = omega (arith, c.if-x-table.true, size ((goal.at.returns-then-x-table c).After-wrapping_sub_u8-x)) in
-    let e : x + 48 ≡ c.args.b = omega (arith, c.wrapping_sub_u8-x.ensures.value) in
-    rw c.requires (entry x less ∙ ap digit_of e)
-
-pub returns-else-x-table : goal.returns-else-x-table
-returns-else-x-table c =
-    sym (digit-outside _ _ c.wrapping_sub_u8-x.ensures.value c.wrapping_sub_u8-x.type_inv (omega (arith, c.if-x-table.false, size ((goal.at.returns-else-x-table c).After-wrapping_sub_u8-x))))
+pub returns-else-x-lt55 : goal.returns-else-x-lt55
+returns-else-x-lt55 c = sym (digit-outside _ (outside c.args.b (omega arith) c.if-x-lt55.false))

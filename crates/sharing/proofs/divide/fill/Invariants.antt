@@ -1,5 +1,5 @@
 -- `sharing::divide::fill` meets its contract: the output has the shares of the services passed, and then what it had. Assumes nothing.
-use Prim.Native.Nat.{◌-◌, ◌≤◌}
+use Prim.Native.Nat.{◌-◌}
 use mathlib.Core.Path.{◌≡◌}
 use mathlib.Core.List.{◌++◌}
 use lib.ListN.{length, drop}
@@ -10,10 +10,6 @@ use Rattle.sharing.proofs.divide.fill.Given as goal
 abbrev pub invariant-loop-i : goal.invariant-loop-i
 invariant-loop-i l = record {
   size : length l.out ≡ length l.initial.out;
-  low : l.i ≤ length l.demands;
   rest : l.left ≡ l.initial.left - above l.demands l.t l.i;
   done : l.out ≡ listed l.i (share_at l.demands l.t l.initial.left) ++ drop l.i l.initial.out;
 }
-
-abbrev pub decreases-loop-i : goal.decreases-loop-i
-decreases-loop-i l = length l.demands - l.i

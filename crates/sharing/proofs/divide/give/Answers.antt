@@ -10,13 +10,13 @@ use Rattle.sharing.proofs.divide.give.Goals as goal
 
 pub fill-requires-else-sum-rate : goal.fill-requires-else-sum-rate
 fill-requires-else-sum-rate c =
-    (c.requires.3, omega (arith, c.requires.1, c.find.ensures.0, level-low c.args.rate c.args.demands.now))
+    (rw c.list-else-sum-rate.ensures.list c.requires.1, omega (arith, c.requires.0, c.find.ensures.0, level-low c.args.rate c.args.demands.now))
 
 pub returns-then-sum-rate : goal.returns-then-sum-rate
 returns-then-sum-rate c =
-    c.fill.ensures ∙ ap (λ (l : List ℕ). l ++ drop (length c.args.demands.now) c.args.out.now) (shares-met c.args.rate c.args.demands.now (omega (arith, c.if-sum-rate.true, c.requires.2)))
+    (rw c.list.ensures.list at c.fill.ensures) ∙ ap (λ (l : List ℕ). l ++ drop (length c.args.demands.now) c.args.out.now) (shares-met c.args.rate c.args.demands.now (omega (arith, c.if-sum-rate.true, c.sum.ensures)))
 
 pub returns-else-sum-rate : goal.returns-else-sum-rate
 returns-else-sum-rate c =
-    let f = c.find in
-    c.fill-else-sum-rate.ensures ∙ ap (λ (l : List ℕ). l ++ drop (length c.args.demands.now) c.args.out.now) (shares-found c.args.rate c.args.demands.now f.ensures.0 f.ensures.1 (omega (arith, c.if-sum-rate.false, c.requires.2)))
+    (rw c.list-else-sum-rate.ensures.list at c.fill-else-sum-rate.ensures)
+    ∙ ap (λ (l : List ℕ). l ++ drop (length c.args.demands.now) c.args.out.now) (shares-found c.args.rate c.args.demands.now c.find.ensures.0 c.find.ensures.1 (omega (arith, c.if-sum-rate.false, c.sum.ensures)))

@@ -1,27 +1,20 @@
 -- `staging::stages::give` meets its contract: the stages are those of the definition, and are copied. Assumes nothing.
 use Prim.Native.Nat.{ℕ}
-use mathlib.Core.Path.{refl, ap, ap₂, ◌∙◌}
-use mathlib.Core.List.{◌++◌}
+use mathlib.Core.Path.{refl, ap₂, ◌∙◌}
+use mathlib.Core.List.{List, ◌++◌}
+use native.Mathlib.Omega.{arith}
 use lib.ListN.{drop}
 use Rattle.model.specs.Listed.{listed}
-use Rattle.lists.specs.declared.RuleTables.{RuleTables}
-use Rattle.rules.specs.Stage.{Stages}
-use Rattle.staging.proofs.Answers.{staged-none}
-use native.Mathlib.Omega.{arith}
+use Rattle.staging.proofs.Answers.{staged-none, front}
 use Rattle.staging.proofs.stages.give.Goals as goal
 
-pub run-requires : goal.run-requires
-run-requires c = let p = c.requires in record {
-  good_rules = (p.0, p.1);
-  staged_to = staged-none _ _ _ _ refl refl p.2;
-}
-
-pub of-sizes-requires : goal.of-sizes-requires
-of-sizes-requires c = omega (arith, c.requires.0.size)
-
-pub copy-requires : goal.copy-requires
-copy-requires c = let e = ap (λ (n : RuleTables). n.tunnels) c.of-sizes.ensures in (omega (arith, e, c.requires.0.tunnels, c.run.auto), omega (arith, e, c.requires.3))
+pub run-requires-clause-staged_to : goal.run-requires-clause-staged_to
+run-requires-clause-staged_to c = staged-none _ _ _ _ refl refl c.requires.remaining
 
 pub returns : goal.returns
-returns c = let a = c.args in
-    c.copy.ensures ∙ ap₂ (λ (n : ℕ) (f : Stages). listed n f ++ drop n a.out.now) (ap (λ (n : RuleTables). n.tunnels) c.of-sizes.ensures) c.run.ensures.stages
+returns c =
+    let n = c.tunnels-tunnels.ensures.count in
+    ap₂ (λ (n : ℕ) (l : List ℕ). l ++ drop n c.args.out.now) n
+    (c.copy_from_slice.ensures.after
+    ∙ front _ _ (omega (arith, n, c.tunnels-tunnels.ensures.good.tunnels, c.run.ensures.size))
+    ∙ ap₂ listed n c.run.ensures.stages)

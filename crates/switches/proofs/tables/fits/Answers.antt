@@ -2,19 +2,16 @@
 use Prim.Native.Nat.{◌+◌, ◌≤◌, ◌<◌}
 use native.Mathlib.Omega.{arith}
 use native.Mathlib.Nat.{mul-le-mul}
-use lib.Count.{count_trailing_zeros, trailing_le}
+use lib.Count.{count_trailing_zeros}
 use Rattle.model.proofs.Sets.{next-within}
 use Rattle.lists.specs.Lists.{at}
 use Rattle.model.specs.Limits.{most_tunnels, most_switches}
-use Rattle.switches.proofs.Shifts.{and-less, fitting-start, fitting-on, fitting-not, fitting-end}
+use Rattle.switches.proofs.Shifts.{fitting-start, fitting-on, fitting-not, fitting-end}
 use Rattle.switches.proofs.tables.fits.Goals as goal
 use Rattle.switches.proofs.tables.fits.Goals.{After-shared_slice_known-in-loop-left-1, In-loop-left}
 
 pub loop-left-init : goal.loop-left-init
 loop-left-init c = fitting-start _ _ _ _ _ _
-
-pub overflow_cast-switch : goal.overflow_cast-switch
-overflow_cast-switch c = omega (arith, trailing_le 64 c.loop-left.left)
 
 -- the next switch is one that there can be
 low : (c : In-loop-left) → count_trailing_zeros 64 c.loop-left.left < most_switches
@@ -28,21 +25,9 @@ tally c =
     let i = c.loop-left in
     omega (arith, c.requires.table.0.most _ (next-within c.args.via i.invariant.switch i.left c.ranges.via.fits i.invariant.left-from c.loop-left-test.true), c.requires.unit_bound.1)
 
-pub offset_bounds-spares-switch : goal.offset_bounds-spares-switch
-offset_bounds-spares-switch c = omega (arith, low c)
-
-pub bounds-spares-switch : goal.bounds-spares-switch
-bounds-spares-switch c = omega (arith, low ((goal.at.bounds-spares-switch c).In-loop-left))
-
 pub overflow_mul-times : goal.overflow_mul-times
 overflow_mul-times c =
     let p = c.requires in omega (arith, mul-le-mul p.unit_bound.2 (p.table.1.most _ (low ((goal.at.overflow_mul-times c).In-loop-left))))
-
-pub offset_bounds-counts-switch : goal.offset_bounds-counts-switch
-offset_bounds-counts-switch c = omega (arith, low ((goal.at.offset_bounds-counts-switch c).In-loop-left))
-
-pub bounds-counts-switch : goal.bounds-counts-switch
-bounds-counts-switch c = omega (arith, low ((goal.at.bounds-counts-switch c).In-loop-left))
 
 pub overflow_add-counts : goal.overflow_add-counts
 overflow_add-counts c = omega (arith, tally c)
@@ -54,9 +39,6 @@ pub returns-then-times-spares : goal.returns-then-times-spares
 returns-then-times-spares c =
     let i = c.loop-left in
     fitting-not _ _ _ _ _ _ i.left c.ranges.via.fits c.loop-left-test.true i.invariant c.if-times-spares.true
-
-pub loop-left-smaller : goal.loop-left-smaller
-loop-left-smaller c = and-less _ _ (omega (arith, c.loop-left-test.true))
 
 pub loop-left-preserved : goal.loop-left-preserved
 loop-left-preserved c =

@@ -2,18 +2,15 @@
 use Prim.Native.Nat.{◌+◌, ◌≤◌, ◌<◌}
 use mathlib.Core.Path.{◌≡◌}
 use native.Mathlib.Omega.{arith}
-use lib.Count.{count_trailing_zeros, trailing_le}
+use lib.Count.{count_trailing_zeros}
 use Rattle.lists.specs.Lists.{at}
 use Rattle.model.specs.Limits.{most_switches}
-use Rattle.switches.proofs.Shifts.{and-less, shifting-start, next_low, next-same, shifting-on, shifting-end}
+use Rattle.switches.proofs.Shifts.{shifting-start, next_low, next-same, shifting-on, shifting-end}
 use Rattle.switches.proofs.tables.shift.Goals as goal
 use Rattle.switches.proofs.tables.shift.Goals.{In-loop-set}
 
 pub loop-set-init : goal.loop-set-init
 loop-set-init c = shifting-start _ _ _ _
-
-pub overflow_cast-switch : goal.overflow_cast-switch
-overflow_cast-switch c = omega (arith, trailing_le 64 c.loop-set.set)
 
 -- the next switch is one that there can be
 low : (c : In-loop-set) → count_trailing_zeros 64 c.loop-set.set < most_switches
@@ -28,26 +25,11 @@ same : (c : In-loop-set)
 same c =
     let i = c.loop-set in next-same _ _ _ _ i.set _ c.ranges.via.fits c.loop-set-test.true i.invariant c.requires
 
-pub offset_bounds-counts-switch : goal.offset_bounds-counts-switch
-offset_bounds-counts-switch c = omega (arith, low c)
-
-pub bounds-counts-switch : goal.bounds-counts-switch
-bounds-counts-switch c = omega (arith, low ((goal.at.bounds-counts-switch c).In-loop-set))
-
 pub overflow_add-counts : goal.overflow_add-counts
 overflow_add-counts c = omega (arith, (same ((goal.at.overflow_add-counts c).In-loop-set)).0, c.requires.table.most _ (low ((goal.at.overflow_add-counts c).In-loop-set)), c.requires.small)
 
 pub overflow_sub-counts : goal.overflow_sub-counts
 overflow_sub-counts c = (same ((goal.at.overflow_sub-counts c).In-loop-set)).1
-
-pub offset_bounds-counts-switch-in-loop-set : goal.offset_bounds-counts-switch-in-loop-set
-offset_bounds-counts-switch-in-loop-set c = omega (arith, low ((goal.at.offset_bounds-counts-switch-in-loop-set c).In-loop-set))
-
-pub bounds-counts-switch-in-loop-set : goal.bounds-counts-switch-in-loop-set
-bounds-counts-switch-in-loop-set c = omega (arith, low ((goal.at.bounds-counts-switch-in-loop-set c).In-loop-set))
-
-pub loop-set-smaller : goal.loop-set-smaller
-loop-set-smaller c = and-less _ _ (omega (arith, c.loop-set-test.true))
 
 pub loop-set-preserved : goal.loop-set-preserved
 loop-set-preserved c =

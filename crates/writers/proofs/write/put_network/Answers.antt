@@ -1,88 +1,85 @@
 -- `writers::write::put_network` meets its contract.
-use Prim.Native.Nat.{ℕ, ◌+◌, ◌*◌}
+use Prim.Native.Nat.{ℕ, ◌+◌, ◌*◌, ◌≤◌}
 use mathlib.Core.Path.{◌≡◌, subst}
 use mathlib.Core.List.{List}
+use native.Mathlib.Omega.{arith}
 use lib.ListN.{length, get_or}
 use Rattle.lists.specs.Lists.{head_size, per_link, per_flow, network_sizes, link_at, flow_at, tunnel_at}
 use Rattle.lists.specs.declared.Network as counts
 use Rattle.lists.proofs.Positions.{link-at, flow-at, tunnel-at, flows-follow, tunnels-follow, head-size}
-use Rattle.forms.specs.Form.{tunnel_lines}
+use Rattle.forms.specs.Form.{Whole, tunnel_lines}
+use Rattle.forms.specs.Write.{render}
 use Rattle.forms.specs.declared.form.Form.TheVariants.{Network}
 use Rattle.forms.proofs.Good.{network-size}
 use Rattle.lines.specs.Puts.{Puts}
 use Rattle.lengths.specs.Lines.{lines_from}
-use Rattle.lengths.proofs.Runs.{long, all_lines, front_fits, rest-fits, rest_put}
-use native.Mathlib.Omega.{arith}
+use Rattle.lengths.proofs.Runs.{head-in, all_lines, front_fits, rest-fits, rest_put}
 use Rattle.writers.proofs.write.put_network.Goals as goal
-use Rattle.writers.proofs.write.put_network.Goals.{After-put_flows-tunnels, After-put_links-flows, After-put_network_head-links, Start}
 
 -- each part begins where the one before it ends, and the last ends with the list
-module _ (s : Start) where
-  abbrev list : List ℕ
-  list = s.args.list.now
-
+module _ (l : List ℕ) (w : Whole Network l) (old : List ℕ) (fits : length (render Network l) ≤ length old) where
   abbrev sizes : counts.Network
-  sizes = network_sizes list
+  sizes = network_sizes l
 
-  links_end : link_at sizes 0 + per_link sizes.edition * sizes.links ≡ flow_at sizes 0
-  links_end = omega (arith, link-at sizes sizes.links, flows-follow sizes)
+  links-end : link_at sizes 0 + per_link sizes.edition * sizes.links ≡ flow_at sizes 0
+  links-end = omega (arith, link-at sizes sizes.links, flows-follow sizes)
 
   flows-end : flow_at sizes 0 + per_flow sizes.edition * sizes.flows ≡ tunnel_at sizes 0
   flows-end = omega (arith, flow-at sizes sizes.flows, tunnels-follow sizes)
 
-  tunnels-end : tunnel_at sizes 0 + length (tunnel_lines sizes) * sizes.tunnels ≡ length list
-  tunnels-end = omega (arith, tunnel-at sizes sizes.tunnels, network-size list s.requires.whole)
+  tunnels-end : tunnel_at sizes 0 + length (tunnel_lines sizes) * sizes.tunnels ≡ length l
+  tunnels-end = omega (arith, tunnel-at sizes sizes.tunnels, network-size l w)
 
-  head-long : link_at sizes 0 ≡ head_size (get_or list 0 0)
-  unfolding network_sizes
-  head-long = head-size sizes
+  -- the first n lines are put
+  abbrev Written : ℕ → List ℕ → ℕ → Type 0
+  Written n out p = Puts (lines_from Network l 0 n) 0 old out p
 
-  abbrev Written : List ℕ → ℕ → ℕ → Type 0
-  Written out p m = Puts (lines_from Network list 0 m) 0 s.args.out.now out p
+  module _ {o : List ℕ} {q : ℕ} where
+    head-put : Written (head_size (get_or l 0 0)) o q → Written (link_at sizes 0) o q
+    unfolding network_sizes
+    head-put = rw (head-size sizes) (λ w. w)
 
--- the head is put, then the lines of the links, then those of the flows
-with-head : (c : After-put_network_head-links) → Written (c.before.before.before.before.before) c.put_network_head-links.new.out c.put_network_head-links.result (link_at (sizes (c.before.before.before.before.before)) 0)
-with-head c = rw (head-long (c.before.before.before.before.before)) c.put_network_head-links.ensures
+    links-fit : Written (link_at sizes 0) o q → q + length (lines_from Network l (link_at sizes 0) (per_link sizes.edition * sizes.links)) ≤ length o
+    links-fit = rest-fits Network l _ _ fits (omega (arith, links-end, flows-end, tunnels-end))
 
-abbrev put_network_head-links-before-put_links-flows : After-put_links-flows → After-put_network_head-links
-put_network_head-links-before-put_links-flows c = record { before = c.before.before.before.before.before; type_inv = record { list = c.type_inv.list } }
+    flows-fit : Written (flow_at sizes 0) o q → q + length (lines_from Network l (flow_at sizes 0) (per_flow sizes.edition * sizes.flows)) ≤ length o
+    flows-fit = rest-fits Network l _ _ fits (omega (arith, flows-end, tunnels-end))
 
-with-links : (c : After-put_links-flows) → Written (c.before.before.before.before.before.before.before.before.before) c.put_links-flows.new.out c.put_links-flows.result (flow_at (sizes (c.before.before.before.before.before.before.before.before.before)) 0)
-with-links c =
-    subst (Written (c.before.before.before.before.before.before.before.before.before) c.put_links-flows.new.out c.put_links-flows.result) (links_end (c.before.before.before.before.before.before.before.before.before))
-    (rest_put Network (list (c.before.before.before.before.before.before.before.before.before)) (link_at (sizes (c.before.before.before.before.before.before.before.before.before)) 0) (per_link (sizes (c.before.before.before.before.before.before.before.before.before)).edition * (sizes (c.before.before.before.before.before.before.before.before.before)).links) c.requires.list_in_bounds (omega (arith, links_end (c.before.before.before.before.before.before.before.before.before), flows-end (c.before.before.before.before.before.before.before.before.before), tunnels-end (c.before.before.before.before.before.before.before.before.before))) (with-head (put_network_head-links-before-put_links-flows c)) c.put_links-flows.ensures)
+    tunnels-fit : Written (tunnel_at sizes 0) o q → q + length (lines_from Network l (tunnel_at sizes 0) (length (tunnel_lines sizes) * sizes.tunnels)) ≤ length o
+    tunnels-fit = rest-fits Network l _ _ fits (omega (arith, tunnels-end))
 
-abbrev put_links-flows-before-put_flows-tunnels : After-put_flows-tunnels → After-put_links-flows
-put_links-flows-before-put_flows-tunnels c = record { before = c.before.before.before.before.before; type_inv = record { list = c.type_inv.list } }
+    module _ {out : List ℕ} {p : ℕ} where
+      links-put : Written (link_at sizes 0) o q → Puts (lines_from Network l (link_at sizes 0) (per_link sizes.edition * sizes.links)) q o out p → Written (flow_at sizes 0) out p
+      links-put x y = subst (λ (n : ℕ). Written n out p) links-end (rest_put Network l _ _ fits (omega (arith, links-end, flows-end, tunnels-end)) x y)
 
-with-flows : (c : After-put_flows-tunnels) → Written (c.before.before.before.before.before.before.before.before.before.before.before.before.before) c.put_flows-tunnels.new.out c.put_flows-tunnels.result (tunnel_at (sizes (c.before.before.before.before.before.before.before.before.before.before.before.before.before)) 0)
-with-flows c =
-    subst (Written (c.before.before.before.before.before.before.before.before.before.before.before.before.before) c.put_flows-tunnels.new.out c.put_flows-tunnels.result) (flows-end (c.before.before.before.before.before.before.before.before.before.before.before.before.before))
-    (rest_put Network (list (c.before.before.before.before.before.before.before.before.before.before.before.before.before)) (flow_at (sizes (c.before.before.before.before.before.before.before.before.before.before.before.before.before)) 0) (per_flow (sizes (c.before.before.before.before.before.before.before.before.before.before.before.before.before)).edition * (sizes (c.before.before.before.before.before.before.before.before.before.before.before.before.before)).flows) c.requires.list_in_bounds (omega (arith, flows-end (c.before.before.before.before.before.before.before.before.before.before.before.before.before), tunnels-end (c.before.before.before.before.before.before.before.before.before.before.before.before.before))) (with-links (put_links-flows-before-put_flows-tunnels c)) c.put_flows-tunnels.ensures)
+      flows-put : Written (flow_at sizes 0) o q → Puts (lines_from Network l (flow_at sizes 0) (per_flow sizes.edition * sizes.flows)) q o out p → Written (tunnel_at sizes 0) out p
+      flows-put x y = subst (λ (n : ℕ). Written n out p) flows-end (rest_put Network l _ _ fits (omega (arith, flows-end, tunnels-end)) x y)
 
-pub put_network_head-links-requires : goal.put_network_head-links-requires
-put_network_head-links-requires c = record {
-  whole = c.requires.whole;
-  list_in_bounds = front_fits Network (list ((goal.at.put_network_head-links-requires c).Start)) (head_size (get_or (list ((goal.at.put_network_head-links-requires c).Start)) 0 0)) c.args.out.now c.requires.list_in_bounds (long (list ((goal.at.put_network_head-links-requires c).Start)) c.requires.whole);
-}
+      tunnels-put : Written (tunnel_at sizes 0) o q → Puts (lines_from Network l (tunnel_at sizes 0) (length (tunnel_lines sizes) * sizes.tunnels)) q o out p → Puts (render Network l) 0 old out p
+      tunnels-put x y = rw (tunnels-end, all_lines Network l) at (rest_put Network l _ _ fits (omega (arith, tunnels-end)) x y)
+
+pub put_network_head-links-requires-clause-room : goal.put_network_head-links-requires-clause-room
+put_network_head-links-requires-clause-room c = front_fits Network _ _ _ c.requires.room (head-in _ (network-size _ c.requires.whole))
 
 pub put_links-flows-requires : goal.put_links-flows-requires
-put_links-flows-requires c = record {
-  whole = c.requires.whole;
-  list_in_bounds = rest-fits Network (list ((goal.at.put_links-flows-requires c).Start)) (link_at (sizes ((goal.at.put_links-flows-requires c).Start)) 0) (per_link (sizes ((goal.at.put_links-flows-requires c).Start)).edition * (sizes ((goal.at.put_links-flows-requires c).Start)).links) c.requires.list_in_bounds (omega (arith, links_end ((goal.at.put_links-flows-requires c).Start), flows-end ((goal.at.put_links-flows-requires c).Start), tunnels-end ((goal.at.put_links-flows-requires c).Start))) (with-head ((goal.at.put_links-flows-requires c).After-put_network_head-links));
-}
+put_links-flows-requires c =
+    let head = head-put _ c.requires.whole _ c.requires.room c.put_network_head-links.ensures in
+    links-fit _ c.requires.whole _ c.requires.room head
 
 pub put_flows-tunnels-requires : goal.put_flows-tunnels-requires
-put_flows-tunnels-requires c = record {
-  whole = c.requires.whole;
-  list_in_bounds = rest-fits Network (list ((goal.at.put_flows-tunnels-requires c).Start)) (flow_at (sizes ((goal.at.put_flows-tunnels-requires c).Start)) 0) (per_flow (sizes ((goal.at.put_flows-tunnels-requires c).Start)).edition * (sizes ((goal.at.put_flows-tunnels-requires c).Start)).flows) c.requires.list_in_bounds (omega (arith, flows-end ((goal.at.put_flows-tunnels-requires c).Start), tunnels-end ((goal.at.put_flows-tunnels-requires c).Start))) (with-links ((goal.at.put_flows-tunnels-requires c).After-put_links-flows));
-}
+put_flows-tunnels-requires c =
+    let head = head-put _ c.requires.whole _ c.requires.room c.put_network_head-links.ensures in
+    flows-fit _ c.requires.whole _ c.requires.room (links-put _ c.requires.whole _ c.requires.room head c.put_links-flows.ensures)
 
 pub put_tunnels-requires : goal.put_tunnels-requires
-put_tunnels-requires c = record {
-  whole = c.requires.whole;
-  list_in_bounds = rest-fits Network (list ((goal.at.put_tunnels-requires c).Start)) (tunnel_at (sizes ((goal.at.put_tunnels-requires c).Start)) 0) (length (tunnel_lines (sizes ((goal.at.put_tunnels-requires c).Start))) * (sizes ((goal.at.put_tunnels-requires c).Start)).tunnels) c.requires.list_in_bounds (omega (arith, tunnels-end ((goal.at.put_tunnels-requires c).Start))) (with-flows ((goal.at.put_tunnels-requires c).After-put_flows-tunnels));
-}
+put_tunnels-requires c =
+    let head = head-put _ c.requires.whole _ c.requires.room c.put_network_head-links.ensures in
+    let links = links-put _ c.requires.whole _ c.requires.room head c.put_links-flows.ensures in
+    tunnels-fit _ c.requires.whole _ c.requires.room (flows-put _ c.requires.whole _ c.requires.room links c.put_flows-tunnels.ensures)
 
 pub returns : goal.returns
-returns c = rw (tunnels-end ((goal.at.returns c).Start), all_lines Network (list ((goal.at.returns c).Start))) at (rest_put Network (list ((goal.at.returns c).Start)) (tunnel_at (sizes ((goal.at.returns c).Start)) 0) (length (tunnel_lines (sizes ((goal.at.returns c).Start))) * (sizes ((goal.at.returns c).Start)).tunnels) c.requires.list_in_bounds (omega (arith, tunnels-end ((goal.at.returns c).Start))) (with-flows ((goal.at.returns c).After-put_flows-tunnels)) c.put_tunnels.ensures)
+returns c =
+    let head = head-put _ c.requires.whole _ c.requires.room c.put_network_head-links.ensures in
+    let links = links-put _ c.requires.whole _ c.requires.room head c.put_links-flows.ensures in
+    let flows = flows-put _ c.requires.whole _ c.requires.room links c.put_flows-tunnels.ensures in
+    tunnels-put _ c.requires.whole _ c.requires.room flows c.put_tunnels.ensures

@@ -1,168 +1,101 @@
 -- `writers::write::put_tunnels` meets its contract.
-use Prim.Native.Nat.{ℕ, ◌+◌, ◌*◌}
-use mathlib.Core.Path.{◌≡◌, refl, ap}
+use Prim.Native.Nat.{ℕ, ◌+◌, ◌*◌, ◌<◌, ◌≤◌}
+use mathlib.Core.Path.{◌≡◌, refl}
 use mathlib.Core.List.{List}
-use lib.ListN.{length, get_or}
-use Rattle.lists.specs.Lists.{network_sizes, tunnel_at}
-use Rattle.lists.specs.Good.{Sized}
-use Rattle.lists.specs.declared.Network as counts
-use Rattle.lists.proofs.Positions.{TunnelPlace, tunnel-place, tunnel-at, limited, head_in}
-use Rattle.forms.proofs.Good.{network-ranges}
-use Rattle.forms.specs.Bytes.{bytes}
-use Rattle.forms.specs.Form.{tunnel_lines}
-use Rattle.forms.specs.declared.form.Form.TheVariants.{Network}
-use Rattle.lines.specs.Puts.{Puts, hex_line}
-use Rattle.lengths.specs.Lines.{line_at, lines_from}
-use Rattle.lines.proofs.Writing.{puts-length}
-use Rattle.lengths.proofs.Runs.{DecimalAt, flow-line, via-line, old-line, new_line, no_lines, run-within, next_fits, next-put}
 use native.Mathlib.Omega.{arith}
+use lib.ListN.{length}
+use Rattle.model.specs.Net.{Net}
+use Rattle.lists.specs.Lists.{network_sizes, network_of, tunnel_at}
+use Rattle.lists.specs.Good.{GoodNetwork}
+use Rattle.lists.proofs.Positions.{tunnel-at}
+use Rattle.forms.specs.Bytes.{bytes}
+use Rattle.forms.specs.declared.form.Form.TheVariants.{Network}
+use Rattle.lines.specs.Puts.{Puts, decimal_line, hex_line}
+use Rattle.lengths.specs.Lines.{lines_from}
+use Rattle.lengths.proofs.Runs.{no_lines, next_fits, next-put}
+use Rattle.writers.proofs.Shown.{flow-shown, via-shown, old-shown, new-shown}
 use Rattle.writers.proofs.write.put_tunnels.Goals as goal
-use Rattle.writers.proofs.write.put_tunnels.Goals.{After-put_line-new, After-put_line-via, After-put_set_line-old, After-tunnel_at-i, Start}
+use Rattle.writers.proofs.write.put_tunnels.Goals.{In-loop-t}
 
-sized : (s : Start) → Sized s.args.list.now
-sized s = (network-ranges s.args.list.now s.requires.whole).sized
+-- the first n of the lines of the tunnels are put
+abbrev Written : List ℕ → ℕ → List ℕ → ℕ → List ℕ → ℕ → Type 0
+Written l at old n out p = Puts (lines_from Network l (tunnel_at (network_sizes l) 0) n) at old out p
 
--- in a turn
-module _ (c : After-tunnel_at-i) where
-  abbrev list : List ℕ
-  list = c.args.list.now
+module _ (l : List ℕ) (g : GoodNetwork l) (at : ℕ) (old : List ℕ) (fits : at + length (lines_from Network l (tunnel_at (network_sizes l) 0) (4 * (network_sizes l).tunnels)) ≤ length old) (t : ℕ)
+    (there : t < (network_sizes l).tunnels) where
+  abbrev N : Net
+  N = network_of l
 
-  abbrev t' : ℕ
-  t' = c.loop-t.t
+  here : tunnel_at (network_sizes l) t ≡ tunnel_at (network_sizes l) 0 + 4 * t
+  here = tunnel-at (network_sizes l) t
 
-  -- where the lines of the part begin, and the place of this turn's
-  abbrev first : ℕ
-  first = tunnel_at (network_sizes list) 0
+  -- after how many lines each of a tunnel's is put, and that there is room for it
+  module _ {o : List ℕ} {q : ℕ} (v : ℕ) where
+    flow-fits : Written l at old (4 * t) o q → v ≡ N.flow t → q + length (decimal_line (bytes "flow=") v) ≤ length o
+    flow-fits w e = next_fits Network _ _ _ fits (4 * t) _ (omega (arith, there)) here (flow-shown l g v t there e) w
 
-  abbrev i : ℕ
-  i = c.tunnel_at-i.result
+    flow-put : Written l at old (4 * t) o q → v ≡ N.flow t → {out : List ℕ} {p : ℕ} → Puts (decimal_line (bytes "flow=") v) q o out p → Written l at old (4 * t + 1) out p
+    flow-put w e = next-put Network _ _ _ fits (4 * t) _ (omega (arith, there)) here (flow-shown l g v t there e) w _ refl
 
-  -- how many lines of the part stand before it
-  abbrev done : ℕ
-  done = length (tunnel_lines (network_sizes list)) * t'
+    via-fits : Written l at old (4 * t + 1) o q → v ≡ N.via t → q + length (hex_line (bytes "via=") v) ≤ length o
+    via-fits w e = next_fits Network _ _ _ fits (4 * t + 1) _ (omega (arith, there)) (omega (arith, here)) (via-shown l g v t there e) w
 
-  place : TunnelPlace list t' i
-  place = tunnel-place list (sized (c.before.before.before.before.before.before.before.before)) _ c.of-sizes.ensures _ _ c.loop-t-test.true c.tunnel_at-i.ensures
+    via-put : Written l at old (4 * t + 1) o q → v ≡ N.via t → {out : List ℕ} {p : ℕ} → Puts (hex_line (bytes "via=") v) q o out p → Written l at old (4 * t + 2) out p
+    via-put w e = next-put Network _ _ _ fits (4 * t + 1) _ (omega (arith, there)) (omega (arith, here)) (via-shown l g v t there e) w _ (omega arith)
 
-  here : i ≡ first + done
-  here = omega (arith, place.here, tunnel-at (network_sizes list) t')
+    old-fits : Written l at old (4 * t + 2) o q → v ≡ N.old t → q + length (decimal_line (bytes "old=") v) ≤ length o
+    old-fits w e = next_fits Network _ _ _ fits (4 * t + 2) _ (omega (arith, there)) (omega (arith, here)) (old-shown l g v t there e) w
 
-  flow : DecimalAt Network list i (bytes "flow=")
-  flow = flow-line list c.requires.whole t' i place.there place.here
+    old-put : Written l at old (4 * t + 2) o q → v ≡ N.old t → {out : List ℕ} {p : ℕ} → Puts (decimal_line (bytes "old=") v) q o out p → Written l at old (4 * t + 3) out p
+    old-put w e = next-put Network _ _ _ fits (4 * t + 2) _ (omega (arith, there)) (omega (arith, here)) (old-shown l g v t there e) w _ (omega arith)
 
-  via : line_at Network list (i + 1) ≡ hex_line (bytes "via=") (get_or list (i + 1) 0)
-  via = via-line list c.requires.whole t' (i + 1) place.there (ap (λ (j : ℕ). j + 1) place.here)
+    new-fits : Written l at old (4 * t + 3) o q → v ≡ N.new t → q + length (decimal_line (bytes "new=") v) ≤ length o
+    new-fits w e = next_fits Network _ _ _ fits (4 * t + 3) _ (omega (arith, there)) (omega (arith, here)) (new-shown l g v t there e) w
 
-  old : DecimalAt Network list (i + 2) (bytes "old=")
-  old = old-line list c.requires.whole t' (i + 2) place.there (ap (λ (j : ℕ). j + 2) place.here)
+    new-put : Written l at old (4 * t + 3) o q → v ≡ N.new t → {out : List ℕ} {p : ℕ} → Puts (decimal_line (bytes "new=") v) q o out p → Written l at old (4 * (t + 1)) out p
+    new-put w e = next-put Network _ _ _ fits (4 * t + 3) _ (omega (arith, there)) (omega (arith, here)) (new-shown l g v t there e) w _ (omega arith)
 
-  new : DecimalAt Network list (i + 3) (bytes "new=")
-  new = new_line list c.requires.whole t' (i + 3) place.there (ap (λ (j : ℕ). j + 3) place.here)
-
-abbrev tunnel_at-i-before-put_line-via : After-put_line-via → After-tunnel_at-i
-tunnel_at-i-before-put_line-via c = record { before = c.before.before.before.before.before.before; type_inv = record { list = c.shared_slice_known-1.given } }
-
--- the lines that are put, one after the other
-with-flow : (c : After-put_line-via) → Puts (lines_from Network c.args.list.now (first (tunnel_at-i-before-put_line-via c)) (done (tunnel_at-i-before-put_line-via c) + 1)) c.args.at c.args.out.now c.put_line-via.new.out c.put_line-via.result
-with-flow c =
-    next-put Network c.args.list.now (first (tunnel_at-i-before-put_line-via c)) _ c.requires.list_in_bounds (done (tunnel_at-i-before-put_line-via c)) c.tunnel_at-i.result (omega (arith, (place (tunnel_at-i-before-put_line-via c)).there)) (omega (arith, here (tunnel_at-i-before-put_line-via c))) (flow (tunnel_at-i-before-put_line-via c)).line c.loop-t.invariant.put (done (tunnel_at-i-before-put_line-via c) + 1) refl c.put_line-via.ensures
-
-abbrev tunnel_at-i-before-put_set_line-old : After-put_set_line-old → After-tunnel_at-i
-tunnel_at-i-before-put_set_line-old c = record { before = c.before.before.before.before.before.before.before.before.before.before.before.before.before; type_inv = record { list = c.shared_slice_known-1.given } }
-
-abbrev put_line-via-before-put_set_line-old : After-put_set_line-old → After-put_line-via
-put_line-via-before-put_set_line-old c = record { before = c.before.before.before.before.before.before.before.before; type_inv = record { list = c.shared_slice_known-in-loop-t-1.given } }
-
-with-via : (c : After-put_set_line-old) → Puts (lines_from Network c.args.list.now (first (tunnel_at-i-before-put_set_line-old c)) (done (tunnel_at-i-before-put_set_line-old c) + 2)) c.args.at c.args.out.now c.put_set_line-old.new.out c.put_set_line-old.result
-with-via c =
-    next-put Network c.args.list.now (first (tunnel_at-i-before-put_set_line-old c)) _ c.requires.list_in_bounds (done (tunnel_at-i-before-put_set_line-old c) + 1) (c.tunnel_at-i.result + 1) (omega (arith, (place (tunnel_at-i-before-put_set_line-old c)).there)) (omega (arith, here (tunnel_at-i-before-put_set_line-old c))) (via (tunnel_at-i-before-put_set_line-old c)) (with-flow (put_line-via-before-put_set_line-old c)) (done (tunnel_at-i-before-put_set_line-old c) + 2) (omega arith) c.put_set_line-old.ensures
-
-abbrev tunnel_at-i-before-put_line-new : After-put_line-new → After-tunnel_at-i
-tunnel_at-i-before-put_line-new c = record { before = c.before.before.before.before.before.before.before.before.before.before.before.before.before.before.before.before.before.before.before.before; type_inv = record { list = c.shared_slice_known-1.given } }
-
-abbrev put_set_line-old-before-put_line-new : After-put_line-new → After-put_set_line-old
-put_set_line-old-before-put_line-new c = record { before = c.before.before.before.before.before.before.before.before; type_inv = record { list = c.shared_slice_known-in-loop-t-2-1.given } }
-
-with-old : (c : After-put_line-new) → Puts (lines_from Network c.args.list.now (first (tunnel_at-i-before-put_line-new c)) (done (tunnel_at-i-before-put_line-new c) + 3)) c.args.at c.args.out.now c.put_line-new.new.out c.put_line-new.result
-with-old c =
-    next-put Network c.args.list.now (first (tunnel_at-i-before-put_line-new c)) _ c.requires.list_in_bounds (done (tunnel_at-i-before-put_line-new c) + 2) (c.tunnel_at-i.result + 2) (omega (arith, (place (tunnel_at-i-before-put_line-new c)).there)) (omega (arith, here (tunnel_at-i-before-put_line-new c))) (old (tunnel_at-i-before-put_line-new c)).line (with-via (put_set_line-old-before-put_line-new c)) (done (tunnel_at-i-before-put_line-new c) + 3) (omega arith) c.put_line-new.ensures
-
-pub of-sizes-requires : goal.of-sizes-requires
-of-sizes-requires c = head_in _ (sized ((goal.at.of-sizes-requires c).Start)).size
+less : (c : In-loop-t) → c.loop-t.t < (network_sizes c.args.network.now).tunnels
+less c = omega (arith, c.loop-t-test.true, c.tunnels-t-end.ensures.count)
 
 pub loop-t-init : goal.loop-t-init
-loop-t-init c = record { few = omega arith; put = no_lines Network _ _ _ _ }
+loop-t-init c = no_lines Network _ _ _ _
 
-pub tunnel_at-i-requires : goal.tunnel_at-i-requires
-tunnel_at-i-requires c = (limited _ (sized ((goal.at.tunnel_at-i-requires c).Start)) _ c.of-sizes.ensures, omega (arith, c.loop-t-test.true))
-
-pub offset_bounds-list-i : goal.offset_bounds-list-i
-offset_bounds-list-i c = omega (arith, (place ((goal.at.offset_bounds-list-i c).After-tunnel_at-i)).few)
-
-pub bounds-list-i : goal.bounds-list-i
-bounds-list-i c = omega (arith, (place ((goal.at.bounds-list-i c).After-tunnel_at-i)).within)
-
-pub put_line-via-requires : goal.put_line-via-requires
-put_line-via-requires c = record {
-  v_bound = (flow ((goal.at.put_line-via-requires c).After-tunnel_at-i)).number.small;
-  v_in_bounds = next_fits Network c.args.list.now (first ((goal.at.put_line-via-requires c).After-tunnel_at-i)) _ c.requires.list_in_bounds (done ((goal.at.put_line-via-requires c).After-tunnel_at-i)) c.tunnel_at-i.result (omega (arith, (place ((goal.at.put_line-via-requires c).After-tunnel_at-i)).there)) (here ((goal.at.put_line-via-requires c).After-tunnel_at-i)) (flow ((goal.at.put_line-via-requires c).After-tunnel_at-i)).line c.loop-t.invariant.put;
-}
-
-pub overflow_add-i : goal.overflow_add-i
-overflow_add-i c = omega (arith, (place ((goal.at.overflow_add-i c).After-tunnel_at-i)).few)
-
-pub offset_bounds-list-i-in-loop-t : goal.offset_bounds-list-i-in-loop-t
-offset_bounds-list-i-in-loop-t c = omega (arith, (place ((goal.at.offset_bounds-list-i-in-loop-t c).After-tunnel_at-i)).few)
-
-pub bounds-list-i-in-loop-t : goal.bounds-list-i-in-loop-t
-bounds-list-i-in-loop-t c = omega (arith, (place ((goal.at.bounds-list-i-in-loop-t c).After-tunnel_at-i)).within)
+pub put_line-via-requires-clause-v_in_bounds : goal.put_line-via-requires-clause-v_in_bounds
+put_line-via-requires-clause-v_in_bounds c =
+    let g = c.tunnels-t-end.ensures.good in
+    let h = less ((goal.at.put_line-via-requires-clause-v_in_bounds c).In-loop-t) in
+    flow-fits _ g _ _ c.requires _ h _ c.loop-t.invariant c.flow.ensures.value
 
 pub put_set_line-old-requires : goal.put_set_line-old-requires
-put_set_line-old-requires c = next_fits Network c.args.list.now (first ((goal.at.put_set_line-old-requires c).After-tunnel_at-i)) _ c.requires.list_in_bounds (done ((goal.at.put_set_line-old-requires c).After-tunnel_at-i) + 1) (c.tunnel_at-i.result + 1) (omega (arith, (place ((goal.at.put_set_line-old-requires c).After-tunnel_at-i)).there)) (omega (arith, here ((goal.at.put_set_line-old-requires c).After-tunnel_at-i))) (via ((goal.at.put_set_line-old-requires c).After-tunnel_at-i)) (with-flow ((goal.at.put_set_line-old-requires c).After-put_line-via))
+put_set_line-old-requires c =
+    let g = c.tunnels-t-end.ensures.good in
+    let h = less ((goal.at.put_set_line-old-requires c).In-loop-t) in
+    let one = flow-put _ g _ _ c.requires _ h _ c.loop-t.invariant c.flow.ensures.value c.put_line-via.ensures in
+    via-fits _ g _ _ c.requires _ h _ one c.via.ensures.value
 
-pub overflow_add-i-in-loop-t : goal.overflow_add-i-in-loop-t
-overflow_add-i-in-loop-t c = omega (arith, (place ((goal.at.overflow_add-i-in-loop-t c).After-tunnel_at-i)).few)
+pub put_line-new-requires-clause-v_in_bounds : goal.put_line-new-requires-clause-v_in_bounds
+put_line-new-requires-clause-v_in_bounds c =
+    let g = c.tunnels-t-end.ensures.good in
+    let h = less ((goal.at.put_line-new-requires-clause-v_in_bounds c).In-loop-t) in
+    let one = flow-put _ g _ _ c.requires _ h _ c.loop-t.invariant c.flow.ensures.value c.put_line-via.ensures in
+    let two = via-put _ g _ _ c.requires _ h _ one c.via.ensures.value c.put_set_line-old.ensures in
+    old-fits _ g _ _ c.requires _ h _ two c.old.ensures.value
 
-pub offset_bounds-list-i-in-loop-t-2 : goal.offset_bounds-list-i-in-loop-t-2
-offset_bounds-list-i-in-loop-t-2 c = omega (arith, (place ((goal.at.offset_bounds-list-i-in-loop-t-2 c).After-tunnel_at-i)).few)
-
-pub bounds-list-i-in-loop-t-2 : goal.bounds-list-i-in-loop-t-2
-bounds-list-i-in-loop-t-2 c = omega (arith, (place ((goal.at.bounds-list-i-in-loop-t-2 c).After-tunnel_at-i)).within)
-
-pub put_line-new-requires : goal.put_line-new-requires
-put_line-new-requires c = record {
-  v_bound = (old ((goal.at.put_line-new-requires c).After-tunnel_at-i)).number.small;
-  v_in_bounds = next_fits Network c.args.list.now (first ((goal.at.put_line-new-requires c).After-tunnel_at-i)) _ c.requires.list_in_bounds (done ((goal.at.put_line-new-requires c).After-tunnel_at-i) + 2) (c.tunnel_at-i.result + 2) (omega (arith, (place ((goal.at.put_line-new-requires c).After-tunnel_at-i)).there)) (omega (arith, here ((goal.at.put_line-new-requires c).After-tunnel_at-i))) (old ((goal.at.put_line-new-requires c).After-tunnel_at-i)).line (with-via ((goal.at.put_line-new-requires c).After-put_set_line-old));
-}
-
-pub overflow_add-i-in-loop-t-2 : goal.overflow_add-i-in-loop-t-2
-overflow_add-i-in-loop-t-2 c = omega (arith, (place ((goal.at.overflow_add-i-in-loop-t-2 c).After-tunnel_at-i)).few)
-
-pub offset_bounds-list-i-in-loop-t-3 : goal.offset_bounds-list-i-in-loop-t-3
-offset_bounds-list-i-in-loop-t-3 c = omega (arith, (place ((goal.at.offset_bounds-list-i-in-loop-t-3 c).After-tunnel_at-i)).few)
-
-pub bounds-list-i-in-loop-t-3 : goal.bounds-list-i-in-loop-t-3
-bounds-list-i-in-loop-t-3 c = omega (arith, (place ((goal.at.bounds-list-i-in-loop-t-3 c).After-tunnel_at-i)).within)
-
-pub put_line-p-requires : goal.put_line-p-requires
-put_line-p-requires c = record {
-  v_bound = (new ((goal.at.put_line-p-requires c).After-tunnel_at-i)).number.small;
-  v_in_bounds = next_fits Network c.args.list.now (first ((goal.at.put_line-p-requires c).After-tunnel_at-i)) _ c.requires.list_in_bounds (done ((goal.at.put_line-p-requires c).After-tunnel_at-i) + 3) (c.tunnel_at-i.result + 3) (omega (arith, (place ((goal.at.put_line-p-requires c).After-tunnel_at-i)).there)) (omega (arith, here ((goal.at.put_line-p-requires c).After-tunnel_at-i))) (new ((goal.at.put_line-p-requires c).After-tunnel_at-i)).line (with-old ((goal.at.put_line-p-requires c).After-put_line-new));
-}
-
-pub overflow_add-t : goal.overflow_add-t
-overflow_add-t c = omega (arith, (place ((goal.at.overflow_add-t c).After-tunnel_at-i)).few, here ((goal.at.overflow_add-t c).After-tunnel_at-i))
+pub put_line-p-requires-clause-v_in_bounds : goal.put_line-p-requires-clause-v_in_bounds
+put_line-p-requires-clause-v_in_bounds c =
+    let g = c.tunnels-t-end.ensures.good in
+    let h = less ((goal.at.put_line-p-requires-clause-v_in_bounds c).In-loop-t) in
+    let one = flow-put _ g _ _ c.requires _ h _ c.loop-t.invariant c.flow.ensures.value c.put_line-via.ensures in
+    let two = via-put _ g _ _ c.requires _ h _ one c.via.ensures.value c.put_set_line-old.ensures in
+    let three = old-put _ g _ _ c.requires _ h _ two c.old.ensures.value c.put_line-new.ensures in
+    new-fits _ g _ _ c.requires _ h _ three c.new_amount.ensures.value
 
 pub loop-t-preserved : goal.loop-t-preserved
-loop-t-preserved c = record {
-  few = omega (arith, c.loop-t-test.true);
-  put = next-put Network c.args.list.now (first ((goal.at.loop-t-preserved c).After-tunnel_at-i)) _ c.requires.list_in_bounds (done ((goal.at.loop-t-preserved c).After-tunnel_at-i) + 3) (c.tunnel_at-i.result + 3) (omega (arith, (place ((goal.at.loop-t-preserved c).After-tunnel_at-i)).there)) (omega (arith, here ((goal.at.loop-t-preserved c).After-tunnel_at-i))) (new ((goal.at.loop-t-preserved c).After-tunnel_at-i)).line (with-old ((goal.at.loop-t-preserved c).After-put_line-new)) (length (tunnel_lines (network_sizes c.args.list.now)) * (c.loop-t.t + 1)) (omega arith) c.put_line-p.ensures;
-}
-
-pub shape_of-out : goal.shape_of-out
-shape_of-out c = let v = c.loop-t.invariant in
-    puts-length (run-within Network c.args.list.now _ _ _ c.args.at c.args.out.now (omega (arith, v.few, ap (λ (n : counts.Network). n.tunnels) c.of-sizes.ensures)) c.requires.list_in_bounds) v.put
-
-pub returns : goal.returns
-returns c = let e : c.loop-t.t ≡ (network_sizes c.args.list.now).tunnels = omega (arith, c.loop-t.invariant.few, c.loop-t-test.false, ap (λ (n : counts.Network). n.tunnels) c.of-sizes.ensures) in
-    rw e at c.loop-t.invariant.put
+loop-t-preserved c =
+    let g = c.tunnels-t-end.ensures.good in
+    let h = less ((goal.at.loop-t-preserved c).In-loop-t) in
+    let one = flow-put _ g _ _ c.requires _ h _ c.loop-t.invariant c.flow.ensures.value c.put_line-via.ensures in
+    let two = via-put _ g _ _ c.requires _ h _ one c.via.ensures.value c.put_set_line-old.ensures in
+    let three = old-put _ g _ _ c.requires _ h _ two c.old.ensures.value c.put_line-new.ensures in
+    new-put _ g _ _ c.requires _ h _ three c.new_amount.ensures.value c.put_line-p.ensures

@@ -1,0 +1,8 @@
+-- `product::read_plan` meets its contract: the answer is made of the result.
+use mathlib.Core.Path.{ap, ◌∙◌}
+use Rattle.lists.specs.Refusals.{done_with}
+use Rattle.lists.proofs.Refusals.{done-same}
+use Rattle.product.proofs.read_plan.Goals as goal
+
+pub returns-clause-value : goal.returns-clause-value
+returns-clause-value c = c.done.ensures ∙ ap done_with c.read_plan.ensures.value ∙ done-same _
