@@ -11,7 +11,7 @@ use Rattle.lists.specs.Lists.{network_sizes, network_of, plan_sizes, row_at, pla
 use Rattle.lists.proofs.Positions.{row-in}
 use Rattle.amounts.specs.Rows.{Checkable}
 
-in_parts : (parts m : ℕ) → parts ≤ most_steps → m ≤ most_amount → parts * m ≤ most_amount * most_steps
+pub in_parts : (parts m : ℕ) → parts ≤ most_steps → m ≤ most_amount → parts * m ≤ most_amount * most_steps
 in_parts parts m h k = let q : parts * m ≤ most_steps * most_amount = mul-le-mul h k in omega arith
 
 module _ (l p : List ℕ) (k : Checkable l p) where

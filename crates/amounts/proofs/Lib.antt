@@ -1,4 +1,5 @@
 pub mod Bounds
+pub mod Left
 pub mod Good
 pub mod Tables
 pub mod Windows

@@ -1,8 +1,11 @@
--- What a link can carry.
+-- What a link can carry, and columns: lists whose first n numbers are those of a function of tunnels, or of links.
 use Rattle.std.specs.Prelude.{ℕ, ◌+◌, ◌*◌, ◌/◌, ◌<◌, ◌≡◌, List, get_or, length}
 use Rattle.model.specs.Limits.{most_links}
 use Rattle.model.specs.Net.{Net}
 use Rattle.amounts.specs.declared.columns.Bounds.{Bounds}
+
+pub record Holds (xs : List ℕ) (n : ℕ) (f : ℕ → ℕ) : Type 0 where
+  pub each : (t : ℕ) → t < n → get_or xs t 0 ≡ f t
 
 -- what a link can carry of protected traffic, and of all: a load, which is whole, is over (1000 + overrun) thousandths of the capacity exactly if it is over the whole part of these
 abbrev pub capacity : Net → ℕ → ℕ → ℕ

@@ -52,7 +52,9 @@ fn put_answer(network: &[u8], plan: &[u8], out: &mut [u8]) -> usize
 {
     match check_texts(network, plan) {
         Ok(_) => lines::put(out, 0, b"accepted=1\n"),
-        Err(refusal) => report::put_refusal(out, refusal),
+        Err(refusal) => {
+            report::put_refusal(out, refusal.cause.number(), refusal.place, refusal.second)
+        }
     }
 }
 

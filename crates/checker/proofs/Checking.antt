@@ -1,21 +1,19 @@
 -- What the marks have to do with the checker's outcome.
-use Prim.Native.Nat.{ℕ, zero, suc, ◌≤◌, ◌<◌}
+use Prim.Native.Nat.{ℕ, ◌≤◌, ◌<◌}
 use mathlib.Core.Path.{◌≡◌, refl, sym, ap, ap₂, ◌∙◌}
-use mathlib.Core.Bool.{true}
-use mathlib.Core.List.{List, ◌∷◌, ◌++◌}
+use mathlib.Core.Bool.{true, false}
+use mathlib.Core.List.{List, ◌++◌}
 use mathlib.Core.Option.{Option, none, some}
 use native.Mathlib.Omega.{arith}
 use borrow.Author.Tests.{le-leb, leb-true}
 use lib.Dec.{leb}
-use lib.ListN.{length, drop, take, replicate, length-take}
-use native.Mathlib.Nat.{min-eq_left}
+use lib.ListN.{length, drop}
 use Rattle.model.specs.Outcome.{Outcome, good, refused, is_lag}
 use Rattle.model.specs.Limits.{most_lag}
 use Rattle.model.specs.Listed.{listed}
 use Rattle.model.specs.Net.{Net, Plan}
 use Rattle.model.specs.Scan.{Overload, cause, step}
 use Rattle.model.specs.Rule.{step_count, first_overload, mark}
-use Rattle.model.proofs.Listed.{listed-front}
 use Rattle.model.proofs.Searches.{and-true}
 use Rattle.model.proofs.Choices.{marked-overloads}
 use Rattle.lists.specs.Lists.{network_of, plan_of}
@@ -26,7 +24,7 @@ use Rattle.checker.specs.Check.{judge_pair, verdict, checked, checked_count, mar
 use Rattle.overloads.specs.Inner.{overload_of}
 use Rattle.overloads.specs.declared.steps.Overload as code
 use Rattle.std.specs.declared.option.Option.TheVariants.{Some, None}
-use Rattle.checker.specs.Inner.{marks_at}
+use Rattle.checker.specs.Inner.{marks_of, marks_at}
 
 -- the answer made of the result is the one that the checker's outcome comes to
 pub checked-same : (n : List ℕ) (o : Outcome (Option Overload)) → done_with (checked_count n o) ≡ checked n o
@@ -36,18 +34,9 @@ checked-same n (refused c place second) = refl
 
 -- ---- the marks that are cleared
 
-listed-zeros : (n : ℕ) → listed {A = ℕ} n (λ t. 0) ≡ replicate n 0
-unfolding listed
-listed-zeros zero = refl
-listed-zeros (suc n) = listed-front {A = ℕ} n (λ t. 0) ∙ ap (λ (l : List ℕ). 0 ∷ l) (listed-zeros n)
-
-pub cleared : (w n m : ℕ) (net p marks s : List ℕ) → n ≡ (network_of net).tunnels → n ≤ length marks → s ≡ replicate (length (take n marks)) 0
-    → first_overload w (network_of net) (plan_of p) ≡ none
-    → s ++ drop n marks ≡ marks_after w net p (good (first_overload w (network_of net) (plan_of p))) marks
-cleared w n m net p marks s e h f z =
-    let size : length (take n marks) ≡ n = length-take n marks ∙ min-eq_left h in
-    let all : s ≡ listed {A = ℕ} n (λ t. 0) = f ∙ ap (λ (k : ℕ). replicate k 0) size ∙ sym (listed-zeros n) in
-    rw z (ap (λ (l : List ℕ). l ++ drop n marks) all ∙ ap (λ (k : ℕ). listed {A = ℕ} k (λ t. 0) ++ drop k marks) e)
+pub cleared : (w n : ℕ) (net p marks ys : List ℕ) → n ≡ (network_of net).tunnels → ys ≡ marks_of (λ t. false) n ++ drop n marks → first_overload w (network_of net) (plan_of p) ≡ none
+    → ys ≡ marks_after w net p (good (first_overload w (network_of net) (plan_of p))) marks
+cleared w n net p marks ys e f z = rw z (f ∙ ap (λ (k : ℕ). listed {A = ℕ} k (λ t. 0) ++ drop k marks) e)
 
 -- ---- the overload that is found, as the code has it: its step and its link are there
 

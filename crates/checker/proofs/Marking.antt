@@ -1,19 +1,21 @@
 -- Laws of the list of marks.
-use Prim.Native.Nat.{ℕ, ◌+◌, ◌-◌, ◌*◌, ◌≤◌, ◌<◌, min, max}
+use Prim.Native.Nat.{ℕ, zero, suc, ◌+◌, ◌-◌, ◌*◌, ◌≤◌, ◌<◌, min, max}
 use mathlib.Core.Path.{◌≡◌, refl, sym, ap, ap₂, ◌∙◌}
 use mathlib.Core.Bool.{Bool, true, false, cond, ◌&&◌}
-use mathlib.Core.List.{List}
+use mathlib.Core.List.{List, ◌∷◌, ◌++◌}
 use native.Mathlib.Omega.{arith}
-use native.Mathlib.Nat.{le_trans, add-zero, sub_self}
+use native.Mathlib.Nat.{le_trans, add-zero, sub_self, min-eq_left}
 use native.Mathlib.Numerals.{add-one}
 use lib.Dec.{ltb}
-use lib.ListN.{length, get_or, set, length-set}
+use lib.ListN.{length, take, drop, replicate, get_or, set, length-set, length-take}
 use Rattle.model.specs.Limits.{most_flows, most_steps, most_amount}
+use Rattle.model.specs.Listed.{listed}
 use Rattle.model.specs.Sets.{in_set}
 use Rattle.model.specs.Largest.{largest}
 use Rattle.model.specs.Net.{Net, Plan, row}
 use Rattle.model.specs.Scan.{Bound}
 use Rattle.model.specs.Rule.{by_flow, crosses, across, flow_sum, step_count, reach, mark}
+use Rattle.model.proofs.Listed.{listed-front}
 use Rattle.model.proofs.Searches.{cond-most}
 use Rattle.model.proofs.Gathered.{mark-by-tunnel, mark-by-flow}
 use Rattle.judges.specs.Sums.{Gathered}
@@ -23,7 +25,7 @@ use Rattle.loads.proofs.Vectors.{at_same, at_other, last_or}
 use Rattle.amounts.specs.Rows.{Checkable}
 use Rattle.amounts.proofs.Good.{row_small}
 use Rattle.amounts.proofs.Windows.{window-in, window-reach}
-use Rattle.checker.specs.Inner.{InPlan, Raised, LargestSums}
+use Rattle.checker.specs.Inner.{marks_of, InPlan, Raised, LargestSums}
 
 -- what a tunnel puts on a link, by its set and its amount
 pub across-of : (N : Net) (l t via amount v : ℕ) (x : ℕ → ℕ) → via ≡ N.via t → amount ≡ x t → v ≡ cond (in_set via l) amount 0 → v ≡ across N l x t
@@ -129,3 +131,16 @@ row_in w n p i l k = let h = rows_in w n p i l (min w (plan_sizes p).steps) k re
 -- so many rows after the first are gone through
 pub rows-through : (i a r m : ℕ) → i ≤ a → a ≤ i + r → i + r ≤ a → r ≡ m → a - i ≡ m
 rows-through i a r m h k l e = omega arith
+
+-- ---- the marks that are cleared
+
+listed-zeros : (n : ℕ) → listed {A = ℕ} n (λ t. 0) ≡ replicate n 0
+unfolding listed
+listed-zeros zero = refl
+listed-zeros (suc n) = listed-front {A = ℕ} n (λ t. 0) ∙ ap (λ (l : List ℕ). 0 ∷ l) (listed-zeros n)
+
+pub all-clear : (n : ℕ) (marks s : List ℕ) → n ≤ length marks → s ≡ replicate (length (take n marks)) 0 → s ++ drop n marks ≡ marks_of (λ t. false) n ++ drop n marks
+all-clear n marks s h f =
+    let size : length (take n marks) ≡ n = length-take n marks ∙ min-eq_left h in
+    let all : s ≡ listed {A = ℕ} n (λ t. 0) = f ∙ ap (λ (k : ℕ). replicate k 0) size ∙ sym (listed-zeros n) in
+    ap (λ (l : List ℕ). l ++ drop n marks) all

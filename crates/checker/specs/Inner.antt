@@ -10,6 +10,7 @@ use Rattle.model.specs.Rule.{across, flow_sum, between, step_count, mark}
 use Rattle.model.specs.Listed.{listed}
 use Rattle.lists.specs.Lists.{network_sizes, network_of, plan_sizes, plan_of}
 use Rattle.amounts.specs.Lists.{Lists}
+use Rattle.amounts.specs.Rows.{Checkable}
 use Rattle.lists.specs.Refusals.{refusal}
 use Rattle.lists.specs.declared.refusal.Refusal.{Refusal}
 use Rattle.checker.specs.declared.sums.Missed.{Missed}
@@ -40,6 +41,14 @@ pub record InPlan (w : ℕ) (n p : List ℕ) (i l : ℕ) : Type 0 where
   pub lag : w ≤ most_lag
   pub step : i < step_count w (network_of n) (plan_of p)
   pub link : l < (network_sizes n).links
+
+-- the marks can be made: the window and the link are there, and there is room
+pub record Markable (w : ℕ) (n p : List ℕ) (i l : ℕ) (marks : List ℕ) : Type 0 where
+  pub pair : Checkable n p
+  pub lag : w ≤ most_lag
+  pub step : i < step_count w (network_of n) (plan_of p)
+  pub link : l < (network_sizes n).links
+  pub room : (network_sizes n).tunnels ≤ length marks
 
 -- each sum is the larger of two
 pub record Raised (sums s s' : List ℕ) : Type 0 where

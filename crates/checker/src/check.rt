@@ -7,7 +7,7 @@ ghost use Rattle.lists.specs.Lists.{network_sizes, network_of, plan_of};
 ghost use Rattle.checker.specs.Check.{verdict, checked_count, marks_after};
 
 use crate::marks::Window;
-use crate::pair;
+use crate::{marks, pair};
 use amounts::pair::Pair;
 use lists::Network;
 use lists::refusal::{Cause, Refusal};
@@ -21,7 +21,7 @@ fn check_steps(lag: u64, pair: &Pair<'_>, marks: &mut [u8]) -> Result<usize, Ref
 {
     let n = pair.network().tunnels();
     let Some(overload) = steps::first_overload(lag, pair) else {
-        marks[..n].fill(0);
+        marks::clear(n, marks);
         return Ok(n);
     };
     let window = Window {

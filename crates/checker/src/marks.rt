@@ -7,10 +7,11 @@ ghost use Rattle.model.specs.Rule.{across, by_flow};
 ghost use Rattle.model.specs.Sets.{in_set};
 ghost use Rattle.judges.specs.Sums.{Gathered};
 ghost use Rattle.lists.specs.Lists.{network_sizes, network_of, plan_sizes, plan_of};
-ghost use Rattle.checker.specs.Inner.{marks_at, InPlan, Raised, LargestSums};
+ghost use Rattle.checker.specs.Inner.{marks_of, marks_at, InPlan, Markable, Raised, LargestSums};
 
 use amounts::pair::Pair;
 use lists::Network;
+use lists::judged::{NetworkList, PlanList};
 
 const FLOWS: usize = Network::FLOWS as usize;
 
@@ -136,4 +137,27 @@ impl<'a, 'b> Window<'a, 'b> {
             self.mark_tunnels(marks)
         }
     }
+}
+
+// The same for lists that are judged good together, on link l in the window from row i.
+pub fn mark(lag: u64, network: &[u64], plan: &[u64], i: usize, l: usize, marks: &mut [u8])
+    requires { Markable lag network.now plan.now i l marks.old }
+    ensures { marks.new ≡ marks_at lag (network_of network.now) (plan_of plan.now) i l (network_sizes network.now).tunnels ++ drop (network_sizes network.now).tunnels marks.old }
+{
+    let pair = Pair::new(NetworkList::new(network), PlanList::new(plan));
+    let window = Window {
+        pair: &pair,
+        lag,
+        row: i,
+        link: l,
+    };
+    window.mark(marks)
+}
+
+// Clears the marks of n tunnels.
+pub fn clear(n: usize, marks: &mut [u8])
+    requires { n ≤ length marks.old }
+    ensures { marks.new ≡ marks_of (λ t. false) n ++ drop n marks.old }
+{
+    marks[..n].fill(0)
 }

@@ -27,7 +27,7 @@ unfolding log
 log-length s [] = refl
 log-length s (c ∷ calls) = ap suc (log-length (next c s) calls)
 
-answered-length : (calls : List Call) (i : ℕ) → i ≤ length calls → length (answered calls i) ≡ i
+pub answered-length : (calls : List Call) (i : ℕ) → i ≤ length calls → length (answered calls i) ≡ i
 answered-length calls i h =
     length-map (log empty (first_calls calls i)) told ∙ log-length empty (first_calls calls i) ∙ length-map (take i calls) call_of ∙ omega (arith, length-take i calls, h)
 

@@ -4,6 +4,7 @@ ghost use Rattle.desks.specs.State.{empty};
 ghost use Rattle.desks.specs.Run.{event, next, log};
 ghost use Rattle.desks.specs.Seen.{seen};
 ghost use Rattle.desk_calls.specs.Calls.{call_of, told, room_for};
+ghost use Rattle.desk_calls.specs.Numbers.{answers_of, in_numbers};
 
 use desks::{Accepted, Desks, Job};
 use lists::refusal::Refusal;
@@ -35,7 +36,8 @@ impl Call {
 
 // Makes the calls, and gives the answers: as many as there is room for.
 pub fn run(calls: &[Call], answers: &mut [Answer])
-    ensures { answers.new ≡ map told (log empty (map call_of (take (room_for calls.now answers.old) calls.now))) ++ drop (room_for calls.now answers.old) answers.old }
+    ensures value { answers.new ≡ map told (log empty (map call_of (take (room_for calls.now answers.old) calls.now))) ++ drop (room_for calls.now answers.old) answers.old }
+    ensures numbers { in_numbers (take (room_for calls.now answers.old) answers.new) ≡ answers_of (log empty (map call_of (take (room_for calls.now answers.old) calls.now))) }
 {
     let mut desks = Desks::none_waiting();
     // An index, since each call's answer has the same place in `answers`.

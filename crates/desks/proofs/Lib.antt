@@ -5,3 +5,4 @@ pub mod Exact
 pub mod Counters
 pub mod Main
 pub mod Queues
+pub mod FourNumbers

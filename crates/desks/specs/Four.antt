@@ -4,6 +4,7 @@ use Rattle.lists.specs.declared.refusal.Refusal.{Refusal}
 use Rattle.model.specs.Outcome.{number}
 use Rattle.desks.specs.declared.Accepted.{Accepted}
 use Rattle.desks.specs.declared.Job.{Job}
+use Rattle.desks.specs.declared.numbers.Refused.{Refused}
 
 -- kind 2 for a refusal, with its number, place and second
 abbrev pub four_of_refusal : Refusal → List ℕ
@@ -18,3 +19,15 @@ four_of_acceptance (Err e) = four_of_refusal e
 abbrev pub four_of_job : Result Job Refusal → List ℕ
 four_of_job (Ok j) = 0 ∷ j.desk ∷ j.number ∷ j.tag ∷ []
 four_of_job (Err e) = four_of_refusal e
+
+-- the same of refusals by their numbers, whichever these are
+abbrev pub numbers_of : Refusal → Refused
+numbers_of e = record { number = number e.cause; place = e.place; second = e.second }
+
+abbrev pub four_of_submission : Result Accepted Refused → List ℕ
+four_of_submission (Ok a) = 0 ∷ a.number ∷ a.before ∷ 0 ∷ []
+four_of_submission (Err r) = 2 ∷ r.number ∷ r.place ∷ r.second ∷ []
+
+abbrev pub four_of_hand_out : Result Job Refused → List ℕ
+four_of_hand_out (Ok j) = 0 ∷ j.desk ∷ j.number ∷ j.tag ∷ []
+four_of_hand_out (Err r) = 2 ∷ r.number ∷ r.place ∷ r.second ∷ []

@@ -1,5 +1,6 @@
 pub mod Bytes
 pub mod Keys
+pub mod Numbered
 pub mod Form
 pub mod Line
 pub mod Read

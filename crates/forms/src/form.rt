@@ -4,6 +4,7 @@ ghost use Rattle.model.specs.Limits.{most_switches, most_tunnels};
 ghost use Rattle.lists.specs.Lists.{at, network_sizes, link_at};
 ghost use Rattle.lists.specs.Good.{Limited};
 ghost use Rattle.forms.specs.Keys.{prefix_of};
+ghost use Rattle.forms.specs.Numbered.{part_of};
 ghost use Rattle.forms.specs.Form.{line, field_of, network_body, rules_body, admits_of, is_hex, second_of, has_remarks, Sound, count_lines, unit_lines, network_lines, link_lines, flow_lines, tunnel_lines, plan_lines, rules_lines, rule_lines};
 
 use lists::{Network, PlanSizes, Position, RuleTables};
@@ -133,6 +134,40 @@ impl Key {
         ensures { result ≡ line self range }
     {
         Some(Line { key: self, range })
+    }
+}
+
+// The text of the key with a number, by the order of the keys; the empty text for a number past the last.
+pub fn key_part(key: usize) -> &'static [u8]
+    ensures { result.now ≡ part_of key }
+{
+    match key {
+        0 => Key::Net.text(),
+        1 => Key::Scratch.text(),
+        2 => Key::Overrun.text(),
+        3 => Key::Links.text(),
+        4 => Key::Flows.text(),
+        5 => Key::Tunnels.text(),
+        6 => Key::Cap.text(),
+        7 => Key::Class.text(),
+        8 => Key::Rate.text(),
+        9 => Key::Flow.text(),
+        10 => Key::Via.text(),
+        11 => Key::Old.text(),
+        12 => Key::New.text(),
+        13 => Key::Plan.text(),
+        14 => Key::Parts.text(),
+        15 => Key::Steps.text(),
+        16 => Key::At.text(),
+        17 => Key::Rules.text(),
+        18 => Key::Slack.text(),
+        19 => Key::Switches.text(),
+        20 => Key::Room.text(),
+        21 => Key::Kind.text(),
+        22 => Key::Next.text(),
+        23 => Key::Unit.text(),
+        24 => Key::Held.text(),
+        _ => b"",
     }
 }
 

@@ -12,19 +12,20 @@ use lib.Seq.{get_or-set_same, get_or-set_other}
 use borrow.Author.Tests.{eq-eqb, ne_eqb}
 use Rattle.model.specs.Limits.{most_flows, most_tunnels, most_amount}
 use Rattle.model.specs.Sum.{sum_over}
-use Rattle.model.specs.Search.{only_if, first}
+use Rattle.model.specs.Search.{only_if}
 use Rattle.model.specs.Net.{Net}
 use Rattle.model.specs.Outcome.{Place, unless, good}
 use Rattle.model.specs.declared.Cause.TheVariants as causes
 use Rattle.model.specs.Rule.{flow_sum, missed_by, missed_rate}
 use Rattle.model.proofs.Sums.{sum-zero, sum-take, sum-skip, sum-line, sum_bound}
-use Rattle.model.proofs.Searches.{first-at}
 use Rattle.lists.specs.Lists.{network_of}
 use Rattle.lists.specs.Refusals.{judged}
 use Rattle.model.specs.declared.Cause.TheVariants.{MissedRate}
 use Rattle.std.specs.declared.result.Result.TheVariants.{Ok, Err}
+use Rattle.std.specs.declared.option.Option.TheVariants.{Some, None}
 use Rattle.forms.specs.Read.{add_up}
-use Rattle.judges.specs.Sums.{Gathered, pair_of}
+use Rattle.judges.specs.Sums.{Gathered, pair_of, missed_of}
+use Rattle.judges.specs.declared.sums.MissedSum.{MissedSum}
 use Rattle.forms.specs.declared.form.Form.TheVariants.{Network}
 
 zeros : (n f : ℕ) → ◌≡◌ {A = ℕ} (get_or (replicate n 0) f 0) 0
@@ -117,11 +118,22 @@ module _ (N : Net) (f s r n : ℕ) (e : s ≡ flow_sum N N.old f + flow_sum N N.
       go (yes q) = rw (told.1 (part ∙ q)) (miss-new N f (q ∙ er) (λ j. k (e ∙ ap₂ (λ (a b : ℕ). a + b * 2 ^ 32) q (j ∙ sym en))))
       go (no q) = rw (told.0 (λ j. q (sym part ∙ j))) (miss-old N f (λ j. q (j ∙ sym er)))
 
+-- ---- the place as the code has it
+
+pub missed-some : (o : Option Place) (m : MissedSum) → missed_of o ≡ Some m → o ≡ some (record { place = m.flow; second = m.second })
+missed-some none m e = let z : ◌≡◌ {A = ℕ} 0 1 = cc in absurd (omega arith)
+missed-some (some p) m e =
+    let r : record { flow = p.place; second = p.second } ≡ m = cc in
+    ap (λ (k : MissedSum). some (record { place = k.flow; second = k.second })) r
+
+pub miss_none : (o : Option Place) → missed_of o ≡ None → o ≡ none
+miss_none none e = refl
+miss_none (some p) e = let z : ◌≡◌ {A = ℕ} 0 1 = cc in absurd (omega arith)
+
 module _ (l : List ℕ) where
-  pub missed-at : (f : ℕ) (p : Place) → first f (missed_by (network_of l)) ≡ none → missed_by (network_of l) f ≡ some p → f < (network_of l).flows
-      → judged (add_up Network l) ≡ Err (record { cause = MissedRate; place = p.place; second = p.second })
-  unfolding add_up missed_rate
-  missed-at f p e m h = ap (λ (o : Option Place). judged (unless causes.MissedRate o (good l))) (first-at (missed_by (network_of l)) f (network_of l).flows p e m h)
+  pub missed-at : (p : Place) → missed_rate (network_of l) ≡ some p → judged (add_up Network l) ≡ Err (record { cause = MissedRate; place = p.place; second = p.second })
+  unfolding add_up
+  missed-at p e = ap (λ (o : Option Place). judged (unless causes.MissedRate o (good l))) e
 
   pub missed-none : missed_rate (network_of l) ≡ none → judged (add_up Network l) ≡ Ok l
   unfolding add_up

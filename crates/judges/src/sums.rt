@@ -1,11 +1,12 @@
 // The sums of a network: whether each flow's old amounts add up to its rate, and its new ones to its next.
 ghost use Rattle.std.specs.Prelude.{◌≡◌, ◌%◌, ◌^◌, replicate};
 ghost use Rattle.model.specs.Limits.{most_flows};
-ghost use Rattle.lists.specs.Lists.{network_sizes, network_of};
+ghost use Rattle.model.specs.Rule.{missed_rate};
+ghost use Rattle.lists.specs.Lists.{next_in, network_sizes, network_of};
 ghost use Rattle.lists.specs.Good.{NetworkRanges};
 ghost use Rattle.lists.specs.Refusals.{judged};
 ghost use Rattle.forms.specs.Read.{add_up};
-ghost use Rattle.judges.specs.Sums.{Gathered, pair_of};
+ghost use Rattle.judges.specs.Sums.{Gathered, pair_of, missed_of};
 
 use forms::form::Form;
 use lists::Network;
@@ -39,28 +40,50 @@ fn missed(sum: u64, rate: u64) -> u64
     if sum % PAIR != rate { 0 } else { 1 }
 }
 
-// Judges the sums of a network's list whose numbers are judged already: refuses the first that misses its flow's rate or next, lowest
-// flow, old before new. The sizes are handed over, and the edition is looked at once, here: so the function stays small enough for the
-// compiler to put it into its callers.
-pub fn add_up<'a>(list: &'a [u64], sizes: Network) -> Result<NetworkList<'a>, Refusal>
-    requires { NetworkRanges list.now × (sizes ≡ network_sizes list.now) }
-    ensures { result ≡ judged (add_up Form.Network list.now) }
+// The first flow of which a sum is missed, and which of the two that is.
+#[derive(Clone, Copy)]
+struct MissedSum {
+    flow: usize,
+    second: u64,
+}
+
+// The first sum that misses its flow's rate or next: lowest flow, old before new. `last` is which number of a flow is its next. The
+// refusal is put together of it after the loop: built inside, it makes the function too large for the compiler to put it into its callers.
+fn first_missed(list: &[u64], sizes: Network, last: usize, sums: &[u64]) -> Option<MissedSum>
+    requires network_ranges { NetworkRanges list.now × (sizes ≡ network_sizes list.now) × (last ≡ next_in sizes.edition) }
+    requires gathered { Gathered (network_of list.now) (pair_of (network_of list.now)) (network_of list.now).tunnels sums.now }
+    ensures { result ≡ missed_of (missed_rate (network_of list.now)) }
 {
-    let mut sums = [0u64; FLOWS];
-    gather(list, sizes, &mut sums);
-    let last = sizes.next();
     for f in 0..sizes.flows {
         let at = sizes.flow_at(f);
         let rate = list[at + Network::RATE];
         let next = list[at + last];
         let sum = sums[f];
         if sum != rate + next * PAIR {
-            return Err(Refusal {
-                cause: Cause::MissedRate,
-                place: f as u64,
+            return Some(MissedSum {
+                flow: f,
                 second: missed(sum, rate),
             });
         }
     }
-    Ok(NetworkList::new(list))
+    None
+}
+
+// Judges the sums of a network's list whose numbers are judged already. The sizes are handed over, and handed on to the list that is
+// judged good, and the edition is looked at once, here: so the function stays small enough for the compiler to put it into its callers.
+pub fn add_up<'a>(list: &'a [u64], sizes: Network) -> Result<NetworkList<'a>, Refusal>
+    requires { NetworkRanges list.now × (sizes ≡ network_sizes list.now) }
+    ensures { result ≡ judged (add_up Form.Network list.now) }
+{
+    let mut sums = [0u64; FLOWS];
+    let last = sizes.next();
+    gather(list, sizes, &mut sums);
+    match first_missed(list, sizes, last, &sums) {
+        None => Ok(NetworkList::with_sizes(list, sizes)),
+        Some(first) => Err(Refusal {
+            cause: Cause::MissedRate,
+            place: first.flow as u64,
+            second: first.second,
+        }),
+    }
 }

@@ -38,6 +38,15 @@ impl<'a> NetworkList<'a> {
         }
     }
 
+    // The same where the sizes are at hand: they are not taken out of the list again.
+    pub fn with_sizes(list: &'a [u64], sizes: Network) -> NetworkList<'a>
+        requires good { GoodNetwork list.now }
+        requires sizes { sizes ≡ network_sizes list.now }
+        ensures { result ≡ list.now }
+    {
+        NetworkList { list, sizes }
+    }
+
     // Its numbers.
     pub fn numbers(&self) -> &'a [u64]
         ensures numbers { result.now ≡ self.now }

@@ -124,9 +124,9 @@ gathered-past via c x m (suc n) l h e =
 pub record Summable (links : ℕ) (via : ℕ → ℕ) (amounts : List ℕ) (m : ℕ) : Type 0 where
   pub few : (links ≤ most_links) × (m ≤ most_tunnels)
   pub sets : (t : ℕ) → t < m → via t < 2 ^ links
-  pub table : AmountTable amounts
+  pub table : AmountTable most_tunnels amounts
 
-pub summable : (l : List ℕ) (m : ℕ) → GoodNetwork l → m ≤ (network_of l).tunnels → (amounts : List ℕ) → AmountTable amounts → Summable (network_of l).links (network_of l).via amounts m
+pub summable : (l : List ℕ) (m : ℕ) → GoodNetwork l → m ≤ (network_of l).tunnels → (amounts : List ℕ) → AmountTable most_tunnels amounts → Summable (network_of l).links (network_of l).via amounts m
 unfolding network_of
 summable l m g h amounts a = record {
   few = (omega (arith, g.ranges.sized.counts), omega (arith, g.ranges.sized.counts));

@@ -19,7 +19,7 @@ use Rattle.loads.specs.Tables.{number_at, load_at, amounts_size, loads_size, par
 use Rattle.loads.proofs.Vectors.{added-part}
 
 -- at first no tunnel has an amount
-pub no-amounts : AmountTable (replicate amounts_size 0)
+pub no-amounts : AmountTable most_tunnels (replicate amounts_size 0)
 no-amounts = record {
   size = length-replicate {A = ℕ} amounts_size 0;
   within = λ t k ht hk. rw (get_or-replicate {A = ℕ} amounts_size (number_at t k) 0 0 (omega arith)) (omega arith);
@@ -103,8 +103,8 @@ module _ (links : ℕ) (via class : ℕ → ℕ) (amounts : List ℕ) where
         ∙ sym (gathered-more via (in_part class q) (λ t. at amounts (number_at t k)) n l);
   }
 
-  pub loads-within : (n most : ℕ) (s : List ℕ) → n ≤ most_tunnels → n ≤ most → AmountTable amounts → Loads links via class n amounts s → LoadsWithin links most s
-  loads-within n most s hm h small g = record {
+  pub loads-within : (n m most : ℕ) (s : List ℕ) → n ≤ m → n ≤ most → AmountTable m amounts → Loads links via class n amounts s → LoadsWithin links most s
+  loads-within n m most s hm h small g = record {
     size = g.size;
     most = λ q l k hq hl hk.
         let b = gathered-most via (in_part class q) (λ t. at amounts (number_at t k)) n l (most_amount * most_steps) (λ t ht. small.within t k (omega arith) hk) in
@@ -112,12 +112,12 @@ module _ (links : ℕ) (via class : ℕ → ℕ) (amounts : List ℕ) where
   }
 
   -- a tunnel's amounts can be added
-  pub loads-room : (n t v part : ℕ) (s : List ℕ) → v ≡ via t → t < n → n ≤ most_tunnels → links ≤ most_links → part < 2 → v < 2 ^ links → AmountTable amounts → Loads links via class t amounts s
+  pub loads-room : (n t v part : ℕ) (s : List ℕ) → v ≡ via t → t < n → n ≤ most_tunnels → links ≤ most_links → part < 2 → v < 2 ^ links → AmountTable n amounts → Loads links via class t amounts s
       → AddableOn links amounts t v s 2 part
   loads-room n t v part s e ht hn few hp sets small g = record {
     few = (few, hp, omega arith);
     links_of = sets;
     source = record { few = omega arith; room = omega (arith, small.size) };
     target = record { few = omega arith; room = omega (arith, g.size) };
-    fits = λ l k hl hk. omega (arith, (loads-within t n s (omega arith) (omega arith) small g).most part l k hp hl hk, small.within t k (omega arith) hk);
+    fits = λ l k hl hk. omega (arith, (loads-within t n n s (omega arith) (omega arith) small g).most part l k hp hl hk, small.within t k ht hk);
   }

@@ -22,10 +22,14 @@ pub record Vectors (n : ℕ) (s : List ℕ) : Type 0 where
 abbrev pub amounts_size : ℕ
 amounts_size = block_rows * most_tunnels
 
--- no amount is over the largest, in as many parts as there can be
-pub record AmountTable (amounts : List ℕ) : Type 0 where
+-- no amount of the first n tunnels is over the largest, in as many parts as there can be
+pub record AmountTable (n : ℕ) (amounts : List ℕ) : Type 0 where
   pub size : length amounts ≡ amounts_size
-  pub within : (t k : ℕ) → t < most_tunnels → k < block_rows → at amounts (number_at t k) ≤ most_amount * most_steps
+  pub within : (t k : ℕ) → t < n → k < block_rows → at amounts (number_at t k) ≤ most_amount * most_steps
+
+-- the sets of the first n tunnels have none but the first so many links
+pub record SetsWithin (links : ℕ) (vias : List ℕ) (n : ℕ) : Type 0 where
+  pub each : (t : ℕ) → t < n → at vias t < 2 ^ links
 
 -- ---- loads: two vectors for each link, those of protected tunnels, and of the others
 

@@ -3,24 +3,20 @@ ghost use Rattle.std.specs.Prelude.{◌≡◌, ◌+◌, ◌*◌, ◌≤◌, ◌<
 ghost use Rattle.model.specs.Limits.{most_tunnels};
 ghost use Rattle.loads.specs.Tables.{block_rows, number_at, AmountTable};
 
-use crate::gather::ROWS;
-use lists::Network;
-
-// The numbers of the table.
-const NUMBERS: usize = ROWS * Network::TUNNELS as usize;
+use crate::gather::{AMOUNTS, ROWS};
 
 // No amount is over the largest, in as many parts as there can be.
 #[derive(Drop)]
 pub struct Amounts {
-    pub numbers: [u64; NUMBERS],
-    ghost table: { AmountTable numbers },
+    pub numbers: [u64; AMOUNTS],
+    ghost table: { AmountTable most_tunnels numbers },
 }
 
 impl Amounts {
     // At first all are 0.
     pub fn new() -> Amounts {
         Amounts {
-            numbers: [0; NUMBERS],
+            numbers: [0; AMOUNTS],
         }
     }
 }

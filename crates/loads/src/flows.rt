@@ -61,7 +61,7 @@ fn chain_sums(
     let mut from = last;
     while let Some(t) = from {
         let via = network.via(t);
-        gather::add_tunnel(links, amounts, t, via, sums, 1, 0);
+        gather::add_tunnel(links, &amounts.numbers, t, via, sums, 1, 0);
         set = set | via;
         from = prior[t];
     }

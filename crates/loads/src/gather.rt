@@ -1,11 +1,11 @@
 // One pass over the tunnels gathers the loads of all links for a block of steps: a tunnel's amounts in these steps, side by
 // side, are a vector, and so are a link's loads. Those of protected tunnels and those of the others are kept apart.
 ghost use Rattle.std.specs.Prelude.{◌≡◌, ◌+◌, ◌*◌, ◌≤◌, ◌<◌, length};
-ghost use Rattle.model.specs.Limits.{most_links};
+ghost use Rattle.model.specs.Limits.{most_links, most_tunnels};
 ghost use Rattle.model.specs.Sets.{in_set};
 ghost use Rattle.lists.specs.Lists.{at, network_of};
 ghost use Rattle.loads.specs.Parts.{number_of};
-ghost use Rattle.loads.specs.Tables.{block_rows, number_at, load_at, part_of, class_of, Addable, VectorAdded, AddableOn, AddedOn, Cleared, Loads};
+ghost use Rattle.loads.specs.Tables.{block_rows, number_at, load_at, loads_size, part_of, class_of, AmountTable, SetsWithin, Addable, VectorAdded, AddableOn, AddedOn, Cleared, Loads};
 
 use crate::amounts::Amounts;
 use lists::Network;
@@ -14,7 +14,9 @@ use lists::judged::NetworkList;
 // The numbers of a vector: the rows of a block.
 pub const ROWS: usize = 11;
 
-// The numbers of a table of loads, which has two vectors for each link.
+// The numbers of a table of amounts, which has a vector for each tunnel, and of a table of loads, which has two for each link.
+pub const AMOUNTS: usize = ROWS * Network::TUNNELS as usize;
+
 pub const LOADS: usize = ROWS * 2 * Network::LINKS as usize;
 
 // Whose load a vector has: that of protected tunnels, or that of the others.
@@ -68,20 +70,20 @@ pub(crate) fn add_vector(from: &[u64], i: usize, to: &mut [u64], j: usize)
 // link of the set's lowest bit, which is then cleared, until none is left.
 pub(crate) fn add_tunnel(
     links: usize,
-    amounts: &Amounts,
+    amounts: &[u64],
     t: usize,
     via: u64,
     to: &mut [u64],
     times: usize,
     on: usize,
 )
-    requires { AddableOn links amounts.now.numbers t via to.old times on }
-    ensures { AddedOn links (in_set via) (λ _ k. at amounts.now.numbers (number_at t k)) times on to.old to.new }
+    requires { AddableOn links amounts.now t via to.old times on }
+    ensures { AddedOn links (in_set via) (λ _ k. at amounts.now (number_at t k)) times on to.old to.new }
 {
     let mut set = via;
     while set != 0 {
         let link = u64::trailing_zeros(set) as usize;
-        add_vector(&amounts.numbers, t, to, times * link + on);
+        add_vector(amounts, t, to, times * link + on);
         set = set & (set - 1);
     }
 }
@@ -95,14 +97,41 @@ pub(crate) fn clear(vectors: usize, table: &mut [u64])
     table[..end].fill(0);
 }
 
-// The loads of the links, whatever is in the table before: each tunnel adds its amounts on each link of its set.
-pub fn gather(network: &NetworkList<'_>, amounts: &Amounts, loads: &mut [u64; LOADS])
+// The loads of the links, whatever is in the table before: each of n tunnels adds its amounts on each link of its set.
+pub fn gather(
+    links: usize,
+    vias: &[u64],
+    classes: &[u64],
+    n: usize,
+    amounts: &[u64],
+    loads: &mut [u64],
+)
+    requires { (links ≤ most_links) × (n ≤ most_tunnels) × (n ≤ length vias.now) × (n ≤ length classes.now) × SetsWithin links vias.now n × AmountTable n amounts.now × (length loads.old ≡ loads_size) }
+    ensures { Loads links (at vias.now) (at classes.now) n amounts.now loads.new }
+{
+    clear(2 * links, loads);
+    for t in 0..n {
+        let part = Part::of(classes[t]);
+        add_tunnel(links, amounts, t, vias[t], loads, 2, part.number());
+    }
+}
+
+// Those of a network's own tunnels, by their sets and the classes of their flows.
+pub fn gather_network(network: &NetworkList<'_>, amounts: &Amounts, loads: &mut [u64; LOADS])
     ensures { Loads (network_of network.now).links (network_of network.now).via (class_of (network_of network.now)) (network_of network.now).tunnels amounts.now.numbers loads.new }
 {
     let links = network.links();
     clear(2 * links, loads);
     for t in 0..network.tunnels() {
         let part = Part::of(network.class(network.flow(t)));
-        add_tunnel(links, amounts, t, network.via(t), loads, 2, part.number());
+        add_tunnel(
+            links,
+            &amounts.numbers,
+            t,
+            network.via(t),
+            loads,
+            2,
+            part.number(),
+        );
     }
 }

@@ -33,7 +33,9 @@ fn put_answer(text: &[u8], out: &mut [u8]) -> usize
 {
     match plan_text(text, out) {
         Ok(length) => length,
-        Err(refusal) => report::put_refusal(out, refusal),
+        Err(refusal) => {
+            report::put_refusal(out, refusal.cause.number(), refusal.place, refusal.second)
+        }
     }
 }
 

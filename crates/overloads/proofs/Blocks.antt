@@ -69,7 +69,7 @@ part-0 true = refl
 part-0 false = refl
 
 -- widened amounts are amounts
-pub widened-table : (n times : ℕ) (amounts wide : List ℕ) → AmountTable amounts → WidenedOn times (λ j. ltb j n) amounts wide → AmountTable wide
+pub widened-table : (n times : ℕ) (amounts wide : List ℕ) → AmountTable most_tunnels amounts → WidenedOn times (λ j. ltb j n) amounts wide → AmountTable most_tunnels wide
 widened-table n times amounts wide a v = record { size = v.size ∙ a.size; within = λ t k ht hk. v.most t _ (λ i hi. a.within t i ht hi) k hk }
 
 module _ (w : ℕ) (l p : List ℕ) (c : Checkable l p) (i : ℕ) where
@@ -79,7 +79,7 @@ module _ (w : ℕ) (l p : List ℕ) (c : Checkable l p) (i : ℕ) where
   abbrev P : Plan
   P = plan_of p
 
-  module _ (one : by_flow N ≡ false) (some : 1 ≤ w) (amounts wide loads : List ℕ) (table : AmountTable wide)
+  module _ (one : by_flow N ≡ false) (some : 1 ≤ w) (amounts wide loads : List ℕ) (table : AmountTable most_tunnels wide)
       (a : RowAmounts (larger_row N P) (network_sizes l).tunnels (plan_sizes p).steps i block_rows amounts)
       (v : WidenedOn (times_widened w N P) (λ j. ltb j (network_sizes l).tunnels) amounts wide)
       (g : Loads N.links N.via (class_of N) N.tunnels wide loads) where
@@ -113,7 +113,7 @@ module _ (w : ℕ) (l p : List ℕ) (c : Checkable l p) (i : ℕ) where
     gathers =
         let few = c.network.ranges.sized.counts in
         record {
-          within = loads-within _ _ _ _ (network_sizes l).tunnels (most_flows * most_tunnels) _ (omega (arith, few)) (omega (arith, few)) table g;
+          within = loads-within _ _ _ _ (network_sizes l).tunnels most_tunnels (most_flows * most_tunnels) _ (omega (arith, few)) (omega (arith, few)) table g;
           protected = λ m k hm hk hs.
               let low = block_in w N P k hk in
               g.each 0 m k (omega arith) hm (omega (arith, low))

@@ -55,7 +55,7 @@ impl<'a, 'b> Search<'a, 'b> {
             network.tunnels(),
             &mut amounts.numbers,
         );
-        gather::gather(network, amounts, loads);
+        gather::gather_network(network, amounts, loads);
     }
 
     // And where the switches change a whole flow.

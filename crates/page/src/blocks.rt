@@ -16,7 +16,12 @@ fn capacity(pair: &Pair<'_>, l: usize) -> u64
     ensures { result ≡ capacity (network_of pair.now.network) (plan_of pair.now.plan).parts l }
 {
     let network = pair.network();
-    pair.plan().parts() * network.cap(l)
+    let sizes = network.sizes();
+    let list = network.numbers();
+    let cap = list[sizes.link_at(l)];
+    let left = cap - sizes.held(list, l);
+    let parts = pair.plan().parts();
+    parts * left
 }
 
 // Puts the line of link l.
@@ -59,13 +64,9 @@ fn put_tunnel(out: &mut [u8], from: usize, pair: &Pair<'_>, t: usize) -> usize
     let network = pair.network();
     let flow = network.flow(t) as u64;
     let crossed = hops(network, t);
-    let numbers = [
-        t as u64,
-        flow,
-        crossed,
-        network.old(t),
-        network.new_amount(t),
-    ];
+    let old = network.old(t);
+    let new = network.new_amount(t);
+    let numbers = [t as u64, flow, crossed, old, new];
     fields::put_line(out, from, numbers)
 }
 

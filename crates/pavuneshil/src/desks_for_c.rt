@@ -4,6 +4,7 @@ ghost use Rattle.desks.specs.State.{empty, submitted, handed_out};
 ghost use Rattle.desks.specs.Seen.{seen, Untouched, told_acceptance, told_job};
 ghost use Rattle.desks.specs.Four.{four_of_acceptance, four_of_job};
 
+use desks::numbers::Refused;
 use desks::{Desks, numbers};
 
 // The state in the parts that are lent.
@@ -96,7 +97,7 @@ pub extern "C" fn pavuneshil_submit(
     let mut desks = lent(numbers, tags, oldest, waiting, counters, *last);
     let submission = desks.submit(desk, tag);
     leave(desks, numbers, tags, oldest, waiting, counters, last);
-    *answer = numbers::of_submission(submission);
+    *answer = numbers::of_submission(submission.map_err(Refused::from));
 }
 
 // The next job in turn.
@@ -117,5 +118,5 @@ pub extern "C" fn pavuneshil_hand_out(
     let mut desks = lent(numbers, tags, oldest, waiting, counters, *last);
     let job = desks.hand_out();
     leave(desks, numbers, tags, oldest, waiting, counters, last);
-    *answer = numbers::of_hand_out(job);
+    *answer = numbers::of_hand_out(job.map_err(Refused::from));
 }

@@ -4,10 +4,11 @@ use mathlib.Core.Path.{◌≡◌, refl, sym, ap, ap₂, ◌∙◌}
 use mathlib.Core.Logic.{⊎_elim}
 use mathlib.Core.List.{List, [], ◌∷◌, ◌++◌, flatten, append_assoc, append-nil}
 use native.Mathlib.Omega.{arith}
-use native.Mathlib.Nat.{add_assoc, mul-le-mul_right, eq-or-lt_of_le, le_of_suc-le-suc}
+use native.Mathlib.Nat.{add_assoc, mul-le-mul, mul-le-mul_right, eq-or-lt_of_le, le_of_suc-le-suc}
 use native.Mathlib.Numerals.{add-one}
 use lib.ListN.{length, get_or, set, take, drop, length-append, length-drop, length-set, get_or-append}
 use lib.Seq.{get_or-append-add, drop-length, take_at, drop_at, drop-drop, drop-set-lt}
+use Rattle.model.specs.Limits.{most_steps, most_tunnels}
 use Rattle.model.specs.Net.{Net}
 use Rattle.model.specs.Even.{even_row}
 use Rattle.model.proofs.Rows.{even-at}
@@ -131,6 +132,13 @@ module _ (N : Net) (q : ℕ) (s : List ℕ) where
   written_all n r e h =
       e ∙ ap (λ (k : ℕ). ((1 ∷ q ∷ q ∷ N.tunnels ∷ []) ++ even_rows N q k) ++ drop (4 + k * N.tunnels) s) h
       ∙ ap₂ (λ (l : List ℕ) (k : ℕ). l ++ drop k s) (sym (list-rows N q)) (sym (list_length N q))
+
+-- row a + 1 stands so many places on from row a, and none of them is far
+pub next-place : (N : Net) (a : ℕ) → 1 ≤ a → 4 + (a + 1 - 1) * N.tunnels ≡ 4 + (a - 1) * N.tunnels + N.tunnels
+next-place N a one = let e : a + 1 - 1 ≡ suc (a - 1) = omega arith in rw e (omega arith)
+
+pub place-low : (N : Net) (q a i : ℕ) → a < q → q ≤ most_steps → N.tunnels ≤ most_tunnels → i ≡ 4 + (a - 1) * N.tunnels → i + N.tunnels ≤ 4 + most_steps * most_tunnels + most_tunnels
+place-low N q a i h k t e = let j : a - 1 ≤ most_steps = omega arith in omega (arith, e, t, mul-le-mul j t)
 
 -- row a, from place i on, ends within an output that has room
 pub row-inside : (N : Net) (q a i m room : ℕ) → a < q → i ≡ 4 + (a - 1) * m → m ≡ N.tunnels → length (even_list N q) ≤ room → 1 ≤ a → i + m ≤ room

@@ -1,3 +1,4 @@
+pub mod Left
 pub mod Figures
 pub mod MoreSteps
 pub mod Searching

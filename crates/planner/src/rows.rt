@@ -44,8 +44,9 @@ pub fn write_plan(network: &NetworkList<'_>, q: u64, out: &mut [u64])
     out[1] = q;
     out[2] = q;
     out[3] = tunnels as u64;
+    let mut at = sizes.row_at(1);
     for a in 1..q {
-        let at = sizes.row_at(a as usize);
         write_row(network, q, a, &mut out[at..at + tunnels]);
+        at += tunnels;
     }
 }

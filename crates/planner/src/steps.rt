@@ -2,7 +2,7 @@
 // amounts, the new ones and the larger of the two, and m rows after the first in each window, the worst load of a link in the window from row i of q steps is
 // (q - i - m) * O + i * N + m * M. It goes up or down with i, so its largest stands in the first window or in the last.
 ghost use Rattle.std.specs.Prelude.{◌≡◌, ◌+◌, ◌*◌, ◌≤◌, ◌<◌, ◌^◌, Err};
-ghost use Rattle.model.specs.Limits.{most_steps, most_lag};
+ghost use Rattle.model.specs.Limits.{most_steps, most_lag, most_amount};
 ghost use Rattle.model.specs.Rule.{first_overload};
 ghost use Rattle.model.specs.Even.{even, fewest};
 ghost use Rattle.lists.specs.Refusals.{counted};
@@ -17,6 +17,17 @@ use link_sums::table::LinkSums;
 use lists::Network;
 use lists::judged::NetworkList;
 use lists::refusal::{Cause, Refusal};
+
+// What is left of a link's capacity.
+fn capacity(network: &NetworkList<'_>, link: usize) -> u64
+    requires { link < (network_sizes network.now).links }
+    ensures value { result ≡ (network_of network.now).cap link }
+    ensures most { result ≤ most_amount }
+{
+    let sizes = network.sizes();
+    let list = network.numbers();
+    list[sizes.link_at(link)] - sizes.held(list, link)
+}
 
 // The worst load of a link in the window from the given row, of the plan of 50 steps.
 fn step_load(lag: u64, sums: LinkSums, row: u64) -> u64
@@ -41,7 +52,7 @@ fn is_over(network: &NetworkList<'_>, parts: u64, link: usize, protected: u64, a
     requires { (parts ≤ most_steps) × (link < (network_sizes network.now).links) × (1000 * all < 2 ^ 64) }
     ensures { result ≡ is_over (network_of network.now) parts link protected all }
 {
-    let room = parts * network.cap(link);
+    let room = parts * capacity(network, link);
     room < protected || (1000 + network.overrun()) * room < 1000 * all
 }
 
@@ -62,7 +73,7 @@ fn fewest_on(lag: u64, sums: &NetworkSums, least: u64, link: usize) -> Option<u6
     requires { (1 ≤ least) × (least ≤ most_steps) × (link < (network_sizes sums.now).links) }
     ensures { FewestOn lag (network_of sums.now) least link result }
 {
-    for q in least..=Network::STEPS {
+    for q in least..Network::STEPS + 1 {
         if !is_short(lag, sums, q, link) {
             return Some(q);
         }

@@ -2,3 +2,4 @@ pub mod Lines
 pub mod Digits
 pub mod Remarks
 pub mod Reading
+pub mod Sums

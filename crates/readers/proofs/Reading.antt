@@ -1,5 +1,5 @@
 -- Laws of reading: what is taken from the rest of a text in each case, the walk's next turn by what was taken, and how a list is handed over.
-use Rattle.std.proofs.Common.{◌≡◌, ℕ, ◌+◌, ◌-◌, ◌<◌, ◌≤◌, Bool, true, false, cond, ◌&&◌, T, eqb, ltb, List, [], ◌∷◌, ◌++◌, length, take, drop, sym, refl, ap, ◌∙◌, true≢false, arith, length-append, length-drop, length-take, length-take-le, take_all, drop-drop, ltb-false, ltb-true, le-ltb, eq-eqb, ne_eqb}
+use Rattle.std.proofs.Common.{◌≡◌, ℕ, ◌+◌, ◌-◌, ◌<◌, ◌≤◌, Bool, true, false, cond, ◌&&◌, T, eqb, ltb, List, [], ◌∷◌, ◌++◌, length, take, drop, sym, refl, ap, ◌∙◌, arith, length-append, length-drop, length-take, length-take-le, take_all, drop-drop, ltb-false, ltb-true, le-ltb, eq-eqb, ne_eqb}
 use mathlib.Core.Option.{Option, none, some, Option-elim}
 use native.Mathlib.Decide.{ℕ_discrete}
 use lib.Seq.{take-append_seam}
@@ -7,7 +7,6 @@ use Rattle.std.specs.declared.option.Option.TheVariants.{None, Some}
 use Rattle.std.specs.declared.result.Result.TheVariants.{Ok, Err}
 use Rattle.model.specs.Outcome.{Outcome, good, refused}
 use Rattle.model.specs.declared.Cause.TheVariants.{Missing as missing, Malformed as malformed, OutOfRange as out_of_range}
-use Rattle.model.proofs.Searches.{not-true}
 use Rattle.lists.specs.Lists.{at, network_sizes}
 use Rattle.lists.proofs.Positions.{head-low}
 use Rattle.lists.specs.Refusals.{counted}
@@ -26,7 +25,7 @@ use Rattle.forms.proofs.Numbers.{some-digits}
 use Rattle.forms.proofs.Values.{value-real-line}
 use Rattle.readers.specs.Line.{line_len, first_line, remark_len, Parsed}
 use Rattle.readers.specs.declared.line.Value.{Value}
-use Rattle.readers.specs.Read.{taken_of, next_of, NoNumber, in_head, Body, body_of, Fits, head_read, field_by, onward, Holds}
+use Rattle.readers.specs.Read.{taken_of, next_of, NoNumber, in_head, Body, Fits, head_read, field_by, onward, Holds}
 use Rattle.readers.specs.declared.read.Taken.{Taken}
 use Rattle.readers.specs.declared.read.Taken.TheVariants.{Number, Stop, Ended}
 use Rattle.readers.proofs.Lines.{line-length, lines-some, line-some, line-within}

@@ -196,27 +196,30 @@ fn give(list: &[u64], out: &mut [u64]) -> Result<usize, Refusal>
     Ok(n)
 }
 
-// Reads a text into a list of numbers, one for each line, and hands it over. The numbers are put into `vals` first.
-fn read_text(form: Form, text: &[u8], vals: &mut [u64], out: &mut [u64]) -> Result<usize, Refusal>
+// Reads a text into a list of numbers, one for each line, and gives how many they are.
+#[tactic(auto, using(crate::proofs::Sums::value_summed, crate::proofs::Sums::holds_summed, crate::proofs::Sums::value_unsummed, crate::proofs::Sums::holds_unsummed))]
+fn read_text(form: Form, text: &[u8], vals: &mut [u64]) -> Result<usize, Refusal>
     requires { length vals.old ≡ most_of form }
-    ensures value { result ≡ counted (with_room (length out.old) (read_text form text.now)) }
-    ensures out_after { out.new ≡ lent (with_room (length out.old) (read_text form text.now)) out.old }
+    ensures value { result ≡ counted (read_text form text.now) }
+    ensures holds { Holds (read_text form text.now) vals.new }
 {
     let n = read(form, text, vals)?;
-    let list = &vals[..n];
     if let Form::Network = form {
+        let list = &vals[..n];
         sums::add_up(list, Network::of(list))?;
     }
-    give(list, out)
+    Ok(n)
 }
 
-// Reads a network text into a list of numbers, one for each line.
+// Reads a network text into a list of numbers, one for each line. Here and below the numbers are put into an array of the reader's own
+// first, and handed over by the reader itself: the compiler then knows that the two do not overlap, and needs no `memmove`.
 pub fn read_network(text: &[u8], out: &mut [u64]) -> Result<usize, Refusal>
     ensures value { result ≡ counted (with_room (length out.old) (read_network text.now)) }
     ensures out_after { out.new ≡ lent (with_room (length out.old) (read_network text.now)) out.old }
 {
     let mut vals = [0u64; Network::NUMBERS];
-    read_text(Form::Network, text, &mut vals, out)
+    let n = read_text(Form::Network, text, &mut vals)?;
+    give(&vals[..n], out)
 }
 
 // The same for a plan text.
@@ -225,7 +228,8 @@ pub fn read_plan(text: &[u8], out: &mut [u64]) -> Result<usize, Refusal>
     ensures out_after { out.new ≡ lent (with_room (length out.old) (read_plan text.now)) out.old }
 {
     let mut vals = [0u64; PlanSizes::NUMBERS];
-    read_text(Form::Plan, text, &mut vals, out)
+    let n = read_text(Form::Plan, text, &mut vals)?;
+    give(&vals[..n], out)
 }
 
 // And for a text of rule tables.
@@ -234,5 +238,6 @@ pub fn read_rules(text: &[u8], out: &mut [u64]) -> Result<usize, Refusal>
     ensures out_after { out.new ≡ lent (with_room (length out.old) (read_rules text.now)) out.old }
 {
     let mut vals = [0u64; RuleTables::NUMBERS];
-    read_text(Form::Rules, text, &mut vals, out)
+    let n = read_text(Form::Rules, text, &mut vals)?;
+    give(&vals[..n], out)
 }

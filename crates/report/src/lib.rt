@@ -4,10 +4,7 @@
 ghost use Rattle.std.specs.Prelude.{◌≡◌, ◌+◌, ◌≤◌, length};
 ghost use Rattle.forms.specs.Write.{width_from};
 ghost use Rattle.lines.specs.Puts.{Puts};
-ghost use Rattle.model.specs.Outcome.{number};
 ghost use Rattle.report.specs.Printed.{decimal, printed_line, refusal_lines};
-
-use lists::refusal::Refusal;
 
 mod input;
 
@@ -59,11 +56,11 @@ fn put_line(out: &mut [u8], at: usize, key: &[u8], v: u64) -> usize
 }
 
 // Puts the lines of a refusal at the front. They have at most 84 bytes: the keys, three numbers of at most 20 digits and the line feeds.
-pub fn put_refusal(out: &mut [u8], refusal: Refusal) -> usize
+pub fn put_refusal(out: &mut [u8], number: u64, place: u64, second: u64) -> usize
     requires { 84 ≤ length out.old }
-    ensures { Puts (refusal_lines (number refusal.cause) refusal.place refusal.second) 0 out.old out.new result }
+    ensures { Puts (refusal_lines number place second) 0 out.old out.new result }
 {
-    let place_at = put_line(out, 0, b"refused=", refusal.cause.number());
-    let second_at = put_line(out, place_at, b"place=", refusal.place);
-    put_line(out, second_at, b"second=", refusal.second)
+    let place_at = put_line(out, 0, b"refused=", number);
+    let second_at = put_line(out, place_at, b"place=", place);
+    put_line(out, second_at, b"second=", second)
 }

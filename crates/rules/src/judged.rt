@@ -1,8 +1,8 @@
 // Rule tables that are judged good, with the sizes that their head gives. What holds of every such list stands in its type; in
 // a clause a value of the type is its list.
-ghost use Rattle.std.specs.Prelude.{◌≡◌, ◌^◌, ◌≤◌, ◌<◌};
+ghost use Rattle.std.specs.Prelude.{ℕ, ◌≡◌, ◌+◌, ◌^◌, ◌≤◌, ◌<◌};
 ghost use Rattle.model.specs.Limits.{most_tunnels, most_switches, most_room, least_share, most_share};
-ghost use Rattle.lists.specs.Lists.{table_sizes};
+ghost use Rattle.lists.specs.Lists.{at, table_sizes, rule_at};
 ghost use Rattle.rules.specs.Rules.{keep, remove};
 ghost use Rattle.rules.specs.Lists.{rules_of, GoodRules};
 ghost use Rattle.rules.specs.Kinds.{kind_number};
@@ -109,5 +109,41 @@ impl<'a> RulesList<'a> {
         ensures { kind_number result ≡ (rules_of self.now).kind t }
     {
         Kind::numbered(self.list[self.sizes.rule_at(t) + RuleTables::KIND])
+    }
+
+    // The kind of tunnel t by its number.
+    pub fn number_of_kind(&self, t: usize) -> u64
+        requires { t < (table_sizes self.now).tunnels }
+        ensures { result ≡ (rules_of self.now).kind t }
+    {
+        let place = self.sizes.rule_at(t) + RuleTables::KIND;
+        self.list[place]
+    }
+
+    // Where the two lines of tunnel t begin; past the last tunnel, how many lines there are.
+    pub fn rule_at(&self, t: usize) -> usize
+        requires { t ≤ (table_sizes self.now).tunnels }
+        ensures value { result ≡ rule_at (table_sizes self.now) t }
+        ensures good { GoodRules self.now }
+    {
+        self.sizes.rule_at(t)
+    }
+
+    // The switches and the kind of a tunnel whose lines begin at a place, for a pass that goes on by what two tunnels are apart: with a
+    // multiplication for each tunnel it takes longer.
+    pub fn via_at(&self, from: usize) -> u64
+        requires { (t : ℕ) × (t < (table_sizes self.now).tunnels) × (from ≡ rule_at (table_sizes self.now) t) }
+        ensures { result ≡ at self.now from }
+    {
+        let list = self.list;
+        list[from]
+    }
+
+    pub fn kind_at(&self, from: usize) -> Kind
+        requires { (t : ℕ) × (t < (table_sizes self.now).tunnels) × (from ≡ rule_at (table_sizes self.now) t) }
+        ensures { kind_number result ≡ at self.now (from + 1) }
+    {
+        let list = self.list;
+        Kind::numbered(list[from + RuleTables::KIND])
     }
 }

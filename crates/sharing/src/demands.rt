@@ -5,12 +5,39 @@ ghost use Rattle.model.specs.declared.Cause.TheVariants.{Unshareable as unsharea
 ghost use Rattle.model.specs.Search.{first};
 ghost use Rattle.lists.specs.Refusals.{judged};
 ghost use Rattle.sharing.specs.Share.{most_services, total, bad_demand};
-ghost use Rattle.sharing.specs.Inner.{InRange};
+ghost use Rattle.sharing.specs.Inner.{InRange, FirstBad};
 
 use crate::unshareable;
 use lists::Network;
 use lists::refusal::Refusal;
 use std::marker::Model;
+
+// The place of the first demand out of range, or the count where there is none; and the demands before it, added up. Where the loop gives
+// the refusal itself, the compiler counts for it, with two steps more for each demand.
+#[derive(Clone, Copy)]
+struct Looked {
+    bad: usize,
+    sum: u64,
+}
+
+fn look(list: &[u64]) -> Looked
+    requires { length list.now ≤ most_services }
+    ensures { FirstBad list.now result.bad result.sum }
+{
+    let mut sum: u64 = 0;
+    // An index, which the refusal names.
+    for bad in 0..list.len() {
+        let demand = list[bad];
+        if Network::AMOUNT < demand {
+            return Looked { bad, sum };
+        }
+        sum += demand;
+    }
+    Looked {
+        bad: list.len(),
+        sum,
+    }
+}
 
 #[derive(Drop)]
 pub(crate) struct Demands<'a> {
@@ -30,19 +57,15 @@ impl<'a> Model for Demands<'a> {
 }
 
 impl<'a> Demands<'a> {
-    // Refuses the first demand out of range. An index, which the refusal names.
+    // Refuses the first demand out of range.
     pub fn judge(list: &'a [u64]) -> Result<Demands<'a>, Refusal>
         requires { (1 ≤ length list.now) × (length list.now ≤ most_services) }
         ensures { result ≡ judged (unless unshareable (first (length list.now) (bad_demand list.now)) (good list.now)) }
     {
-        let mut sum: u64 = 0;
-        for bad in 0..list.len() {
-            let demand = list[bad];
-            if Network::AMOUNT < demand {
-                let service = (bad + 1) as u64;
-                return Err(unshareable(service, 0));
-            }
-            sum += demand;
+        let Looked { bad, sum } = look(list);
+        if bad < list.len() {
+            let service = (bad + 1) as u64;
+            return Err(unshareable(service, 0));
         }
         Ok(Demands { list, sum })
     }

@@ -1,7 +1,7 @@
 // The stages: in each, a pass over the tunnels to add and then one over those to remove.
 ghost use Rattle.std.specs.Prelude.{◌≡◌, ◌++◌, ◌≤◌, ◌<◌, length, drop};
 ghost use Rattle.model.specs.Listed.{listed};
-ghost use Rattle.lists.specs.Lists.{at, table_sizes};
+ghost use Rattle.lists.specs.Lists.{at, table_sizes, rule_at};
 ghost use Rattle.rules.specs.Stage as model;
 ghost use Rattle.rules.specs.Rules.{remove, last_stage};
 ghost use Rattle.rules.specs.Lists.{rules_of};
@@ -25,9 +25,10 @@ struct Terms {
     pub unit: u64,
 }
 
-// The turn of tunnel t: if it is of the kind, has no stage yet and goes, it has this stage.
+// The turn of tunnel t, whose lines begin at `from`: if it is of the kind, has no stage yet and goes, it has this stage.
 fn turn(
     rules: &RulesList<'_>,
+    from: usize,
     spares: &[u64],
     p: Terms,
     t: usize,
@@ -35,16 +36,16 @@ fn turn(
     stages: &mut [u64],
 )
     requires ready { Ready rules.now spares.now (kind_number p.kind) p.stage p.times p.unit counts.old stages.old }
-    requires t_bound { t < (table_sizes rules.now).tunnels }
+    requires t_bound { (t < (table_sizes rules.now).tunnels) × (from ≡ rule_at (table_sizes rules.now) t) }
     ensures { Reached rules.now (move_of (kind_number p.kind)) (model.turn (rules_of rules.now) (move_of (kind_number p.kind)) p.stage (at stages.old) t) counts.new stages.new }
 {
-    if rules.kind(t) != p.kind {
+    if rules.kind_at(from) != p.kind {
         return;
     }
     if stages[t] != 0 {
         return;
     }
-    let via = rules.via(t);
+    let via = rules.via_at(from);
     // One to add is not counted yet; one to remove is, until it is out.
     let adds = p.kind == Kind::Add;
     let more = adds as u64;
@@ -56,13 +57,16 @@ fn turn(
     }
 }
 
-// The turns of all tunnels, in number order.
+// The turns of all tunnels, in number order. The place of a tunnel's lines goes on by what two tunnels are apart, which is faster than a
+// multiplication for each.
 fn pass(rules: &RulesList<'_>, spares: &[u64], p: Terms, counts: &mut [u64], stages: &mut [u64])
     requires { Ready rules.now spares.now (kind_number p.kind) p.stage p.times p.unit counts.old stages.old }
     ensures { Reached rules.now (move_of (kind_number p.kind)) (model.pass (rules_of rules.now) (move_of (kind_number p.kind)) p.stage (at stages.old) (rules_of rules.now).tunnels) counts.new stages.new }
 {
+    let mut from = rules.rule_at(0);
     for t in 0..rules.tunnels() {
-        turn(rules, spares, p, t, counts, stages);
+        turn(rules, from, spares, p, t, counts, stages);
+        from += RuleTables::PER_TUNNEL;
     }
 }
 

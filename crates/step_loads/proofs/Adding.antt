@@ -1,6 +1,6 @@
 -- Laws of the worst loads of a link, added up mover by mover.
 use Prim.Native.Nat.{ℕ, ◌+◌, ◌*◌, ◌^◌, ◌≤◌, ◌<◌, max}
-use mathlib.Core.Path.{◌≡◌, sym, ap, ap₂, ◌∙◌}
+use mathlib.Core.Path.{◌≡◌, refl, sym, ap, ap₂, ◌∙◌}
 use mathlib.Core.Bool.{Bool, true, false, cond}
 use mathlib.Core.List.{List}
 use native.Mathlib.Nat.{mul-le-mul_right, max-le}
@@ -12,6 +12,7 @@ use Rattle.model.specs.Limits.{most_amount, most_steps, most_flows, most_tunnels
 use Rattle.model.specs.Net.{Net, Plan, row}
 use Rattle.model.specs.Rule.{across, by_flow, flow_sum, movers, counts, load, worst}
 use Rattle.model.specs.Scan.{protected, total}
+use Rattle.model.specs.Sets.{in_set}
 use Rattle.model.proofs.Searches.{cond-most}
 use Rattle.model.proofs.Sums.{sum-zero, sum-on, sum_bound}
 use Rattle.model.proofs.Today.{worst-tunnel, worst-flow}
@@ -19,7 +20,7 @@ use Rattle.lists.specs.Lists.{network_sizes, network_of, plan_sizes, plan_of}
 use Rattle.judges.specs.Sums.{Gathered}
 use Rattle.judges.proofs.Gathering.{gathered-all}
 use Rattle.amounts.specs.Rows.{Checkable, larger_row}
-use Rattle.checker.proofs.Marking.{across-small}
+use Rattle.checker.proofs.Marking.{across-of, across-small}
 use Rattle.step_loads.specs.Worst.{worst_load}
 use Rattle.step_loads.specs.Inner.{Summed}
 
@@ -52,6 +53,10 @@ module _ (N : Net) (P : Plan) (i l most : ℕ) where
   summed-all n x y e s = rw (← e) (s.protected, s.total)
 
 -- ---- what a mover puts on the link: a tunnel, or a flow
+
+-- a tunnel that crosses it puts its amount on it
+pub across-by : (N : Net) (l t via v : ℕ) (x : ℕ → ℕ) → via ≡ N.via t → in_set via l ≡ true → v ≡ x t → v ≡ across N l x t
+across-by N l t via v x hv h e = across-of N l t via v v x hv e (rw h refl)
 
 module _ (n p : List ℕ) (k : Checkable n p) (i l : ℕ) (hi : i < (plan_sizes p).steps) where
   abbrev N : Net

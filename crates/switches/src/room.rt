@@ -6,8 +6,9 @@ ghost use Rattle.switches.specs.Inner.{OfKind, Kinds, unfit_by, Judged};
 
 use crate::tables;
 use crate::tables::SWITCHES;
+use lists::RuleTables;
 use lists::refusal::{Cause, Refusal};
-use rules::judged::{Kind, RulesList};
+use rules::judged::RulesList;
 
 // Which set does not fit what may be used of a switch, if one does not: 0 the old one, 1 the new one.
 fn unfit(usable: u64, kept: u64, removing: u64, adding: u64) -> Option<u64>
@@ -63,8 +64,8 @@ pub fn judge(
 {
     let mut kept = [0u64; SWITCHES];
     let mut adding = [0u64; SWITCHES];
-    tables::count(rules, Kind::Keep, &mut kept);
-    tables::count(rules, Kind::Add, &mut adding);
-    tables::count(rules, Kind::Remove, remaining);
+    tables::count(rules, RuleTables::KEEP, &mut kept);
+    tables::count(rules, RuleTables::ADD, &mut adding);
+    tables::count(rules, RuleTables::REMOVE, remaining);
     by_counts(rules, &kept, &adding, remaining, spares)
 }

@@ -1,11 +1,10 @@
 // Tables with a number for each switch that there can be.
 ghost use Rattle.std.specs.Prelude.{◌≡◌, ◌+◌, ◌*◌, ◌≤◌, replicate};
 ghost use Rattle.model.specs.Limits.{most_tunnels, most_steps, most_switches, most_room};
-ghost use Rattle.rules.specs.Kinds.{kind_number};
 ghost use Rattle.switches.specs.Inner.{Table, OfKind, Shiftable, Shifted, fits_all};
 
 use lists::RuleTables;
-use rules::judged::{Kind, RulesList};
+use rules::judged::RulesList;
 
 // How many numbers a table has.
 pub const SWITCHES: usize = RuleTables::SWITCHES as usize;
@@ -40,13 +39,13 @@ pub fn fits(counts: &[u64], spares: &[u64], via: u64, unit: u64, more: u64, time
     true
 }
 
-// Counts the tunnels of a kind.
-pub fn count(rules: &RulesList<'_>, kind: Kind, counts: &mut [u64])
+// Counts the tunnels of a kind, which is given by its number: of any other number there are none.
+pub fn count(rules: &RulesList<'_>, kind: u64, counts: &mut [u64])
     requires { counts.old ≡ replicate most_switches 0 }
-    ensures { OfKind rules.now (kind_number kind) counts.new }
+    ensures { OfKind rules.now kind counts.new }
 {
     for t in 0..rules.tunnels() {
-        if rules.kind(t) == kind {
+        if rules.number_of_kind(t) == kind {
             shift(counts, rules.via(t), 1, 0);
         }
     }

@@ -14,8 +14,10 @@ named c = found_some _ _ (sym c.first_overload.ensures ∙ c.in-Some.is)
 pub returns-in_default-clause-marks_after : goal.returns-in_default-clause-marks_after
 returns-in_default-clause-marks_after c =
     let n = rw c.network.ensures.value at c.tunnels-n.ensures.value in
-    let m = rw c.network.ensures.value at c.tunnels-n.ensures.count in
-    cleared c.args.lag c.tunnels-n.result 0 c.args.pair.now.network c.args.pair.now.plan c.args.marks.now _ n (omega (arith, m, c.requires.2)) (c.fill.ensures.after (λ y e. e)) (found_none _ (sym c.first_overload.ensures ∙ c.in_default.is))
+    cleared c.args.lag c.tunnels-n.result c.args.pair.now.network c.args.pair.now.plan c.args.marks.now _ n c.clear.ensures (found_none _ (sym c.first_overload.ensures ∙ c.in_default.is))
+
+pub clear-requires : goal.clear-requires
+clear-requires c = let m = rw c.network.ensures.value at c.tunnels-n.ensures.count in omega (arith, m, c.requires.2)
 
 pub invariant_of-window : goal.invariant_of-window
 unfolding network_of

@@ -1,20 +1,20 @@
 -- `loads::gather::gather` meets its contract.
-use mathlib.Core.Path.{refl, ◌∙◌}
-use Rattle.lists.specs.Lists.{network_of}
-use Rattle.loads.proofs.Passes.{loads-none, loads-more, loads-room}
+use mathlib.Core.Path.{◌≡◌, refl}
 use native.Mathlib.Omega.{arith}
+use Rattle.lists.specs.Lists.{at}
+use Rattle.loads.specs.Tables.{part_of}
+use Rattle.loads.proofs.Passes.{loads-none, loads-more, loads-room}
 use Rattle.loads.proofs.gather.gather.Goals as goal
 
 pub loop-t-init : goal.loop-t-init
-loop-t-init c = loads-none _ _ _ _ _ _ (omega arith) (rw c.links-links.ensures.value at c.clear.ensures)
+loop-t-init c = loads-none _ _ _ _ _ _ c.requires.6 c.clear.ensures
 
 pub add_tunnel-requires : goal.add_tunnel-requires
-unfolding network_of
 add_tunnel-requires c =
-    rw c.links-links.ensures.value
-    (loads-room _ _ _ _ _ _ _ _ _ c.via.ensures.value c.loop-t-test.true (omega arith) (omega arith) c.number.ensures.few c.via.ensures.within.1 c.args.amounts.now.table c.loop-t.invariant)
+    loads-room c.args.links (at c.args.vias.now) (at c.args.classes.now) c.args.amounts.now c.args.n c.loop-t.t _ _ _ refl c.loop-t-test.true c.requires.1 c.requires.0 c.number.ensures.few
+    (c.requires.4.each _ c.loop-t-test.true) c.requires.5 c.loop-t.invariant
 
 pub loop-t-preserved : goal.loop-t-preserved
 loop-t-preserved c =
-    loads-more _ _ _ _ _ _ _ _ _ c.via.ensures.value (c.number.ensures.number ∙ c.of-part.ensures ∙ rw (c.class.ensures.value, c.flow.ensures.value) refl, c.number.ensures.few) c.loop-t.invariant
-    (rw c.links-links.ensures.value at c.add_tunnel.ensures)
+    let part : c.number.result ≡ part_of (at c.args.classes.now c.loop-t.t) = grind arith in
+    loads-more c.args.links (at c.args.vias.now) (at c.args.classes.now) c.args.amounts.now c.loop-t.t _ _ _ _ refl (part, c.number.ensures.few) c.loop-t.invariant c.add_tunnel.ensures

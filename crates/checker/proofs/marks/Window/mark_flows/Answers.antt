@@ -8,7 +8,7 @@ use Rattle.checker.proofs.Marking.{row_in, sum_of, sums_first, mark-of-flow}
 use Rattle.checker.proofs.marks.Window.mark_flows.Goals as goal
 
 pub flow_sums-first-requires : goal.flow_sums-first-requires
-flow_sums-first-requires c = (row_in _ _ _ _ _ c.args.self.now.there, c.args.self.now.there.link)
+flow_sums-first-requires c = (omega (arith, row_in _ _ _ _ _ c.args.self.now.there), c.args.self.now.there.link)
 
 pub largest_sums-largest-requires : goal.largest_sums-largest-requires
 largest_sums-largest-requires c = sums_first _ _ _ _ _ c.flow_sums-first.ensures

@@ -11,7 +11,7 @@ pub loop-t-init : goal.loop-t-init
 loop-t-init c = (refl, listed-none _ _)
 
 pub amount-first-requires-clause-row : goal.amount-first-requires-clause-row
-amount-first-requires-clause-row c = row_in _ _ _ _ _ c.args.self.now.there
+amount-first-requires-clause-row c = omega (arith, row_in _ _ _ _ _ c.args.self.now.there)
 
 pub loop-t-preserved : goal.loop-t-preserved
 unfolding plan_of

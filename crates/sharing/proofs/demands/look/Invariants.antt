@@ -1,4 +1,4 @@
--- `sharing::demands::Demands::judge` meets its contract: no demand passed is out of range, and those passed are added up. Assumes nothing.
+-- `sharing::demands::look` meets its contract: no demand passed is out of range, and those passed are added up. Assumes nothing.
 use Prim.Native.Nat.{◌*◌, ◌≤◌}
 use mathlib.Core.Path.{◌≡◌}
 use mathlib.Core.Bool.{true}
@@ -8,7 +8,7 @@ use Rattle.model.specs.Search.{first}
 use Rattle.model.specs.Limits.{most_amount}
 use Rattle.lists.specs.Lists.{at}
 use Rattle.sharing.specs.Share.{bad_demand}
-use Rattle.sharing.proofs.demands.Demands.judge.Given as goal
+use Rattle.sharing.proofs.demands.look.Given as goal
 
 abbrev pub invariant-loop-bad : goal.invariant-loop-bad
 invariant-loop-bad l = record {

@@ -1,0 +1,15 @@
+-- `rules::judged::RulesList::via_at` meets its contract.
+use Prim.Native.Nat.{ℕ}
+use mathlib.Core.Path.{ap}
+use mathlib.Core.List.{List}
+use native.Mathlib.Omega.{arith}
+use Rattle.lists.specs.Lists.{at}
+use Rattle.rules.specs.Lists.{GoodRules}
+use Rattle.rules.proofs.judged.RulesList.via_at.Goals as goal
+
+pub returns : goal.returns
+returns c = ap (λ (l : List ℕ). at l c.args.from) c.self.view_is
+
+pub offset_bounds-list-from : goal.offset_bounds-list-from
+offset_bounds-list-from c =
+    let good : GoodRules c.args.self.now = rw c.self.view_is at c.self.invariant.good in omega (arith, c.requires.1, c.requires.2, good.size, good.switches, good.tunnels)
